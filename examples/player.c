@@ -205,7 +205,8 @@ static void print_source(struct player *player, const jalwedd_source_state *sour
     const struct note *note = found_note(player, source->ssrc);
     printf("  %08x %s %s: %llu packets with %llu octets received, %d lost, jitter %.1f ms", source->ssrc,
            note ? note->cname : "?", doing(source), (unsigned long long)source->received,
-           (unsigned long long)source->octets, source->lost, source->jitter * 1e3 / player->config.rate);
+           (unsigned long long)source->octets, source->lost,
+           source->rate != 0 ? source->jitter * 1e3 / source->rate : 0.0);
     if (source->has_block)
         printf("; we report loss %.1f %%", source->fraction / 2.56);
     if (note != NULL && note->has_report)

@@ -71,10 +71,10 @@ extern "C" {
  * earlier one, under the same SONAME. */
 
 #define JALWEDD_VERSION_MAJOR 0
-#define JALWEDD_VERSION_MINOR 4
+#define JALWEDD_VERSION_MINOR 5
 #define JALWEDD_VERSION_PATCH 0
 
-/* The version of the linked library: 0x000400 for 0.4.0. */
+/* The version of the linked library: 0x000500 for 0.5.0. */
 uint32_t jalwedd_version(void);
 
 /* ---- Statuses. Two of them have two names, of which a switch can use only one: NO_BLOCK or NO_PART, and NO_SOURCE or
@@ -100,13 +100,15 @@ enum {
     JALWEDD_NO_CHANGE = 9,      /* jalwedd_change: no further source changed its role */
     JALWEDD_NOT_RISING = 10,    /* jalwedd_change: the SSRCs of a listing do not rise */
 
-    /* A configuration that is refused: the first of these that applies, except that a CNAME of more than 255 octets and
-     * more than 7 items come before the others. */
+    /* A configuration that is refused: the first of these that applies, except that a CNAME of more than 255 octets,
+     * more than 7 items, and clocks that are too many or of no payload type come before the others, in this order.
+     * BANDWIDTH, RATE and ITEM are also settings that are refused (E8), by the same rules. */
     JALWEDD_CNAME = 11,         /* C1: the CNAME has 0 octets, or more than 255 */
     JALWEDD_CAPACITY = 12,      /* C2: the capacity is out of range 1 to 1,024 */
     JALWEDD_LIMIT = 13,         /* C3: the limit is out of range 576 to 1,472, or not a multiple of 4 */
     JALWEDD_BANDWIDTH = 14,     /* C4: one of the bandwidths is out of range 16 to 2^30 */
-    JALWEDD_RATE = 15,          /* C5: the rate is out of range 1 to 2^20 */
+    JALWEDD_RATE = 15,          /* C5: the rate, or that of a clock, is out of range 1 to 2^20; or there are more than
+                                   16 clocks, or the payload type of one is above 255 */
     JALWEDD_ITEM = 16,          /* C6: the type of an item is out of range 2 to 8, or there are more than 7 items */
     JALWEDD_START = 17,         /* C7: the start is 2^63 or later */
 
@@ -155,6 +157,12 @@ typedef struct jalwedd_handle {
 
 #define JALWEDD_EMPTY {NULL}
 
+/* The clock in which the RTP timestamps of a payload type count (5.1). */
+typedef struct jalwedd_clock {
+    uint32_t payload_type;  /* 0 to 127; up to 255 is taken, but no RTP packet has such a type */
+    uint32_t rate;          /* the units a second, 1 to 2^20 */
+} jalwedd_clock;
+
 /* The session and the participant, as the host configures them. */
 typedef struct jalwedd_config {
     uint64_t ntp_base;      /* the NTP timestamp of the start: seconds since 1900 in the upper 32 bits, their fraction
@@ -168,8 +176,20 @@ typedef struct jalwedd_config {
     uint32_t sender_bw;     /* the RTCP bandwidth for senders, in octets a second, 16 to 2^30 (RFC 3556): usually 1.25
                                per cent of the session bandwidth */
     uint32_t receiver_bw;   /* the RTCP bandwidth for the others: usually 3.75 per cent */
-    uint32_t rate;          /* the units a second of the clock of RTP timestamps, 1 to 2^20 */
+    uint32_t rate;          /* the units a second of the clock of RTP timestamps, 1 to 2^20: of the host's own media,
+                               and of the payload types that are none of clocks */
+    uint32_t clock_count;   /* how many of clocks there are, 0 to 16 */
+    jalwedd_clock clocks[16]; /* the clocks of other payload types: the first counts if several are of one type */
+    uint32_t reserved;      /* not read */
 } jalwedd_config;
+
+/* What a host may change in a running session, besides the items. */
+typedef struct jalwedd_settings {
+    uint32_t sender_bw;     /* each field as in jalwedd_config */
+    uint32_t receiver_bw;
+    uint32_t clock_count;
+    jalwedd_clock clocks[16];
+} jalwedd_settings;
 
 /* What a participant says about itself besides its CNAME, one in every third report (RFC 3550, 6.5.2 to 6.5.8). */
 typedef struct jalwedd_item {
@@ -291,7 +311,8 @@ typedef struct jalwedd_source_state {
     uint64_t told;          /* when its latest sender report came, or JALWEDD_NEVER */
     uint64_t ntp;           /* the NTP timestamp of that report, or 0 */
     uint64_t received;      /* how many of its packets were counted, late and repeated ones included, since it came or
-                               its sequence numbers jumped (A.1). If none was, this is 0, and so are the next four */
+                               its sequence numbers jumped (A.1). If none was, this is 0, and so are the next four and
+                               rate */
     uint64_t octets;        /* how many payload octets these packets had, without headers and padding, modulo 2^64 */
     int32_t lost;           /* how many were lost since then: negative if packets were repeated */
     uint32_t highest;       /* the highest sequence number in the low 16 bits, and above them how often it wrapped */
@@ -306,6 +327,9 @@ typedef struct jalwedd_source_state {
     uint32_t ssrc;
     uint32_t member;        /* 1 if it is a member (6.2.1), otherwise 0: it is not yet valid, or it left */
     uint32_t sender;        /* 1 if it sends RTP packets, otherwise 0 */
+    uint32_t rate;          /* the units a second of jitter: those of the clock of its newest packet that was counted,
+                               or 0 */
+    uint32_t reserved;      /* 0 */
 } jalwedd_source_state;
 
 /* The role of a source in a session: away (not present, not yet valid, or left), a member (6.2.1) that does not send
@@ -322,9 +346,9 @@ typedef struct jalwedd_role_change {
 
 /* ---- A participant */
 
-/* The memory, in octets, that a participant of this capacity takes: a block of 2,568 octets, and one of 144 octets for
+/* The memory, in octets, that a participant of this capacity takes: a block of 2,720 octets, and one of 144 octets for
  * each source of the capacity. */
-#define JALWEDD_MEMORY(capacity) (2568 + 144 * (size_t)(capacity))
+#define JALWEDD_MEMORY(capacity) (2720 + 144 * (size_t)(capacity))
 
 /* Makes the library use `allocate` and `release` in place of malloc and free. `allocate` returns a block of `size`
  * octets, aligned as by malloc, or NULL. Call this at most once, before the first jalwedd_new. */
@@ -379,6 +403,29 @@ uint32_t jalwedd_sent_rtp(jalwedd_handle *handle, uint64_t now, uint32_t timesta
 uint32_t jalwedd_tick(jalwedd_handle *handle, uint64_t now, uint32_t first_word, uint32_t second_word,
                       jalwedd_step *step, uint8_t octets[JALWEDD_OCTETS]);
 
+/* Changes the settings of a running session at the moment `now`, to these and these items: all of them, as if the
+ * configuration had had them. A host calls it when the bandwidth of the session changes, since each participant
+ * computes its intervals from that (6.2), when payload types get other clocks, and to say something else about itself
+ * (6.5). Members, step.next and what was counted stay as they are. The tick at step.next is the first to compute an
+ * interval by the new bandwidths; the next RTP packet that comes is the first that counts by the new clocks; and the
+ * next item that is due is one of the new ones. Until five of the former intervals have passed, a source counts as
+ * silent for too long by the lesser of the former and the new bandwidths, as others may not know of the change yet.
+ * Hands out nothing, and leaves `octets` as they are; but they have to be there.
+ * Statuses: TAKEN; IS_EMPTY; ITEM for more than 7 items; RATE for clocks that are too many or of no payload type; LEFT
+ * to TOO_MANY; BANDWIDTH to ITEM. */
+uint32_t jalwedd_configure(jalwedd_handle *handle, uint64_t now, const jalwedd_settings *settings,
+                           const jalwedd_item *items, size_t item_count, jalwedd_step *step,
+                           uint8_t octets[JALWEDD_OCTETS]);
+
+/* At the moment `now` another source is gone, as the host knows by other means, such as signalling, or so decides. Its
+ * entry goes as if it had been silent for too long (6.3.5): it is no member any more, what was counted of it is
+ * dropped, and there is room for another source. Named again, it comes as a new one. Nothing changes if the source has
+ * no entry or said goodbye, nor for the participant's own SSRC, nor in the backoff after a leave.
+ * Hands out nothing, and leaves `octets` as they are; but they have to be there.
+ * Statuses: TAKEN; LEFT to TOO_MANY; IS_EMPTY. */
+uint32_t jalwedd_forget(jalwedd_handle *handle, uint64_t now, uint32_t ssrc, jalwedd_step *step,
+                        uint8_t octets[JALWEDD_OCTETS]);
+
 /* Leaves the session at the moment `now` (6.3.7). The BYE is handed out at once, or, in a session of more than 50
  * members, by a later tick. Go on until step.next is JALWEDD_NEVER, but for some seconds at most, and then call
  * jalwedd_free. A participant that sent nothing under its present SSRC leaves silently. `word` is for the draw of when
@@ -400,7 +447,7 @@ uint32_t jalwedd_ssrc(jalwedd_handle *handle);
 
 /* How many entries the participant's table holds: members, sources that are not yet valid, and those that left and are
  * held for a while. If this equals config.capacity the table is full, as under a flood of invented SSRCs, and admits no
- * other source until a tick drops one. 0 once the participant leaves, and for an empty handle. */
+ * other source until a tick drops one, or jalwedd_forget. 0 once the participant leaves, and for an empty handle. */
 uint32_t jalwedd_entries(jalwedd_handle *handle);
 
 /* Gives what is known about the source with the lowest SSRC >= `from`: among members, sources that are not yet valid,

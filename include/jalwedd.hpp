@@ -262,6 +262,34 @@ public:
         return jalwedd_tick(&handle_, now, first_word, second_word, &step, octets);
     }
 
+    /// Changes the settings of the session at the moment `now`, to these and at most 7 items: the bandwidths, the
+    /// clocks of payload types, and what the participant says of itself besides its CNAME. They hold from then on, and
+    /// none of the former. Hands out nothing, and leaves `octets` as they are.
+    /// Statuses: TAKEN; IS_EMPTY; ITEM and RATE for what does not fit; LEFT to TOO_MANY; BANDWIDTH to ITEM.
+    std::uint32_t configure(std::uint64_t now, const jalwedd_settings& settings, const jalwedd_item* items,
+                            std::size_t item_count, jalwedd_step& step, std::uint8_t (&octets)[JALWEDD_OCTETS]) noexcept
+    {
+        return jalwedd_configure(&handle_, now, &settings, inside::address(items, item_count), item_count, &step,
+                                 octets);
+    }
+
+    /// The same without items.
+    std::uint32_t configure(std::uint64_t now, const jalwedd_settings& settings, jalwedd_step& step,
+                            std::uint8_t (&octets)[JALWEDD_OCTETS]) noexcept
+    {
+        return configure(now, settings, nullptr, 0, step, octets);
+    }
+
+    /// Another source is gone at the moment `now`, as the host knows by other means, or so decides: its entry goes as
+    /// if it had been silent for too long. Nothing changes if it has no entry, or said goodbye. Hands out nothing, and
+    /// leaves `octets` as they are.
+    /// Statuses: TAKEN; LEFT to TOO_MANY; IS_EMPTY.
+    std::uint32_t forget(std::uint64_t now, std::uint32_t ssrc, jalwedd_step& step,
+                         std::uint8_t (&octets)[JALWEDD_OCTETS]) noexcept
+    {
+        return jalwedd_forget(&handle_, now, ssrc, &step, octets);
+    }
+
     /// Leaves the session at the moment `now`. Hands out nothing, or the BYE: go on until step.next is JALWEDD_NEVER,
     /// but for some seconds at most, since BYE packets of others can delay this one for days. Then call free.
     /// Statuses: TAKEN; LEFT to TOO_MANY; IS_EMPTY.
@@ -313,7 +341,7 @@ private:
     jalwedd_handle handle_ = JALWEDD_EMPTY;
 };
 
-/// An item for join, of a kind from 2 to 8 (jalwedd_item), or none if the text has more than 255 octets.
+/// An item for join and configure, of a kind from 2 to 8 (jalwedd_item), or none if the text has more than 255 octets.
 [[nodiscard]] inline std::optional<jalwedd_item> item(std::uint8_t kind, std::string_view text) noexcept
 {
     jalwedd_item made{};

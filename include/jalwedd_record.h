@@ -61,8 +61,9 @@ typedef struct jalwedd_record {
 /* ---- Calls */
 
 /* Writes the line of the call of that name, for the same arguments (jalwedd.h). Call it before or after that call. Any
- * arguments have a line, even if the call refuses them, except a moment before the start, and a datagram of more than
- * 65,535 octets. If a write fails, record->failed is 1. */
+ * arguments have a line, even if the call refuses them, except a moment before the start, a datagram of more than
+ * 65,535 octets, and settings with more than 7 items or 16 clocks, or with a payload type above 255. If a write fails,
+ * record->failed is 1. */
 static inline void jalwedd_record_arrive_rtcp(jalwedd_record *record, uint64_t now, uint64_t peer, uint32_t word,
                                               const uint8_t *datagram, size_t size);
 static inline void jalwedd_record_arrive_rtp(jalwedd_record *record, uint64_t now, uint64_t peer, uint32_t word,
@@ -70,6 +71,9 @@ static inline void jalwedd_record_arrive_rtp(jalwedd_record *record, uint64_t no
 static inline void jalwedd_record_sent_rtp(jalwedd_record *record, uint64_t now, uint32_t timestamp, uint32_t payload);
 static inline void jalwedd_record_tick(jalwedd_record *record, uint64_t now, uint32_t first_word,
                                        uint32_t second_word);
+static inline void jalwedd_record_configure(jalwedd_record *record, uint64_t now, const jalwedd_settings *settings,
+                                            const jalwedd_item *items, size_t item_count);
+static inline void jalwedd_record_forget(jalwedd_record *record, uint64_t now, uint32_t ssrc);
 static inline void jalwedd_record_leave(jalwedd_record *record, uint64_t now, uint32_t word);
 
 /* Writes the command that plays the calls again, as one line for a POSIX shell: `rtcp replay` with an option for each
@@ -82,8 +86,9 @@ static inline void jalwedd_record_leave(jalwedd_record *record, uint64_t now, ui
  *   first is `-`.
  * - ITEM: the text of an item other than PRIV is such a text; or the kinds of the items do not rise from item to item,
  *   or are out of range 2 to 8; or there are more than 7 items.
+ * - RATE: there are more than 16 clocks, or the payload type of one is above 127.
  *
- * Statuses: TAKEN; CNAME; ITEM. */
+ * Statuses: TAKEN; CNAME; ITEM; RATE. */
 static inline uint32_t jalwedd_record_command(jalwedd_record *record, const jalwedd_config *config,
                                               const uint8_t *cname, size_t cname_size, const jalwedd_item *items,
                                               size_t item_count, uint32_t word);
@@ -127,8 +132,8 @@ static inline void jalwedd_record_text(jalwedd_record_line *line, const char *te
         jalwedd_record_byte(line, *text++);
 }
 
-/* A field: a space, and a number in decimal. */
-static inline void jalwedd_record_decimal(jalwedd_record_line *line, uint64_t number)
+/* A number in decimal. */
+static inline void jalwedd_record_number(jalwedd_record_line *line, uint64_t number)
 {
     char digits[20];
     size_t count = 0;
@@ -136,9 +141,15 @@ static inline void jalwedd_record_decimal(jalwedd_record_line *line, uint64_t nu
         digits[count++] = (char)('0' + (int)(number % 10));
         number /= 10;
     } while (number != 0);
-    jalwedd_record_byte(line, ' ');
     while (count > 0)
         jalwedd_record_byte(line, digits[--count]);
+}
+
+/* A field: a space, and a number in decimal. */
+static inline void jalwedd_record_decimal(jalwedd_record_line *line, uint64_t number)
+{
+    jalwedd_record_byte(line, ' ');
+    jalwedd_record_number(line, number);
 }
 
 static inline void jalwedd_record_octet(jalwedd_record_line *line, uint8_t octet)
@@ -235,6 +246,60 @@ static inline void jalwedd_record_tick(jalwedd_record *record, uint64_t now, uin
         return;
     jalwedd_record_word(&line, first_word);
     jalwedd_record_word(&line, second_word);
+    jalwedd_record_end(&line);
+}
+
+/* Whether these clocks can be written, of payload types up to this one. */
+static inline int jalwedd_record_are_clocks(const jalwedd_clock *clocks, uint32_t count, uint32_t last_type)
+{
+    uint32_t at;
+    if (count > 16)
+        return 0;
+    for (at = 0; at < count; at++)
+        if (clocks[at].payload_type > last_type)
+            return 0;
+    return 1;
+}
+
+/* The payload type and the rate of a clock. */
+static inline void jalwedd_record_clock(jalwedd_record_line *line, const jalwedd_clock *clock)
+{
+    jalwedd_record_number(line, clock->payload_type);
+    jalwedd_record_byte(line, ':');
+    jalwedd_record_number(line, clock->rate);
+}
+
+static inline void jalwedd_record_configure(jalwedd_record *record, uint64_t now, const jalwedd_settings *settings,
+                                            const jalwedd_item *items, size_t item_count)
+{
+    jalwedd_record_line line;
+    size_t at;
+    if (item_count > 7 || !jalwedd_record_are_clocks(settings->clocks, settings->clock_count, 255)
+        || !jalwedd_record_begin_call(&line, record, "configure", now))
+        return;
+    jalwedd_record_decimal(&line, settings->sender_bw);
+    jalwedd_record_decimal(&line, settings->receiver_bw);
+    jalwedd_record_text(&line, settings->clock_count == 0 ? " -" : " ");
+    for (at = 0; at < settings->clock_count; at++) {
+        jalwedd_record_text(&line, at == 0 ? "" : ",");
+        jalwedd_record_clock(&line, &settings->clocks[at]);
+    }
+    jalwedd_record_text(&line, item_count == 0 ? " -" : " ");
+    for (at = 0; at < item_count; at++) {
+        jalwedd_record_text(&line, at == 0 ? "" : ",");
+        jalwedd_record_number(&line, items[at].kind);
+        jalwedd_record_byte(&line, ':');
+        jalwedd_record_octets(&line, items[at].text, items[at].size);
+    }
+    jalwedd_record_end(&line);
+}
+
+static inline void jalwedd_record_forget(jalwedd_record *record, uint64_t now, uint32_t ssrc)
+{
+    jalwedd_record_line line;
+    if (!jalwedd_record_begin_call(&line, record, "forget", now))
+        return;
+    jalwedd_record_word(&line, ssrc);
     jalwedd_record_end(&line);
 }
 
@@ -335,6 +400,8 @@ static inline uint32_t jalwedd_record_command(jalwedd_record *record, const jalw
         return JALWEDD_CNAME;
     if (!jalwedd_record_are_options(items, item_count))
         return JALWEDD_ITEM;
+    if (!jalwedd_record_are_clocks(config->clocks, config->clock_count, 127))
+        return JALWEDD_RATE;
     if (!jalwedd_record_begin(&line, record, ""))
         return JALWEDD_TAKEN;
     if (config->start != 0) {
@@ -356,6 +423,10 @@ static inline uint32_t jalwedd_record_command(jalwedd_record *record, const jalw
     jalwedd_record_decimal(&line, config->receiver_bw);
     jalwedd_record_text(&line, " --rate");
     jalwedd_record_decimal(&line, config->rate);
+    for (at = 0; at < config->clock_count; at++) {
+        jalwedd_record_text(&line, " --clock ");
+        jalwedd_record_clock(&line, &config->clocks[at]);
+    }
     jalwedd_record_text(&line, " --ntp");
     jalwedd_record_word(&line, (uint32_t)(config->ntp_base >> 32));
     for (at = 0; at < 4; at++)

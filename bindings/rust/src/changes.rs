@@ -23,10 +23,11 @@ use core::iter::FusedIterator;
 /// [`NotRising`] if the SSRCs of a listing do not rise.
 ///
 /// ```
-/// # use jalwedd::{Config, Moment, Participant};
+/// # use jalwedd::{Config, Moment, Participant, RtpClocks};
 /// # let (sender_bw, receiver_bw) = (100, 300);
 /// # let (ntp_base, start, ssrc, capacity, limit, rate) = (0, Moment::ZERO, 0xaa, 9, 1472, 8000);
-/// # let config = Config { ntp_base, start, ssrc, capacity, limit, sender_bw, receiver_bw, rate };
+/// # let clocks = RtpClocks::NONE;
+/// # let config = Config { ntp_base, start, ssrc, capacity, limit, sender_bw, receiver_bw, rate, clocks };
 /// # let mut session = Participant::new(&config, b"a", &[], 0)?;
 /// # let datagram = [0x80, 0xc9, 0, 1, 0, 0, 0, 7, 0x81, 0xca, 0, 2, 0, 0, 0, 7, 1, 1, 0x61, 0];
 /// let before: Vec<_> = session.sources().collect();

@@ -1,9 +1,10 @@
 //! The configuration of a participant.
 
-use crate::errors::TextTooLong;
+use crate::errors::{TextTooLong, TooManyClocks};
 use crate::moment::Moment;
 use crate::sys;
 use core::fmt;
+use core::hash::{Hash, Hasher};
 
 /// The session and the participant, as the host configures them.
 /// [`Participant::new`](crate::Participant::new) refuses a value that is out of its range.
@@ -29,15 +30,108 @@ pub struct Config {
     /// The RTCP bandwidth for the other members, in octets a second, 16 to 2^30 (RFC 3556): usually 3.75 per
     /// cent of the session bandwidth.
     pub receiver_bw: u32,
-    /// The units a second of the clock of RTP timestamps, 1 to 2^20 (RFC 3550, 5.1): 8,000 for PCMU.
+    /// The units a second of the clock of RTP timestamps, 1 to 2^20 (RFC 3550, 5.1): 8,000 for PCMU. It is that of
+    /// the host's own media, and of the payload types that are none of `clocks`.
     pub rate: u32,
+    /// The clocks of other payload types: [`RtpClocks::NONE`] in a session with one clock.
+    pub clocks: RtpClocks,
 }
 
 impl Config {
     pub(crate) fn declared(&self) -> sys::jalwedd_config {
-        let Config { ntp_base, start, ssrc, capacity, limit, sender_bw, receiver_bw, rate } = *self;
-        let start = start.as_micros();
-        sys::jalwedd_config { ntp_base, start, ssrc, capacity, limit, sender_bw, receiver_bw, rate }
+        let Config { ntp_base, start, ssrc, capacity, limit, sender_bw, receiver_bw, rate, clocks } = *self;
+        let (start, (clock_count, clocks)) = (start.as_micros(), clocks.declared());
+        sys::jalwedd_config {
+            ntp_base,
+            start,
+            ssrc,
+            capacity,
+            limit,
+            sender_bw,
+            receiver_bw,
+            rate,
+            clock_count,
+            clocks,
+            reserved: 0,
+        }
+    }
+}
+
+/// What a host may change in a running session, besides the items:
+/// [`Participant::configure`](crate::Participant::configure) refuses a value that is out of its range.
+#[derive(Clone, Copy, Debug, PartialEq, Eq, Hash)]
+pub struct Settings {
+    /// The RTCP bandwidth for senders, as [`Config::sender_bw`].
+    pub sender_bw: u32,
+    /// The RTCP bandwidth for the other members, as [`Config::receiver_bw`].
+    pub receiver_bw: u32,
+    /// The clocks of payload types, as [`Config::clocks`].
+    pub clocks: RtpClocks,
+}
+
+impl Settings {
+    pub(crate) fn declared(&self) -> sys::jalwedd_settings {
+        let Settings { sender_bw, receiver_bw, clocks } = *self;
+        let (clock_count, clocks) = clocks.declared();
+        sys::jalwedd_settings { sender_bw, receiver_bw, clock_count, clocks }
+    }
+}
+
+/// The clock in which the RTP timestamps of a payload type count (RFC 3550, 5.1).
+#[derive(Clone, Copy, Debug, Default, PartialEq, Eq, Hash)]
+pub struct RtpClock {
+    /// The payload type.
+    pub payload_type: u8,
+    /// The units a second, 1 to 2^20: 90,000 for video.
+    pub rate: u32,
+}
+
+/// At most 16 clocks of payload types, of which the first counts where several are of one type.
+#[derive(Clone, Copy, PartialEq, Eq, Hash)]
+pub struct RtpClocks {
+    count: usize,
+    /// Those after the first `count` are the default.
+    room: [RtpClock; 16],
+}
+
+impl RtpClocks {
+    /// No clock: all payload types have the [`Config::rate`].
+    pub const NONE: RtpClocks = RtpClocks { count: 0, room: [RtpClock { payload_type: 0, rate: 0 }; 16] };
+
+    /// These clocks.
+    ///
+    /// # Errors
+    ///
+    /// [`TooManyClocks`] if there are more than 16.
+    pub fn new(clocks: &[RtpClock]) -> Result<RtpClocks, TooManyClocks> {
+        let mut made = RtpClocks { count: clocks.len(), ..RtpClocks::NONE };
+        made.room.get_mut(..clocks.len()).ok_or(TooManyClocks)?.copy_from_slice(clocks);
+        Ok(made)
+    }
+
+    /// The clocks, in their order.
+    pub fn as_slice(&self) -> &[RtpClock] {
+        &self.room[..self.count]
+    }
+
+    fn declared(&self) -> (u32, [sys::jalwedd_clock; 16]) {
+        let declared = |RtpClock { payload_type, rate }: RtpClock| sys::jalwedd_clock {
+            payload_type: u32::from(payload_type),
+            rate,
+        };
+        (self.count as u32, self.room.map(declared)) // 0 to 16
+    }
+}
+
+impl Default for RtpClocks {
+    fn default() -> RtpClocks {
+        RtpClocks::NONE
+    }
+}
+
+impl fmt::Debug for RtpClocks {
+    fn fmt(&self, to: &mut fmt::Formatter<'_>) -> fmt::Result {
+        to.debug_list().entries(self.as_slice()).finish()
     }
 }
 
@@ -85,6 +179,21 @@ impl Item {
 
     pub(crate) fn text(&self) -> &[u8] {
         &self.0.text[..usize::from(self.0.size)]
+    }
+}
+
+/// Two are equal if their kinds and their texts are.
+impl PartialEq for Item {
+    fn eq(&self, other: &Item) -> bool {
+        (self.kind(), self.text()) == (other.kind(), other.text())
+    }
+}
+
+impl Eq for Item {}
+
+impl Hash for Item {
+    fn hash<H: Hasher>(&self, state: &mut H) {
+        (self.kind(), self.text()).hash(state);
     }
 }
 

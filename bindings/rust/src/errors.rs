@@ -54,7 +54,7 @@ error! {
         /// C4: [`Config::sender_bw`](crate::Config::sender_bw) or
         /// [`receiver_bw`](crate::Config::receiver_bw) is not 16 to 2^30.
         Bandwidth = sys::JALWEDD_BANDWIDTH, "a bandwidth is not 16 to 2^30 octets a second";
-        /// C5: [`Config::rate`](crate::Config::rate) is not 1 to 2^20.
+        /// C5: [`Config::rate`](crate::Config::rate), or that of a clock, is not 1 to 2^20.
         Rate = sys::JALWEDD_RATE, "the rate is not 1 to 2^20 units a second";
         /// C6: there are more than 7 items.
         Item = sys::JALWEDD_ITEM, "there are more than 7 items";
@@ -86,6 +86,12 @@ error! {
         /// E7: the datagram names the participant's own SSRC, and may not change it (again) (RFC 3550, 8.2),
         /// as in a loop.
         OwnSsrc = sys::JALWEDD_OWN_SSRC, "the datagram names the participant's own SSRC";
+        /// E8: a bandwidth of the settings is not 16 to 2^30 (C4).
+        Bandwidth = sys::JALWEDD_BANDWIDTH, "a bandwidth is not 16 to 2^30 octets a second";
+        /// E8: the rate of a clock is not 1 to 2^20 (C5).
+        Rate = sys::JALWEDD_RATE, "a rate is not 1 to 2^20 units a second";
+        /// There are more than 7 items (C6). This comes before all others.
+        Item = sys::JALWEDD_ITEM, "there are more than 7 items";
         /// The RTP datagram has more than 65,535 octets, which UDP does not carry. This comes before all
         /// others.
         TooLong = sys::JALWEDD_TOO_LONG, "the datagram has more than 65,535 octets";
@@ -159,6 +165,18 @@ impl fmt::Display for TextTooLong {
 
 impl Error for TextTooLong {}
 
+/// There are more than 16 clocks.
+#[derive(Clone, Copy, Debug, PartialEq, Eq, Hash)]
+pub struct TooManyClocks;
+
+impl fmt::Display for TooManyClocks {
+    fn fmt(&self, to: &mut fmt::Formatter<'_>) -> fmt::Result {
+        to.write_str("there are more than 16 clocks")
+    }
+}
+
+impl Error for TooManyClocks {}
+
 #[cfg(test)]
 mod tests {
     use super::*;
@@ -172,7 +190,7 @@ mod tests {
 
     #[test]
     fn a_status_that_has_no_name_is_an_error() {
-        assert_eq!(named(Refusal::of, Refusal::Unknown), [1, 2, 3, 4, 5, 6, 7, 23]);
+        assert_eq!(named(Refusal::of, Refusal::Unknown), [1, 2, 3, 4, 5, 6, 7, 14, 15, 16, 23]);
         assert_eq!(named(NewError::of, NewError::Unknown), [11, 12, 13, 14, 15, 16, 17, 22]);
         assert_eq!(named(FaultReason::of, FaultReason::Unknown), [1, 2, 3, 4, 5, 6, 7, 8, 9, 10]);
         assert_eq!(Refusal::of(u32::MAX), Refusal::Unknown(u32::MAX));

@@ -9,7 +9,7 @@
 //!
 #![cfg_attr(feature = "std", doc = "```no_run")]
 #![cfg_attr(not(feature = "std"), doc = "```ignore")]
-//! use jalwedd::{Answer, Clock, Config, Moment, Participant, Refusal};
+//! use jalwedd::{Answer, Clock, Config, Moment, Participant, Refusal, RtpClocks};
 //! use std::hash::{BuildHasher, RandomState};
 //! use std::net::UdpSocket;
 //! use std::time::Duration;
@@ -31,6 +31,7 @@
 //!         sender_bw: 100,   // octets a second, in a session of 64,000 bits a second:
 //!         receiver_bw: 300, // 5 per cent is for RTCP, a quarter of that for senders
 //!         rate: 8000,       // units a second of the RTP timestamps
+//!         clocks: RtpClocks::NONE, // of other payload types
 //!     };
 //!     let mut session = Participant::new(&config, b"player@example.com", &[], word())?;
 //!     let (mut ticked, mut leave) = (clock.now(), Some(Moment::from(Duration::from_secs(60))));
@@ -68,6 +69,8 @@
 //!
 //! With media, the host also calls [`arrive_rtp`](Participant::arrive_rtp) for each RTP datagram that comes,
 //! and [`sent_rtp`](Participant::sent_rtp) for each RTP packet that it sends.
+//! [`configure`](Participant::configure) changes the bandwidths, the clocks and the items of a running session, and
+//! [`forget`](Participant::forget) drops a source that is gone, or makes room for another.
 //! [`sources`](Participant::sources) lists the sources, each with what lip sync needs, and [`changes`] says
 //! who joined or left between two listings. [`about`] reads from a datagram how others receive the host's
 //! stream, [`items`] their names, and [`rtp_head`] the head of a packet with media. [`record`] writes the
@@ -133,9 +136,9 @@ pub use answer::{Answer, Kind, Out, Step};
 pub use changes::{changes, Change, Changes, Role};
 #[cfg(feature = "std")]
 pub use clock::Clock;
-pub use config::{Config, Item, ItemKind};
+pub use config::{Config, Item, ItemKind, RtpClock, RtpClocks, Settings};
 pub use datagram::{about, check, ntp_of, round_trip, Report, Reports};
-pub use errors::{Fault, FaultReason, NewError, NotRising, Refusal, TextTooLong};
+pub use errors::{Fault, FaultReason, NewError, NotRising, Refusal, TextTooLong, TooManyClocks};
 pub use head::{rtp_head, RtpHead};
 pub use moment::Moment;
 pub use participant::Participant;

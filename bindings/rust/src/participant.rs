@@ -1,7 +1,7 @@
 //! A participant of a session.
 
 use crate::answer::{Answer, Step};
-use crate::config::{Config, Item};
+use crate::config::{Config, Item, Settings};
 use crate::errors::{NewError, Refusal};
 use crate::moment::Moment;
 use crate::raw::{Handle, Room};
@@ -14,16 +14,18 @@ use core::fmt;
 /// The host tells it of each datagram that came ([`arrive_rtcp`](Participant::arrive_rtcp),
 /// [`arrive_rtp`](Participant::arrive_rtp)), of each RTP packet that it sent
 /// ([`sent_rtp`](Participant::sent_rtp)), of the moments at which something may be due
-/// ([`tick`](Participant::tick)), and that it leaves ([`leave`](Participant::leave)). Each of these calls
-/// returns what to send, in an [`Answer`], or a [`Refusal`], and then it changed nothing.
+/// ([`tick`](Participant::tick)), of other settings ([`configure`](Participant::configure)), of a source
+/// that is gone ([`forget`](Participant::forget)), and that it leaves ([`leave`](Participant::leave)). Each of these
+/// calls returns what to send, in an [`Answer`], or a [`Refusal`], and then it changed nothing.
 ///
 /// ```
-/// use jalwedd::{Config, Kind, Moment, Participant};
+/// use jalwedd::{Config, Kind, Moment, Participant, RtpClocks};
 ///
 /// let (sender_bw, receiver_bw) = (100, 300); // of a session of 64,000 bits a second
 /// let start = Moment::from_micros(600_000_000); // by the host's clock
 /// let (ntp_base, ssrc, capacity, limit, rate) = (0, 0xaa, 1024, 1472, 8000);
-/// let config = Config { ntp_base, start, ssrc, capacity, limit, sender_bw, receiver_bw, rate };
+/// let clocks = RtpClocks::NONE; // all payload types have this rate
+/// let config = Config { ntp_base, start, ssrc, capacity, limit, sender_bw, receiver_bw, rate, clocks };
 /// let mut session = Participant::new(&config, b"a", &[], 0)?;
 /// let next = session.next_tick().expect("it has not left");
 /// assert_eq!((session.members(), next), (1, Moment::from_micros(601_026_037)));
@@ -74,7 +76,7 @@ impl Participant {
     /// 7 further items to send. `word` is random, for the draw of the first interval (6.3.1). No report goes
     /// out before the first [`tick`](Participant::tick).
     ///
-    /// The library allocates two blocks here, of 2,568 octets and of 144 for each source of
+    /// The library allocates two blocks here, of 2,720 octets and of 144 for each source of
     /// [`Config::capacity`], and none in any other call.
     ///
     /// # Errors
@@ -171,6 +173,47 @@ impl Participant {
         self.answer(status)
     }
 
+    /// Changes the settings of the session at the moment `now`, to these and these items, at most 7: all of
+    /// them, as if the [`Config`] had had them.
+    ///
+    /// Members, deadlines and what was counted stay as they are. The next interval that is computed is the
+    /// first by the new bandwidths (RFC 3550, 6.2), the next RTP packet that comes the first that counts by the
+    /// new clocks, and the next item that is due one of the new ones (6.5). Until five of the former intervals have
+    /// passed, a source counts as silent for too long by the lesser of the former and the new bandwidths. It
+    /// hands out nothing.
+    ///
+    /// # Errors
+    ///
+    /// The first that applies of [`Refusal::Item`], [`Left`](Refusal::Left),
+    /// [`Backwards`](Refusal::Backwards), [`TooFar`](Refusal::TooFar), [`TooMany`](Refusal::TooMany),
+    /// [`Bandwidth`](Refusal::Bandwidth) and [`Rate`](Refusal::Rate).
+    pub fn configure(
+        &mut self,
+        now: Moment,
+        settings: &Settings,
+        items: &[Item],
+    ) -> Result<Answer<'_>, Refusal> {
+        let status = self.handle.configure(now.as_micros(), &settings.declared(), items, &mut self.room);
+        self.answer(status)
+    }
+
+    /// Tells the participant that another source is gone at the moment `now`, as the host knows by other means,
+    /// such as signalling, or so decides.
+    ///
+    /// Its entry goes as if it had been silent for too long (RFC 3550, 6.3.5): it is no member any more, what
+    /// was counted of it is dropped, and there is room for another source. Named again, it comes as a new one.
+    /// Nothing changes if the source has no entry or said goodbye, nor for the participant's own SSRC, nor in
+    /// the backoff after a leave. It hands out nothing.
+    ///
+    /// # Errors
+    ///
+    /// The first that applies of [`Refusal::Left`], [`Backwards`](Refusal::Backwards),
+    /// [`TooFar`](Refusal::TooFar) and [`TooMany`](Refusal::TooMany).
+    pub fn forget(&mut self, now: Moment, ssrc: u32) -> Result<Answer<'_>, Refusal> {
+        let status = self.handle.forget(now.as_micros(), ssrc, &mut self.room);
+        self.answer(status)
+    }
+
     /// Leaves the session at the moment `now` (RFC 3550, 6.3.7).
     ///
     /// The BYE is handed out at once, or, in a session of more than 50 members, by a later tick. Go on until
@@ -222,7 +265,7 @@ impl Participant {
     /// that left and are held for a while. 0 once the participant leaves.
     ///
     /// If this equals [`Config::capacity`] the table is full, as under a flood of invented SSRCs, and admits
-    /// no other source until one is dropped.
+    /// no other source until one is dropped, or [forgotten](Participant::forget).
     pub fn entries(&self) -> u32 {
         self.room.step.entries
     }

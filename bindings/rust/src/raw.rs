@@ -93,6 +93,25 @@ impl Handle {
         unsafe { sys::jalwedd_tick(self.0.get_mut(), now, first_word, second_word, step, octets) }
     }
 
+    pub(crate) fn configure(
+        &mut self,
+        now: u64,
+        settings: &sys::jalwedd_settings,
+        items: &[Item],
+        room: &mut Room,
+    ) -> u32 {
+        let (handle, item, count) = (self.0.get_mut(), items.as_ptr().cast(), items.len());
+        let Room { step, octets } = room;
+        // SAFETY: VALID (an `Item` has the layout of its only field), APART, ALONE, OWNED
+        unsafe { sys::jalwedd_configure(handle, now, settings, item, count, step, octets) }
+    }
+
+    pub(crate) fn forget(&mut self, now: u64, ssrc: u32, room: &mut Room) -> u32 {
+        let Room { step, octets } = room;
+        // SAFETY: VALID, APART, ALONE, OWNED
+        unsafe { sys::jalwedd_forget(self.0.get_mut(), now, ssrc, step, octets) }
+    }
+
     pub(crate) fn leave(&mut self, now: u64, word: u32, room: &mut Room) -> u32 {
         let Room { step, octets } = room;
         // SAFETY: VALID, APART, ALONE, OWNED

@@ -12,7 +12,8 @@
 //!
 //! # let (ntp_base, ssrc, capacity, limit) = (0, 0xaa, 1024, 1472);
 //! # let (start, sender_bw, receiver_bw, rate) = (Moment::from_micros(600_000_000), 100, 300, 8000);
-//! # let config = Config { ntp_base, start, ssrc, capacity, limit, sender_bw, receiver_bw, rate };
+//! # let clocks = jalwedd::RtpClocks::NONE;
+//! # let config = Config { ntp_base, start, ssrc, capacity, limit, sender_bw, receiver_bw, rate, clocks };
 //! let mut session = Participant::new(&config, b"user@host", &[], 7)?;
 //! let replay = command(&config, b"user@host", &[], 7)?; // for a shell: sh session.sh < session
 //! let mut record = String::new(); // or a file, by std::io::Write
@@ -32,7 +33,7 @@
 //! the command that is written all.
 
 use crate::answer::Answer;
-use crate::config::{Config, Item};
+use crate::config::{Config, Item, RtpClock, Settings};
 use crate::errors::Refusal;
 use crate::moment::Moment;
 use crate::participant::Participant;
@@ -44,6 +45,12 @@ use core::str;
 
 /// The most octets of a datagram that has a line. UDP carries no more.
 const MOST_OCTETS: usize = 65_535;
+
+/// The most items of settings that have a line. No participant takes more.
+const MOST_ITEMS: usize = 7;
+
+/// The last payload type that an RTP packet has (RFC 3550, 5.1), and a clock in a command.
+const LAST_TYPE: u8 = 127;
 
 /// The options for items, by their types, of which the first is 2.
 const OPTIONS: [&str; 7] = ["name", "email", "phone", "loc", "tool", "note", "priv"];
@@ -96,6 +103,22 @@ pub enum Call<'a> {
         /// The random word for the draw of the interval.
         second_word: u32,
     },
+    /// [`Participant::configure`].
+    Configure {
+        /// The moment of the change.
+        now: Moment,
+        /// The settings.
+        settings: &'a Settings,
+        /// The items.
+        items: &'a [Item],
+    },
+    /// [`Participant::forget`].
+    Forget {
+        /// When the source is gone.
+        now: Moment,
+        /// Its SSRC.
+        ssrc: u32,
+    },
     /// [`Participant::leave`].
     Leave {
         /// The moment of the leave.
@@ -117,6 +140,8 @@ impl Call<'_> {
             Call::ArriveRtp { now, peer, word, datagram } => session.arrive_rtp(now, peer, word, datagram),
             Call::SentRtp { now, timestamp, payload } => session.sent_rtp(now, timestamp, payload),
             Call::Tick { now, first_word, second_word } => session.tick(now, first_word, second_word),
+            Call::Configure { now, settings, items } => session.configure(now, settings, items),
+            Call::Forget { now, ssrc } => session.forget(now, ssrc),
             Call::Leave { now, word } => session.leave(now, word),
         }
     }
@@ -128,6 +153,8 @@ impl Call<'_> {
             | Call::ArriveRtp { now, .. }
             | Call::SentRtp { now, .. }
             | Call::Tick { now, .. }
+            | Call::Configure { now, .. }
+            | Call::Forget { now, .. }
             | Call::Leave { now, .. } => now,
         }
     }
@@ -143,8 +170,9 @@ impl<'a> Call<'a> {
 /// The line of a [`Call`] in a record.
 ///
 /// `Display` writes it, with the line feed. Any arguments have a line, even if the call refuses them, except a
-/// moment before the start, and a datagram of more than 65,535 octets: for these nothing is written, and each
-/// participant refuses them. All other datagrams are written whole, including the media.
+/// moment before the start, a datagram of more than 65,535 octets, and settings with more than 7 items: for these
+/// nothing is written, and each participant refuses them. All other datagrams are written whole, including the
+/// media.
 #[derive(Clone, Copy, Debug, PartialEq, Eq, Hash)]
 pub struct Line<'a> {
     call: Call<'a>,
@@ -167,6 +195,8 @@ impl fmt::Display for Line<'_> {
             Call::Tick { first_word, second_word, .. } => {
                 writeln!(to, "tick {moment} {first_word:08x} {second_word:08x}")
             }
+            Call::Configure { settings, items, .. } => write_configure(to, moment, settings, items),
+            Call::Forget { ssrc, .. } => writeln!(to, "forget {moment} {ssrc:08x}"),
             Call::Leave { word, .. } => writeln!(to, "leave {moment} {word:08x}"),
         }
     }
@@ -188,6 +218,44 @@ fn write_arrival(
     to.write_char('\n')
 }
 
+fn write_configure(
+    to: &mut fmt::Formatter<'_>,
+    moment: u64,
+    settings: &Settings,
+    items: &[Item],
+) -> fmt::Result {
+    if items.len() > MOST_ITEMS {
+        return Ok(());
+    }
+    let Settings { sender_bw, receiver_bw, clocks } = settings;
+    write!(to, "configure {moment} {sender_bw} {receiver_bw} ")?;
+    write_list(to, clocks.as_slice(), write_clock)?;
+    to.write_char(' ')?;
+    write_list(to, items, |to, item| {
+        write!(to, "{}:", item.kind())?;
+        write_hex(to, item.text())
+    })?;
+    to.write_char('\n')
+}
+
+/// Those of a list between commas, or a hyphen where there are none.
+fn write_list<T, W: Write>(to: &mut W, list: &[T], write: impl Fn(&mut W, &T) -> fmt::Result) -> fmt::Result {
+    if list.is_empty() {
+        return to.write_char('-');
+    }
+    for (place, one) in list.iter().enumerate() {
+        if place > 0 {
+            to.write_char(',')?;
+        }
+        write(to, one)?;
+    }
+    Ok(())
+}
+
+fn write_clock(to: &mut impl Write, clock: &RtpClock) -> fmt::Result {
+    write!(to, "{}:{}", clock.payload_type, clock.rate)
+}
+
 fn write_hex(to: &mut impl Write, octets: &[u8]) -> fmt::Result {
     octets.iter().try_for_each(|octet| write!(to, "{octet:02x}"))
 }
@@ -201,10 +269,10 @@ fn write_hex(to: &mut impl Write, octets: &[u8]) -> fmt::Result {
 ///
 /// # Errors
 ///
-/// [`NoOption`] if a text or an item has no option. Numbers that `Participant::new` refuses are written all
+/// [`NoOption`] if a text, an item or a clock has no option. Numbers that `Participant::new` refuses are written all
 /// the same, and the program refuses them too, but for a start.
 pub fn command(config: &Config, cname: &[u8], items: &[Item], word: u32) -> Result<String, NoOption> {
-    let Config { ntp_base, start, ssrc, capacity, limit, sender_bw, receiver_bw, rate } = *config;
+    let Config { ntp_base, start, ssrc, capacity, limit, sender_bw, receiver_bw, rate, clocks } = *config;
     let cname = quoted(cname).ok_or(NoOption::Cname)?;
     if !items.is_sorted_by(|one, next| one.kind() < next.kind()) {
         return Err(NoOption::Item);
@@ -215,8 +283,15 @@ pub fn command(config: &Config, cname: &[u8], items: &[Item], word: u32) -> Resu
     };
     text += &format!(
         "rtcp replay --ssrc {ssrc:08x} --cname {cname} --capacity {capacity} --limit {limit} \
-         --sender-bw {sender_bw} --receiver-bw {receiver_bw} --rate {rate} --ntp {ntp_base:016x}"
+         --sender-bw {sender_bw} --receiver-bw {receiver_bw} --rate {rate}"
     );
+    for RtpClock { payload_type, rate } in clocks.as_slice() {
+        if *payload_type > LAST_TYPE {
+            return Err(NoOption::Clock);
+        }
+        text += &format!(" --clock {payload_type}:{rate}");
+    }
+    text += &format!(" --ntp {ntp_base:016x}");
     for item in items {
         let value = value_of(item).ok_or(NoOption::Item)?;
         text += &format!(" --{} {value}", OPTIONS[usize::from(item.kind() - 2)]);
@@ -252,6 +327,8 @@ pub enum NoOption {
     /// The text of an item other than PRIV is such a text, or the kinds of the items do not rise from item to
     /// item.
     Item,
+    /// The payload type of a clock is above 127.
+    Clock,
 }
 
 impl fmt::Display for NoOption {
@@ -259,6 +336,7 @@ impl fmt::Display for NoOption {
         to.write_str(match self {
             NoOption::Cname => "the CNAME cannot be an option of a command",
             NoOption::Item => "an item cannot be an option of a command",
+            NoOption::Clock => "a clock cannot be an option of a command",
         })
     }
 }
@@ -268,7 +346,7 @@ impl Error for NoOption {}
 #[cfg(test)]
 mod tests {
     use super::*;
-    use crate::config::ItemKind;
+    use crate::config::{ItemKind, RtpClocks};
     use alloc::string::ToString;
     use alloc::vec;
 
@@ -285,6 +363,7 @@ mod tests {
             Call::ArriveRtcp { now: at(10), peer: 139_637_976_798_093, word: 0x89ab_cdef, datagram: &[] },
             Call::SentRtp { now: at(1_000_000), timestamp: u32::MAX, payload: 0 },
             Call::Tick { now: at(1_026_037), first_word: 1, second_word: 0x8000_0000 },
+            Call::Forget { now: at(1_026_037), ssrc: 0x00ab_cdef },
             Call::Leave { now: at(1 << 50), word: 0x00ab_cdef },
         ];
         let recorded = |start: Moment| {
@@ -295,12 +374,14 @@ mod tests {
                      rtcp 10 139637976798093 89abcdef -\n\
                      sent 1000000 4294967295 0\n\
                      tick 1026037 00000001 80000000\n\
+                     forget 1026037 00abcdef\n\
                      leave 1125899906842624 00abcdef\n";
         assert_eq!(recorded(Moment::ZERO), lines);
         // those before the start have none, and the others what is left after it
         let later = "rtp 18446744073709551604 18446744073709551615 ffffffff 80\n\
                      sent 999989 4294967295 0\n\
                      tick 1026026 00000001 80000000\n\
+                     forget 1026026 00abcdef\n\
                      leave 1125899906842613 00abcdef\n";
         assert_eq!(recorded(at(11)), later);
         assert_eq!(recorded(at(u64::MAX)), "rtp 0 18446744073709551615 ffffffff 80\n");
@@ -324,6 +405,7 @@ mod tests {
         sender_bw: 100,
         receiver_bw: 300,
         rate: 8000,
+        clocks: RtpClocks::NONE,
     };
 
     fn item(kind: ItemKind, text: &[u8]) -> Item {

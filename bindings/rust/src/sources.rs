@@ -40,8 +40,10 @@ pub struct Reception {
     pub lost: i32,
     /// The highest sequence number in the low 16 bits, and above them how often it wrapped.
     pub highest: u32,
-    /// The interarrival jitter, in units of its RTP timestamps ([`Config::rate`](crate::Config::rate)).
+    /// The interarrival jitter, in units of its RTP timestamps.
     pub jitter: u32,
+    /// The units a second of `jitter`: those of the clock of its newest packet that was counted.
+    pub rate: u32,
 }
 
 /// The latest sender report of a source (RFC 3550, 6.4.1).
@@ -100,14 +102,14 @@ impl fmt::Debug for Sources<'_> {
 impl SourceState {
     fn of(source: &sys::jalwedd_source_state) -> SourceState {
         let sys::jalwedd_source_state { heard, left, told, ntp, rtp, .. } = *source;
-        let sys::jalwedd_source_state { received, octets, lost, highest, jitter, .. } = *source;
+        let sys::jalwedd_source_state { received, octets, lost, highest, jitter, rate, .. } = *source;
         SourceState {
             ssrc: source.ssrc,
             is_member: source.member != 0,
             is_sender: source.sender != 0,
             left: Moment::told(left),
             heard: Moment::from_micros(heard),
-            reception: (received != 0).then_some(Reception { received, octets, lost, highest, jitter }),
+            reception: (received != 0).then_some(Reception { received, octets, lost, highest, jitter, rate }),
             told: Moment::told(told).map(|moment| Told { ntp, rtp, moment }),
             last_block: LastBlock::of(source),
         }

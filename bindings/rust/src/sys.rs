@@ -8,7 +8,7 @@ use core::ptr::null_mut;
 // ---- The version
 
 pub const JALWEDD_VERSION_MAJOR: u32 = 0;
-pub const JALWEDD_VERSION_MINOR: u32 = 4;
+pub const JALWEDD_VERSION_MINOR: u32 = 5;
 pub const JALWEDD_VERSION_PATCH: u32 = 0;
 
 // ---- Statuses
@@ -49,6 +49,13 @@ pub struct jalwedd_handle {
 pub const JALWEDD_EMPTY: jalwedd_handle = jalwedd_handle { at: null_mut() };
 
 #[repr(C)]
+#[derive(Clone, Copy, Debug, Default)]
+pub struct jalwedd_clock {
+    pub payload_type: u32,
+    pub rate: u32,
+}
+
+#[repr(C)]
 #[derive(Clone, Copy, Debug)]
 pub struct jalwedd_config {
     pub ntp_base: u64,
@@ -59,6 +66,18 @@ pub struct jalwedd_config {
     pub sender_bw: u32,
     pub receiver_bw: u32,
     pub rate: u32,
+    pub clock_count: u32,
+    pub clocks: [jalwedd_clock; 16],
+    pub reserved: u32,
+}
+
+#[repr(C)]
+#[derive(Clone, Copy, Debug)]
+pub struct jalwedd_settings {
+    pub sender_bw: u32,
+    pub receiver_bw: u32,
+    pub clock_count: u32,
+    pub clocks: [jalwedd_clock; 16],
 }
 
 #[repr(C)]
@@ -194,6 +213,8 @@ pub struct jalwedd_source_state {
     pub ssrc: u32,
     pub member: u32,
     pub sender: u32,
+    pub rate: u32,
+    pub reserved: u32,
 }
 
 pub const JALWEDD_AWAY: u32 = 0;
@@ -270,6 +291,24 @@ unsafe extern "C" {
         now: u64,
         first_word: u32,
         second_word: u32,
+        step: *mut jalwedd_step,
+        octets: *mut [u8; JALWEDD_OCTETS],
+    ) -> u32;
+
+    pub fn jalwedd_configure(
+        handle: *mut jalwedd_handle,
+        now: u64,
+        settings: *const jalwedd_settings,
+        items: *const jalwedd_item,
+        item_count: usize,
+        step: *mut jalwedd_step,
+        octets: *mut [u8; JALWEDD_OCTETS],
+    ) -> u32;
+
+    pub fn jalwedd_forget(
+        handle: *mut jalwedd_handle,
+        now: u64,
+        ssrc: u32,
         step: *mut jalwedd_step,
         octets: *mut [u8; JALWEDD_OCTETS],
     ) -> u32;

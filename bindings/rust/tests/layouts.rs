@@ -15,8 +15,10 @@ macro_rules! assert_layout {
 #[test]
 fn structures() {
     assert_layout!(jalwedd_handle, 8, 8, at: 0);
-    assert_layout!(jalwedd_config, 40, 8, ntp_base: 0, start: 8, ssrc: 16, capacity: 20, limit: 24,
-        sender_bw: 28, receiver_bw: 32, rate: 36);
+    assert_layout!(jalwedd_clock, 8, 4, payload_type: 0, rate: 4);
+    assert_layout!(jalwedd_config, 176, 8, ntp_base: 0, start: 8, ssrc: 16, capacity: 20, limit: 24,
+        sender_bw: 28, receiver_bw: 32, rate: 36, clock_count: 40, clocks: 44, reserved: 172);
+    assert_layout!(jalwedd_settings, 140, 4, sender_bw: 0, receiver_bw: 4, clock_count: 8, clocks: 12);
     assert_layout!(jalwedd_item, 257, 1, kind: 0, size: 1, text: 2);
     assert_layout!(jalwedd_step, 40, 8, next: 0, members: 8, senders: 12, ssrc: 16, changed: 20, kind: 24,
         size: 28, entries: 32, others_changed: 36);
@@ -30,9 +32,9 @@ fn structures() {
     assert_layout!(jalwedd_cursor, 32, 8, next: 0, place: 8, end: 16, left: 24, ssrc: 28);
     assert_layout!(jalwedd_head_place, 48, 8, csrcs_offset: 0, payload_offset: 8, payload_size: 16, ssrc: 24,
         timestamp: 28, sequence: 32, payload_type: 36, marker: 40, csrcs: 44);
-    assert_layout!(jalwedd_source_state, 88, 8, heard: 0, left: 8, told: 16, ntp: 24, received: 32,
+    assert_layout!(jalwedd_source_state, 96, 8, heard: 0, left: 8, told: 16, ntp: 24, received: 32,
         octets: 40, lost: 48, highest: 52, jitter: 56, rtp: 60, has_block: 64, fraction: 68,
-        block_highest: 72, ssrc: 76, member: 80, sender: 84);
+        block_highest: 72, ssrc: 76, member: 80, sender: 84, rate: 88, reserved: 92);
     assert_layout!(jalwedd_role_change, 16, 4, ssrc: 0, was: 4, is: 8, left: 12);
 }
 

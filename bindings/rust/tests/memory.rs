@@ -1,7 +1,7 @@
 //! The memory of a participant, which the library takes where `sys::jalwedd_memory` says: a test of its own,
 //! as that is called once in a program, before the first participant begins.
 
-use jalwedd::{sys, Config, Moment, Participant};
+use jalwedd::{sys, Config, Moment, Participant, RtpClocks};
 use std::alloc::{alloc, dealloc, Layout};
 use std::ffi::c_void;
 use std::sync::Mutex;
@@ -38,11 +38,12 @@ fn two_blocks_are_taken_by_new_and_given_back_by_drop() {
     unsafe { sys::jalwedd_memory(take, give_back) };
     let (sender_bw, receiver_bw) = (100, 300);
     let (ntp_base, start, ssrc, capacity, limit, rate) = (0, Moment::ZERO, 0xaa, 20, 1472, 8000);
-    let config = Config { ntp_base, start, ssrc, capacity, limit, sender_bw, receiver_bw, rate };
+    let clocks = RtpClocks::NONE;
+    let config = Config { ntp_base, start, ssrc, capacity, limit, sender_bw, receiver_bw, rate, clocks };
     let mut session = Participant::new(&config, b"a", &[], 0).unwrap();
     let mut taken = sizes();
     taken.sort_unstable();
-    assert_eq!(taken, [2568, 20 * 144]);
+    assert_eq!(taken, [2720, 20 * 144]);
     let report = [0x80, 0xc9, 0, 1, 0, 0, 0, 7, 0x81, 0xca, 0, 2, 0, 0, 0, 7, 1, 1, 0x61, 0];
     session.arrive_rtcp(Moment::ZERO, 1, 0, &report).unwrap();
     session.tick(session.next_tick().unwrap(), 0, 0).unwrap();

@@ -1,8 +1,8 @@
 //! The sessions of docs/FORMATS.md, "`rtcp replay`: what it writes", made as calls: what is recorded of them is
 //! the text there, and they are answered as there.
 
-use jalwedd::record::{command, Call};
-use jalwedd::{Config, Item, ItemKind, Moment, Participant, Refusal};
+use jalwedd::record::{command, Call, NoOption};
+use jalwedd::{Config, Item, ItemKind, Moment, Participant, Refusal, RtpClock, RtpClocks, Settings};
 use std::error::Error;
 use std::fmt::Write;
 
@@ -17,6 +17,7 @@ const CONFIG: Config = Config {
     sender_bw: 100,
     receiver_bw: 300,
     rate: 8000,
+    clocks: RtpClocks::NONE,
 };
 
 const REPORT: &str = "80c90001000000aa81ca0002000000aa01016100";
@@ -69,16 +70,30 @@ fn played(calls: &[Call<'_>]) -> Result<(String, Vec<Told>), Box<dyn Error>> {
 #[test]
 fn a_session_with_a_datagram_that_is_refused() -> Result<(), Box<dyn Error>> {
     let leave = Call::Leave { now: after(2_000_000), word: 0 };
-    let calls = [came(0, 1, 0, &NAMED), tick(1_026_037), came(1_026_037, 1, 0, &[]), leave, tick(3_078_111)];
+    let forget = Call::Forget { now: after(0), ssrc: 7 };
+    let calls = [
+        came(0, 1, 0, &NAMED),
+        forget,
+        came(0, 1, 0, &NAMED),
+        tick(1_026_037),
+        came(1_026_037, 1, 0, &[]),
+        leave,
+        tick(3_078_111),
+    ];
     let (record, answers) = played(&calls)?;
     let lines = "rtcp 0 1 00000000 80c900010000000781ca00020000000701016100\n\
+                 forget 0 00000007\n\
+                 rtcp 0 1 00000000 80c900010000000781ca00020000000701016100\n\
                  tick 1026037 00000000 00000000\n\
                  rtcp 1026037 1 00000000 -\n\
                  leave 2000000 00000000\n\
                  tick 3078111 00000000 00000000\n";
     assert_eq!(record, lines);
     let told = |octets: &str| Ok((octets.to_string(), 0xaa));
-    assert_eq!(answers, [told(""), told(REPORT), Err(Refusal::NoCompound), told(BYE), Err(Refusal::Left)]);
+    assert_eq!(
+        answers,
+        [told(""), told(""), told(""), told(REPORT), Err(Refusal::NoCompound), told(BYE), Err(Refusal::Left)]
+    );
     Ok(())
 }
 
@@ -152,6 +167,33 @@ fn a_call_before_the_start_is_refused_and_has_no_line() -> Result<(), Box<dyn Er
 }
 
 #[test]
+fn settings_are_given_as_they_are_recorded() -> Result<(), Box<dyn Error>> {
+    let now = after(0);
+    let items = [Item::new(ItemKind::Note, b"")?, Item::new(ItemKind::Name, b"a,:")?];
+    let clocks = [RtpClock { payload_type: 96, rate: 90_000 }, RtpClock { payload_type: 0, rate: 8000 }];
+    let usual = Settings { sender_bw: 100, receiver_bw: 300, clocks: RtpClocks::NONE };
+    let narrow = Settings { sender_bw: 16, receiver_bw: 16, clocks: RtpClocks::new(&clocks)? };
+    let wrong = Settings { sender_bw: 15, ..narrow };
+    let calls = [
+        Call::Configure { now, settings: &wrong, items: &items },
+        Call::Configure { now, settings: &narrow, items: &[items[0]; 8] },
+        Call::Configure { now, settings: &narrow, items: &items },
+        tick(1_026_037),
+        Call::Configure { now: after(1_026_037), settings: &usual, items: &[] },
+    ];
+    let (record, answers) = played(&calls)?;
+    let lines = "configure 0 15 16 96:90000,0:8000 7:,2:612c3a\n\
+                 configure 0 16 16 96:90000,0:8000 7:,2:612c3a\n\
+                 tick 1026037 00000000 00000000\n\
+                 configure 1026037 100 300 - -\n";
+    assert_eq!(record, lines);
+    let told = || Ok((String::new(), 0xaa));
+    let wanted = [Err(Refusal::Bandwidth), Err(Refusal::Item), told(), told(), told()];
+    assert_eq!(answers, wanted);
+    Ok(())
+}
+
+#[test]
 fn the_command_of_what_a_participant_begins_with() -> Result<(), Box<dyn Error>> {
     let items = [Item::new(ItemKind::Tool, b"jalwedd")?];
     Participant::new(&CONFIG, b"player@example.com", &items, 0xabcd)?;
@@ -160,5 +202,12 @@ fn the_command_of_what_a_participant_begins_with() -> Result<(), Box<dyn Error>>
                 --sender-bw 100 --receiver-bw 300 --rate 8000 --ntp 0000000000000000 --tool 'jalwedd' \
                 --word 0000abcd --lines 4294967295\n";
     assert_eq!(command(&CONFIG, b"player@example.com", &items, 0xabcd)?, line);
+    let clocks = [RtpClock { payload_type: 96, rate: 90_000 }, RtpClock { payload_type: 97, rate: 48_000 }];
+    let config = Config { clocks: RtpClocks::new(&clocks)?, ..CONFIG };
+    let with_clocks = line.replace("8000", "8000 --clock 96:90000 --clock 97:48000");
+    let last = RtpClocks::new(&[RtpClock { payload_type: 128, rate: 1 }])?;
+    let without_command = Config { clocks: last, ..CONFIG };
+    assert_eq!(command(&without_command, b"a", &[], 0), Err(NoOption::Clock));
+    assert_eq!(command(&config, b"player@example.com", &items, 0xabcd)?, with_clocks);
     Ok(())
 }

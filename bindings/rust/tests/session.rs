@@ -3,7 +3,7 @@
 
 use jalwedd::{
     sys, Answer, Config, Item, ItemKind, Kind, LastBlock, Moment, NewError, Participant, Reception, Refusal,
-    SourceState, Step, TextTooLong, Told,
+    RtpClock, RtpClocks, Settings, SourceState, Step, TextTooLong, Told, TooManyClocks,
 };
 use std::thread;
 use std::time::Duration;
@@ -17,6 +17,7 @@ const CONFIG: Config = Config {
     sender_bw: 100,
     receiver_bw: 300,
     rate: 8000,
+    clocks: RtpClocks::NONE,
 };
 
 const FIRST: Moment = at(1_026_037);
@@ -107,6 +108,85 @@ fn a_session_that_does_not_start_at_0() {
         assert_eq!(out(session.leave(after(Moment::LAST), 0)), bye(BYE));
         assert_eq!((session.next_tick(), session.tick(at(start - 1), 0, 0)), (None, Err(Refusal::Left)));
     }
+}
+
+const USUAL: Settings = Settings { sender_bw: 100, receiver_bw: 300, clocks: RtpClocks::NONE };
+
+fn clocks(given: &[(u8, u32)]) -> RtpClocks {
+    let clocks: Vec<_> = given.iter().map(|&(payload_type, rate)| RtpClock { payload_type, rate }).collect();
+    RtpClocks::new(&clocks).unwrap()
+}
+
+/// A report of 20 octets, with headers of 28, takes 3 s at 16 octets a second.
+#[test]
+fn settings_hold_from_then_on() {
+    let mut session = begun(&[]);
+    let narrow = Settings { sender_bw: 16, receiver_bw: 16, ..USUAL };
+    let answer = session.configure(Moment::ZERO, &narrow, &[]).unwrap();
+    assert_eq!(answer, Answer { step: step(Some(FIRST), 1, 0, 0), out: None });
+    assert_eq!(out(session.tick(FIRST, 0, 0)), None);
+    assert_eq!(session.next_tick(), Some(at(1_231_245)));
+
+    // packets of payload type 96 count by its clock, as long as it has one
+    let mut session = begun(&[]);
+    let video = Settings { clocks: clocks(&[(96, 90_000), (97, 48_000)]), ..USUAL };
+    session.configure(Moment::ZERO, &video, &[]).unwrap();
+    let mut rate_after = |sequence| {
+        let packet = [0x80, 96, 0, sequence, 0, 0, 0, 0, 0, 0, 0, 9];
+        session.arrive_rtp(Moment::ZERO, 1, 0, &packet).unwrap();
+        if sequence == 11 {
+            session.configure(Moment::ZERO, &USUAL, &[]).unwrap();
+        }
+        session.sources().next().unwrap().reception.map(|reception| reception.rate)
+    };
+    assert_eq!([10, 11, 12].map(&mut rate_after), [None, Some(90_000), Some(8000)]);
+}
+
+#[test]
+fn settings_are_refused_as_a_configuration() {
+    let mut session = begun(&[]);
+    let name = Item::new(ItemKind::Name, b"n").unwrap();
+    let slow = Settings { clocks: clocks(&[(0, 0)]), ..USUAL };
+    for (settings, items, refusal) in [
+        (Settings { sender_bw: 15, ..slow }, &[][..], Refusal::Bandwidth),
+        (slow, &[], Refusal::Rate),
+        (slow, &[name; 8], Refusal::Item),
+    ] {
+        assert_eq!(session.configure(at(5), &settings, items), Err(refusal));
+    }
+    assert_eq!(session.configure(Moment::from_micros((1 << 50) + 1), &USUAL, &[]), Err(Refusal::TooFar));
+    assert!(session.configure(Moment::ZERO, &USUAL, &[name; 7]).is_ok());
+    session.leave(Moment::ZERO, 0).unwrap();
+    assert_eq!(session.configure(Moment::ZERO, &USUAL, &[]), Err(Refusal::Left));
+}
+
+#[test]
+fn a_source_that_is_forgotten_comes_as_a_new_one() {
+    let mut session = begun(&[]);
+    let [first, second] = [1, 2].map(|ssrc| named(2).nth(ssrc - 1).unwrap());
+    session.arrive_rtcp(Moment::ZERO, 1, 0, &first).unwrap();
+    session.arrive_rtcp(at(5), 1, 0, &second).unwrap();
+    let without = |session: &Participant| session.sources().map(|source| source.ssrc).collect::<Vec<_>>();
+    let answer = session.forget(at(5), 1).unwrap();
+    assert_eq!(answer, Answer { step: moved(step(Some(FIRST), 2, 0, 1)), out: None });
+    assert_eq!(without(&session), [2]);
+    let answer = session.forget(at(5), 1).unwrap();
+    assert_eq!(answer, Answer { step: step(Some(FIRST), 2, 0, 1), out: None });
+    assert_eq!(session.forget(at(4), 2), Err(Refusal::Backwards));
+    session.arrive_rtcp(at(6), 1, 0, &first).unwrap();
+    assert_eq!(without(&session), [1, 2]);
+    session.leave(at(6), 0).unwrap();
+    assert_eq!(session.forget(at(6), 2), Err(Refusal::Left));
+}
+
+#[test]
+fn there_is_room_for_16_clocks() {
+    let many = [RtpClock { payload_type: 255, rate: 1 }; 17];
+    assert_eq!(RtpClocks::new(&many), Err(TooManyClocks));
+    let most = RtpClocks::new(&many[..16]).unwrap();
+    assert_eq!((most.as_slice(), RtpClocks::default().as_slice()), (&many[..16], &[][..]));
+    assert!(Participant::new(&Config { clocks: most, ..CONFIG }, b"a", &[], 0).is_ok());
+    assert_eq!(format!("{:?}", clocks(&[(96, 5)])), "[RtpClock { payload_type: 96, rate: 5 }]");
 }
 
 #[test]
@@ -201,6 +281,7 @@ fn a_configuration_may_be_refused() {
     assert_eq!(refused(Config { limit: 574, ..CONFIG }, b"a", &[]), NewError::Limit);
     assert_eq!(refused(Config { receiver_bw: 15, ..CONFIG }, b"a", &[]), NewError::Bandwidth);
     assert_eq!(refused(Config { rate: 0, ..CONFIG }, b"a", &[]), NewError::Rate);
+    assert_eq!(refused(Config { clocks: clocks(&[(96, 0)]), ..CONFIG }, b"a", &[]), NewError::Rate);
     let late = Config { start: at(1 << 63), ..CONFIG };
     assert_eq!(refused(late, b"a", &[]), NewError::Start);
     assert_eq!(refused(Config { rate: 0, ..late }, b"a", &[name; 8]), NewError::Item);
@@ -255,7 +336,7 @@ fn who_is_there() {
         left: None,
         heard: at(4),
         // 11 and 13 of 11 to 13 were counted
-        reception: Some(Reception { received: 2, octets: 5, lost: 1, highest: 13, jitter: 0 }),
+        reception: Some(Reception { received: 2, octets: 5, lost: 1, highest: 13, jitter: 0, rate: 8000 }),
         told: None,
         last_block: None,
     };
@@ -306,6 +387,9 @@ fn the_library_says_what_the_step_does() {
         sender_bw: 100,
         receiver_bw: 300,
         rate: 8000,
+        clock_count: 0,
+        clocks: [sys::jalwedd_clock::default(); 16],
+        reserved: 0,
     };
     let no_item = sys::jalwedd_item { kind: 0, size: 0, text: [0; 255] };
     // SAFETY: all pointers are of local variables, and the handle is freed before it goes away

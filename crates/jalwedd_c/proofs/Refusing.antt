@@ -11,7 +11,7 @@ use Rattle.jalwedd_host.specs.Configs.{setup_given, status_of_error}
 start_taken : (start : ℕ) → start < 2 ^ 63 → refusal_of_start start ≡ None
 start_taken start low = grind (arith, nat_tests, low)
 
-setup_taken : (config : Config) (cname : List ℕ) (items : List ItemGiven) → oversize cname items ≡ None →
+setup_taken : (config : Config) (cname : List ℕ) (items : List ItemGiven) → oversize config cname items ≡ None →
     error_in (setup_given config cname items) ≡ None → refusal_of_setup config cname items ≡ None
 setup_taken config cname items fits usable =
     ap (λ (o : Option ℕ). elim o [
@@ -20,7 +20,7 @@ setup_taken config cname items fits usable =
     ]) fits
     ∙ ap (option_map status_of_error) usable
 
-pub not_refused : (config : Config) (cname : List ℕ) (items : List ItemGiven) → oversize cname items ≡ None →
+pub not_refused : (config : Config) (cname : List ℕ) (items : List ItemGiven) → oversize config cname items ≡ None →
     error_in (setup_given config cname items) ≡ None → config.start < 2 ^ 63 → refusal_of config cname items ≡ None
 not_refused config cname items fits usable low =
     ap (λ (r : Option ℕ). option_or r (refusal_of_start config.start)) (setup_taken config cname items fits usable)

@@ -20,11 +20,11 @@ use std::alloc::Global;
 
 /// Puts a participant of a session that begins now, when the host's clock shows the configuration's `start`, into an
 /// empty handle. `word` is a random word, for the draw of the first interval. Call `jalwedd_tick` at the step's `next`.
-/// This call alone takes memory, in two blocks: 144 octets for each source of the capacity, and 2,568.
+/// This call alone takes memory, in two blocks: 144 octets for each source of the capacity, and 2,720.
 ///
 /// Statuses: 0; 21 where the handle holds a participant, which is then the one that the step tells of; 11 to 17 by the
-/// first of C1 to C7 that applies, where a CNAME of more than 255 octets and more than 7 items are tested before the
-/// others; 22.
+/// first of C1 to C7 that applies, where a CNAME of more than 255 octets, more than 7 items, and then more than 16
+/// clocks or a payload type above 255, are tested before the others; 22.
 #[unsafe(no_mangle)]
 pub extern "C" fn jalwedd_new(
     alloc: Global,
@@ -60,7 +60,7 @@ pub extern "C" fn jalwedd_new(
     if config.start >= START_LIMIT {
         return START;
     }
-    let table = match HeapTable::with_room(alloc, given.capacity, given.rate) {
+    let table = match HeapTable::with_room(alloc, given.capacity) {
         Ok(table) => table,
         Err(_) => return NO_MEMORY,
     };

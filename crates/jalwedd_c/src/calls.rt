@@ -1,19 +1,22 @@
-//! The calls of a session: what came, what was sent, what time it is, and the leave. Each is told what the host's clock
-//! shows, and counts from the start.
+//! The calls of a session: what came, what was sent, what time it is, other settings, a source that is gone, and the
+//! leave. Each is told what the host's clock shows, and counts from the start.
 
 ghost use Rattle.std.specs.Prelude.{◌≡◌, ◌≢◌, ◌≤◌, ◌<◌, ◌+◌, ℕ, List, Some, None, Result, length};
 ghost use Rattle.rtcp_wire.specs.declared.fault.WireFault.{WireFault as FirstFault};
 ghost use Rattle.rtcp_wire.specs.declared.rtp.fault.RtpFault.{RtpFault as HeadFault};
 ghost use Rattle.rtcp_wire.specs.Values.{RtcpPacket};
 ghost use Rattle.rtcp_wire.specs.RtpHeads.{RtpValue};
-ghost use Rattle.rtcp_engine.specs.Acts.{rtcp_came, rtp_came, rtp_sent, ticked, left, IsReading, IsRtpReading};
+ghost use Rattle.rtcp_engine.specs.Acts.{configured, forgotten, rtcp_came, rtp_came, rtp_sent, ticked, left};
+ghost use Rattle.rtcp_engine.specs.Acts.{IsReading, IsRtpReading};
 ghost use Rattle.rtcp_engine.specs.Histories.{History};
 ghost use Rattle.rtcp_engine.specs.InTime.{IsOverdue};
 ghost use Rattle.jalwedd_host.specs.Answers.{IsBlank};
+ghost use Rattle.jalwedd_host.specs.Configs.{oversize_of_settings, settings_given};
 ghost use Rattle.jalwedd_host.specs.Handles.{KeepsWithin, Leads, LeadsTo};
 ghost use Rattle.jalwedd_host.specs.Promises.{ComesEarly, Serves, Spares, TurnsAway};
 
 use arrayvec::ArrayVec;
+use jalwedd_host::config::{Item, Settings, blank_settings, fill_settings};
 use jalwedd_host::handle::Handle;
 use jalwedd_host::session::Session;
 use jalwedd_host::status::{EMPTY, TOO_LONG};
@@ -112,7 +115,7 @@ pub extern "C" fn jalwedd_arrive_rtp(
     ensures early { length datagram.now ≤ 65535 →
         ComesEarly handle.old.owned.held handle.new.owned.held now result step.new octets.old octets.new }
     ensures turns_away { 65535 < length datagram.now →
-        TurnsAway handle.old.owned.held result step.new octets.old octets.new }
+        TurnsAway 23 handle.old.owned.held result step.new octets.old octets.new }
     ensures spares { Spares handle.old.owned.held handle.new.owned.held result step.new octets.old octets.new }
 {
     let Some(mut session) = handle.take(alloc) else {
@@ -229,6 +232,82 @@ pub extern "C" fn jalwedd_tick(
         .participant
         .tick_into(moment, first_word, second_word, &mut room);
     handle.put_back(session, &reply, &room, step, octets)
+}
+
+/// Changes the settings of the session when the host's clock shows `now`, in microseconds, to these and these items
+/// beside the CNAME (RFC 3550, 6.2, 6.5). They hold from then on: the next interval that is computed is the first by
+/// the new bandwidths, and the next RTP packet that comes the first by the new clocks. This never hands out anything.
+///
+/// Statuses: 0; 20 where the handle is empty; else 16 where there are more than 7 items, and then 15 where there are
+/// more than 16 clocks, or a payload type is above 255; else 1 to 4 and 14 to 16, by the first of E1 to E4 and E8 that
+/// applies, where a call before the start is refused by E1 or E2, and E8 is told by the first of C4 to C6.
+#[unsafe(no_mangle)]
+pub extern "C" fn jalwedd_configure(
+    alloc: Global,
+    handle: &mut Handle,
+    now: u64,
+    settings: &Settings,
+    items: &[Item],
+    step: &mut Step,
+    octets: &mut [u8; 1472],
+) -> u32
+    ensures serves { (start moment : ℕ) (history : History) → oversize_of_settings settings.now items.now ≡ None →
+        LeadsTo handle.old.owned.held start history → now ≡ start + moment →
+        Serves start history (configured moment (settings_given settings.now items.now))
+        handle.new.owned.held result step.new octets.old octets.new }
+    ensures early { oversize_of_settings settings.now items.now ≡ None →
+        ComesEarly handle.old.owned.held handle.new.owned.held now result step.new octets.old octets.new }
+    ensures turns_away { (status : ℕ) → oversize_of_settings settings.now items.now ≡ Some status →
+        TurnsAway status handle.old.owned.held result step.new octets.old octets.new }
+    ensures nothing { (step.new.kind ≡ 0) × (octets.new ≡ octets.old) }
+    ensures spares { Spares handle.old.owned.held handle.new.owned.held result step.new octets.old octets.new }
+{
+    let Some(mut session) = handle.take(alloc) else {
+        return empty(step);
+    };
+    let mut given = blank_settings();
+    if let Some(status) = fill_settings(&mut given, settings, items) {
+        return handle.put_back_untold(session, status, step);
+    }
+    let Some(moment) = session.moment_of(now) else {
+        return handle.put_back_early(session, step);
+    };
+    let reply = session.participant.configure_told(moment, &given);
+    handle.put_back(session, &reply, &[], step, octets)
+}
+
+/// Tells, when the host's clock shows `now`, in microseconds, that another source is gone, as the host knows by other
+/// means, or so decides. Its entry goes as if it had been silent for too long (RFC 3550, 6.3.5), which makes room for
+/// another source, and what was counted of it is dropped. Named again, it comes as a new one. Nothing changes where the
+/// source has no entry, said goodbye or is the participant itself, and in a backoff. This never hands out anything.
+///
+/// Statuses: 0; 1 to 4, by the first of E1 to E4 that applies, where a call before the start is refused by E1 or E2; 20
+/// where the handle is empty.
+#[unsafe(no_mangle)]
+pub extern "C" fn jalwedd_forget(
+    alloc: Global,
+    handle: &mut Handle,
+    now: u64,
+    ssrc: u32,
+    step: &mut Step,
+    octets: &mut [u8; 1472],
+) -> u32
+    ensures serves { (start moment : ℕ) (history : History) → LeadsTo handle.old.owned.held start history →
+        now ≡ start + moment → Serves start history (forgotten moment ssrc)
+        handle.new.owned.held result step.new octets.old octets.new }
+    ensures early { ComesEarly handle.old.owned.held handle.new.owned.held now result step.new
+        octets.old octets.new }
+    ensures nothing { (step.new.kind ≡ 0) × (octets.new ≡ octets.old) }
+    ensures spares { Spares handle.old.owned.held handle.new.owned.held result step.new octets.old octets.new }
+{
+    let Some(mut session) = handle.take(alloc) else {
+        return empty(step);
+    };
+    let Some(moment) = session.moment_of(now) else {
+        return handle.put_back_early(session, step);
+    };
+    let reply = session.participant.forget_told(moment, ssrc);
+    handle.put_back(session, &reply, &[], step, octets)
 }
 
 /// Leaves the session when the host's clock shows `now`, in microseconds, with a random word for the draw of a backoff

@@ -8,10 +8,12 @@ use std::test::*;
 mod calls;
 mod changes;
 mod configurations;
+mod forgetting;
 mod heads;
 mod parts;
 mod readings;
 mod sessions;
+mod settings;
 
 const CONFIG: Config = Config {
     ntp_base: 0,
@@ -22,6 +24,52 @@ const CONFIG: Config = Config {
     sender_bw: 100,
     receiver_bw: 300,
     rate: 8_000,
+    clock_count: 0,
+    clocks: [UNREAD; 16],
+    reserved: 0,
+};
+
+/// A clock that is refused where it is read.
+const UNREAD: Clock = Clock {
+    payload_type: 256,
+    rate: 0,
+};
+
+/// Room for 16 clocks, of which so many are said to be given: after these are such as are refused.
+#[derive(Clone, Copy)]
+struct Clocks<'a> {
+    count: u32,
+    given: &'a [Clock],
+}
+
+impl Clocks<'_> {
+    fn room(&self) -> [Clock; 16] {
+        let mut room = [UNREAD; 16];
+        for (place, clock) in room.iter_mut().zip(self.given) {
+            *place = *clock;
+        }
+        room
+    }
+}
+
+const NO_CLOCKS: Clocks<'static> = Clocks {
+    count: 0,
+    given: &[],
+};
+
+/// One clock more than there is room for.
+const SEVENTEEN_CLOCKS: Clocks<'static> = Clocks {
+    count: 17,
+    given: &[],
+};
+
+/// The first payload type that is no octet.
+const STRANGE_CLOCK: Clocks<'static> = Clocks {
+    count: 1,
+    given: &[Clock {
+        payload_type: 256,
+        rate: 1,
+    }],
 };
 
 /// The latest start: 2^63 - 1.
@@ -71,6 +119,8 @@ const NOBODY: Source = Source {
     ssrc: 0,
     member: 0,
     sender: 0,
+    rate: 0,
+    reserved: 0,
 };
 
 /// What no call wrote.
@@ -91,5 +141,5 @@ const TOO_LONG: [u8; 65_536] = [0x80; 65_536];
 /// The block of a session has the octets that `jalwedd_new` documents.
 #[test]
 fn memory(rt: HostRuntime) {
-    assert_eq!(rt; size_of::<jalwedd_host::session::Session>(), 2_568);
+    assert_eq!(rt; size_of::<jalwedd_host::session::Session>(), 2_720);
 }

@@ -36,7 +36,7 @@ or_never start moment shown (Some x) n none some is before =
 told_once : (setup : Setup) (after : Option ℕ) (life : Life) (a b : Option StateValue) →
     TellsInLife setup after life a → TellsInLife setup after life b → a ≡ b
 told_once setup after (present outcome) a b one other =
-    tables.told_follows_traces-only after setup.capacity setup.rate outcome.trace a b one other
+    tables.told_follows_traces-only after setup.capacity outcome.trace a b one other
 told_once setup after (backing_off outcome backoff) a b one other = one ∙ sym other
 told_once setup after (gone outcome) a b one other = one ∙ sym other
 

@@ -1,7 +1,7 @@
 -- How answers are told to a host in C: a status, a step, and the octets of a compound.
 use Rattle.std.specs.Prelude.{ℕ, ◌≡◌, ◌↔◌, ◌^◌, ◌+◌, ◌-◌, ◌++◌, List, [], length, drop, Bool, true, false, Option, Some, None, Ok, Err, is_some}
 use Rattle.rtcp_engine.specs.declared.refusal.Refusal.{Refusal}
-use Rattle.rtcp_engine.specs.declared.refusal.Refusal.TheVariants.{Left, Backwards, TooFar, TooMany, Wire, Rtp, OwnSsrc}
+use Rattle.rtcp_engine.specs.declared.refusal.Refusal.TheVariants.{Left, Backwards, TooFar, TooMany, Wire, Rtp, OwnSsrc, Settings}
 use Rattle.rtcp_engine.specs.declared.step.OutKind.{OutKind}
 use Rattle.rtcp_engine.specs.declared.step.OutKind.TheVariants.{Report, Bye}
 use Rattle.rtcp_engine.specs.Histories.{History, life_at, setup_at}
@@ -10,10 +10,11 @@ use Rattle.rtcp_engine.specs.Lives.{entries_in_life, members_in_life, senders_in
 use Rattle.rtcp_engine.specs.Steps.{OutValue, AnswerValue}
 use Rattle.jalwedd_host.specs.declared.showing.Handed.{Handed}
 use Rattle.jalwedd_host.specs.declared.step.Step.{Step}
+use Rattle.jalwedd_host.specs.Configs.{status_of_error}
 
 -- ---- Statuses
 
--- E1 to E7
+-- E1 to E8, where E8 is told by the reason: C4 to C6
 abbrev pub status_of_refusal : Refusal → ℕ
 status_of_refusal Left = 1
 status_of_refusal Backwards = 2
@@ -22,6 +23,7 @@ status_of_refusal TooMany = 4
 status_of_refusal (Wire fault) = 5
 status_of_refusal (Rtp fault) = 6
 status_of_refusal OwnSsrc = 7
+status_of_refusal (Settings error) = status_of_error error
 
 abbrev pub status_of : AnswerValue → ℕ
 status_of (Ok step) = 0

@@ -1,29 +1,61 @@
--- How a host in C configures a participant.
-use Rattle.std.specs.Prelude.{ℕ, ◌^◌, nat_le, if◌then◌else◌, not, List, length, map, take, Option, Some, None, option_map}
+-- How a host in C configures a participant, first and in a running session.
+use Rattle.std.specs.Prelude.{ℕ, ◌^◌, ◌&&◌, Bool, nat_le, if◌then◌else◌, not, List, length, map, take, Option, Some, None, option_map}
+use Rattle.std.specs.List.{list_all}
 use Rattle.std.specs.Option.{option_or}
 use Rattle.rtcp_wire.specs.Values.{ItemValue}
 use Rattle.rtcp_engine.specs.declared.config.ConfigError.{ConfigError}
 use Rattle.rtcp_engine.specs.declared.config.ConfigError.TheVariants.{Cname, Capacity, Limit, Bandwidth, Rate, Item}
-use Rattle.rtcp_engine.specs.Setups.{Setup}
+use Rattle.rtcp_engine.specs.Setups.{ClockValue, SettingsValue, Setup}
 use Rattle.rtcp_engine.specs.Refused.{error_in}
+use Rattle.jalwedd_host.specs.declared.config.Clock.{Clock as ClockGiven}
 use Rattle.jalwedd_host.specs.declared.config.Config.{Config}
 use Rattle.jalwedd_host.specs.declared.config.Item.{Item as ItemGiven}
+use Rattle.jalwedd_host.specs.declared.config.Settings.{Settings}
 
 abbrev pub item_given : ItemGiven → ItemValue
 item_given item = record { kind = item.kind; text = take item.size item.text }
+
+abbrev pub items_given : List ItemGiven → List ItemValue
+items_given items = map item_given items
+
+abbrev pub clock_given : ClockGiven → ClockValue
+clock_given clock = record { payload_type = clock.payload_type; rate = clock.rate }
+
+-- The first `count` of them are given.
+abbrev pub clocks_given : (count : ℕ) → List ClockGiven → List ClockValue
+clocks_given count clocks = map clock_given (take count clocks)
 
 abbrev pub setup_given : Config → (cname : List ℕ) → List ItemGiven → Setup
 setup_given config cname items = record {
   ssrc = config.ssrc;
   cname = cname;
-  extras = map item_given items;
+  extras = items_given items;
   capacity = config.capacity;
   limit = config.limit;
   sender_bw = config.sender_bw;
   receiver_bw = config.receiver_bw;
   rate = config.rate;
+  clocks = clocks_given config.clock_count config.clocks;
   ntp_base = config.ntp_base;
 }
+
+abbrev pub settings_given : Settings → List ItemGiven → SettingsValue
+settings_given settings items = record {
+  sender_bw = settings.sender_bw;
+  receiver_bw = settings.receiver_bw;
+  clocks = clocks_given settings.clock_count settings.clocks;
+  extras = items_given items;
+}
+
+-- A configuration that had these settings from the start.
+abbrev pub configured_with : Settings → Config → Config
+configured_with settings config =
+    record config {
+      sender_bw = settings.sender_bw;
+      receiver_bw = settings.receiver_bw;
+      clock_count = settings.clock_count;
+      clocks = settings.clocks;
+    }
 
 -- C1 to C6
 abbrev pub status_of_error : ConfigError → ℕ
@@ -34,16 +66,32 @@ status_of_error Bandwidth = 14
 status_of_error Rate = 15
 status_of_error Item = 16
 
--- The status of what does not fit: a CNAME of more than 255 octets, or more than 7 items.
-abbrev pub oversize : (cname : List ℕ) → List ItemGiven → Option ℕ
-oversize cname items =
-    if not (nat_le (length cname) 255) then Some 11
-    else (if not (nat_le (length items) 7) then Some 16
+abbrev pub is_octet_type : ClockGiven → Bool
+is_octet_type clock = nat_le clock.payload_type 255
+
+-- Whether so many clocks are at most 16, each of a payload type that fits an octet.
+abbrev pub do_clocks_fit : (count : ℕ) → List ClockGiven → Bool
+do_clocks_fit count clocks = nat_le count 16 && list_all is_octet_type (take count clocks)
+
+-- The status of what does not fit: more than 7 items, or else the clocks.
+abbrev pub oversize_parts : List ItemGiven → (count : ℕ) → List ClockGiven → Option ℕ
+oversize_parts items count clocks =
+    if not (nat_le (length items) 7) then Some 16
+    else (if not (do_clocks_fit count clocks) then Some 15
     else None)
+
+abbrev pub oversize_of_settings : Settings → List ItemGiven → Option ℕ
+oversize_of_settings settings items = oversize_parts items settings.clock_count settings.clocks
+
+-- Of a configuration first a CNAME of more than 255 octets.
+abbrev pub oversize : Config → (cname : List ℕ) → List ItemGiven → Option ℕ
+oversize config cname items =
+    if not (nat_le (length cname) 255) then Some 11
+    else oversize_parts items config.clock_count config.clocks
 
 -- The status of a setup that is refused, if it is.
 abbrev pub refusal_of_setup : Config → (cname : List ℕ) → List ItemGiven → Option ℕ
-refusal_of_setup config cname items = elim (oversize cname items) [
+refusal_of_setup config cname items = elim (oversize config cname items) [
   | None ↦ option_map status_of_error (error_in (setup_given config cname items))
   | Some status ↦ Some status
 ]

@@ -47,10 +47,13 @@ pub record Spares (before after : Option Session) (result : ℕ) (step : Step) (
   pub refused : result ≢ 0 → after ≡ before
   pub empty : before ≡ None → (result ≡ 20) × IsBlank step × (octets ≡ was)
 
--- A datagram was too long to be read. Of a session the call says so, hands nothing out, and shows where it stands.
-pub record TurnsAway (before : Option Session) (result : ℕ) (step : Step) (was octets : List ℕ) : Type 0 where
+-- What came with a call is more than it takes, which this status tells. Of a session the call says so, hands nothing
+-- out, and shows where it stands.
+pub record TurnsAway
+    (status : ℕ) (before : Option Session) (result : ℕ) (step : Step) (was octets : List ℕ)
+    : Type 0 where
   pub too_long : (session : Session) → before ≡ Some session →
-      (result ≡ 23) × HandsNothing step × (octets ≡ was)
+      (result ≡ status) × HandsNothing step × (octets ≡ was)
   pub still_shows : (start : ℕ) (history : History) → LeadsTo before start history → Shows start step history
 
 -- A call asks for a number. It tells that of the start and the history which the session stands at, and another where

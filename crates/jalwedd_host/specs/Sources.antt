@@ -15,7 +15,7 @@ abbrev pub after_of : (from : ℕ) → Option ℕ
 after_of from = if from == 0 then None else Some (min (from - 1) (2 ^ 32 - 1))
 
 abbrev pub none_received : ReceptionValue
-none_received = record { received = 0; octets = 0; lost = pos 0; highest = 0; jitter = 0 }
+none_received = record { received = 0; octets = 0; lost = pos 0; highest = 0; jitter = 0; rate = 0 }
 
 abbrev pub reception_shown : Option ReceptionValue → ReceptionValue
 reception_shown None = none_received
@@ -36,6 +36,7 @@ IsReceived shown reception =
     × (shown.lost ≡ (reception_shown reception).lost)
     × (shown.highest ≡ (reception_shown reception).highest)
     × (shown.jitter ≡ (reception_shown reception).jitter)
+    × (shown.rate ≡ (reception_shown reception).rate)
 
 abbrev pub IsLastTold : (start : ℕ) → Told → Option ToldValue → Type 0
 IsLastTold start shown told =
@@ -61,12 +62,14 @@ pub record IsShown (start : ℕ) (shown : Source) (state : StateValue) : Type 0 
   pub lost : shown.lost ≡ (reception_shown state.reception).lost
   pub highest : shown.highest ≡ (reception_shown state.reception).highest
   pub jitter : shown.jitter ≡ (reception_shown state.reception).jitter
+  pub rate : shown.rate ≡ (reception_shown state.reception).rate
   pub ntp : shown.ntp ≡ (told_shown start state.told).ntp
   pub told : shown.told ≡ (told_shown start state.told).moment
   pub rtp : shown.rtp ≡ (told_shown start state.told).rtp
   pub has_block : shown.has_block ≡ one_if (is_some state.last_block)
   pub fraction : shown.fraction ≡ (block_shown state.last_block).fraction
   pub block_highest : shown.block_highest ≡ (block_shown state.last_block).highest
+  pub reserved : shown.reserved ≡ 0
 
 -- A status and a source say what is told: 0 and what is known of a source; or 9, and the source is as it was.
 abbrev pub ShowsSource : (start status : ℕ) (before after : Source) → Option StateValue → Type 0

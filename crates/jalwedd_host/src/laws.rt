@@ -1,6 +1,6 @@
 //! Laws of what a host is told. Each is a function that does nothing, whose postcondition is the law.
 
-ghost use Rattle.std.specs.Prelude.{◌≡◌, ◌+◌, ◌%◌, ◌^◌, ◌<◌, ◌≤◌, ◌≤ℤ◌, ℕ, pos, negsuc, List, Option, Some, slice_get};
+ghost use Rattle.std.specs.Prelude.{◌≡◌, ◌+◌, ◌%◌, ◌^◌, ◌<◌, ◌≤◌, ◌≤ℤ◌, ℕ, pos, negsuc, List, length, Option, Some, slice_get};
 ghost use Rattle.rtcp_wire.specs.Contents.{all_blocks, all_goodbyes, all_items};
 ghost use Rattle.rtcp_wire.specs.Contents.{packet_blocks, packet_goodbyes, packet_items, packet_senders};
 ghost use Rattle.rtcp_wire.specs.Grammar.{AreOctets, IsAccepted};
@@ -10,8 +10,13 @@ ghost use Rattle.rtcp_members.specs.Told.{StateValue};
 ghost use Rattle.rtcp_engine.specs.Differences.{listed_of};
 ghost use Rattle.rtcp_engine.specs.Histories.{History, life_at, setup_at};
 ghost use Rattle.rtcp_engine.specs.Lives.{TellsInLife};
+ghost use Rattle.rtcp_engine.specs.Setups.{with_settings};
 ghost use Rattle.rtcp_engine.specs.Taken.{IsHistory};
 ghost use Rattle.rtcp_engine.specs.declared.differences.change.Change.{Change};
+ghost use Rattle.jalwedd_host.specs.declared.config.Config.{Config};
+ghost use Rattle.jalwedd_host.specs.declared.config.Item.{Item};
+ghost use Rattle.jalwedd_host.specs.declared.config.Settings.{Settings};
+ghost use Rattle.jalwedd_host.specs.Configs.{configured_with, oversize, oversize_of_settings, settings_given, setup_given};
 ghost use Rattle.jalwedd_host.specs.declared.source.Source.{Source};
 ghost use Rattle.jalwedd_host.specs.Changes.{listed_by, change_from, changes_between};
 ghost use Rattle.jalwedd_host.specs.Sources.{IsShown};
@@ -39,6 +44,17 @@ pub fn told_sources_are_listed()
 {
     told_moments_have_passed();
 }
+
+/// Settings that a host gives in a running session leave it with the setup of a configuration that had them from the
+/// start. What does not fit of them is what does not fit of that configuration, if its CNAME does.
+pub fn settings_are_as_configured()
+    ensures setup { (config : Config) (settings : Settings) (cname : List ℕ) (before items : List Item) →
+        with_settings (settings_given settings items) (setup_given config cname before)
+        ≡ setup_given (configured_with settings config) cname items }
+    ensures fits { (config : Config) (settings : Settings) (cname : List ℕ) (items : List Item) →
+        length cname ≤ 255 →
+        oversize (configured_with settings config) cname items ≡ oversize_of_settings settings items }
+{}
 
 /// Begun with 0, and gone on with the SSRC told and 1, the changes between two listings are told in order,
 /// each once.

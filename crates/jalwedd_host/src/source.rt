@@ -48,6 +48,10 @@ pub struct Source {
     pub member: u32,
     /// 1 if it sends RTP packets, else 0.
     pub sender: u32,
+    /// The units a second of the clock of its newest packet that was counted, in which `jitter` is: 0 where none was.
+    pub rate: u32,
+    /// 0: with it the size is a multiple of 8.
+    pub reserved: u32,
 }
 
 /// What is told of the last report block about a source.
@@ -84,6 +88,8 @@ impl Source {
             ssrc: state.ssrc,
             member: u32::from(state.is_member),
             sender: u32::from(state.is_sender),
+            rate: reception.rate,
+            reserved: 0,
         }
     }
 }
@@ -110,6 +116,7 @@ fn received(reception: Option<Reception>) -> Reception
             lost: 0,
             highest: 0,
             jitter: 0,
+            rate: 0,
         },
     }
 }

@@ -33,6 +33,9 @@ pub const NOT_RISING: u32 = 10;
 /// The CNAME is refused (C1).
 pub const CNAME: u32 = 11;
 
+/// A clock is refused (C5), or there are too many.
+pub const RATE: u32 = 15;
+
 /// An item is refused (C6), or there are too many.
 pub const ITEM: u32 = 16;
 
@@ -63,6 +66,7 @@ pub(crate) fn of_refusal(refusal: &Refusal) -> u32
         Refusal::Wire(_) => NO_COMPOUND,
         Refusal::Rtp(_) => NO_RTP,
         Refusal::OwnSsrc => 7,
+        Refusal::Settings(error) => of_error(*error),
     }
 }
 
@@ -75,7 +79,7 @@ pub fn of_error(error: ConfigError) -> u32
         ConfigError::Capacity => 12,
         ConfigError::Limit => 13,
         ConfigError::Bandwidth => 14,
-        ConfigError::Rate => 15,
+        ConfigError::Rate => RATE,
         ConfigError::Item => ITEM,
     }
 }

@@ -19,7 +19,7 @@ mod report_before;
 mod words;
 
 use jalwedd::record::{command, Call};
-use jalwedd::{ntp_of, Clock, Config, Item, ItemKind, Moment, Participant, SourceState, Step};
+use jalwedd::{ntp_of, Clock, Config, Item, ItemKind, Moment, Participant, RtpClocks, SourceState, Step};
 use link::{Arrival, Link, Port};
 use notes::{Note, Notes};
 use recorder::Recorder;
@@ -92,6 +92,7 @@ fn begin(mut words: Words, link: Link, record: Option<&String>) -> Result<Player
         sender_bw: 100,
         receiver_bw: 300,
         rate: 8000,
+        clocks: RtpClocks::NONE,
     };
     let (items, word) = ([Item::new(ItemKind::Tool, b"jalwedd")?], words.draw());
     let session = Participant::new(&config, CNAME, &items, word)?;
@@ -185,7 +186,7 @@ impl Player {
         let Step { members, senders, .. } = self.session.step();
         println!("{:.1} s: {members} members, of whom {senders} send", Duration::from(now).as_secs_f64());
         for source in self.session.sources() {
-            print_source(&source, self.notes.found(source.ssrc), self.config.rate);
+            print_source(&source, self.notes.found(source.ssrc));
         }
     }
 
@@ -204,7 +205,7 @@ impl Player {
     }
 }
 
-fn print_source(source: &SourceState, note: Option<&Note>, rate: u32) {
+fn print_source(source: &SourceState, note: Option<&Note>) {
     let cname = note.map_or("?", |note| &note.cname);
     let reception = source.reception.unwrap_or_default();
     print!(
@@ -214,7 +215,7 @@ fn print_source(source: &SourceState, note: Option<&Note>, rate: u32) {
         reception.received,
         reception.octets,
         reception.lost,
-        f64::from(reception.jitter) * 1e3 / f64::from(rate)
+        f64::from(reception.jitter) * 1e3 / f64::from(reception.rate.max(1))
     );
     if let Some(block) = source.last_block {
         print!("; we report loss {:.1} %", f64::from(block.fraction) / 2.56);

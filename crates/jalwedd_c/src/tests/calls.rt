@@ -3,7 +3,8 @@
 use super::*;
 use crate::begin::{jalwedd_free, jalwedd_new};
 use crate::calls::{
-    jalwedd_arrive_rtcp, jalwedd_arrive_rtp, jalwedd_leave, jalwedd_sent_rtp, jalwedd_tick,
+    jalwedd_arrive_rtcp, jalwedd_arrive_rtp, jalwedd_configure, jalwedd_forget, jalwedd_leave,
+    jalwedd_sent_rtp, jalwedd_tick,
 };
 use crate::views::{
     jalwedd_entries, jalwedd_members, jalwedd_next, jalwedd_senders, jalwedd_source, jalwedd_ssrc,
@@ -23,9 +24,32 @@ pub(super) enum Call<'a> {
     Sent(u64, u32, u32),
     /// A tick at a moment, with two words 0.
     Tick(u64),
+    /// Other settings and items, at a moment.
+    Configure(u64, Changed<'a>, &'a [Item]),
+    /// A source that is to be forgotten, at a moment.
+    Forget(u64, u32),
     /// A leave at a moment, with the word 0.
     Leave(u64),
     Free,
+}
+
+/// The settings of a row.
+#[derive(Clone, Copy)]
+pub(super) struct Changed<'a> {
+    pub(super) sender_bw: u32,
+    pub(super) receiver_bw: u32,
+    pub(super) clocks: Clocks<'a>,
+}
+
+impl Changed<'_> {
+    fn settings(&self) -> Settings {
+        Settings {
+            sender_bw: self.sender_bw,
+            receiver_bw: self.receiver_bw,
+            clock_count: self.clocks.count,
+            clocks: self.clocks.room(),
+        }
+    }
 }
 
 impl Call<'_> {
@@ -55,6 +79,11 @@ impl Call<'_> {
                 jalwedd_sent_rtp(alloc, handle, on(now), timestamp, size, step, octets)
             }
             Call::Tick(now) => jalwedd_tick(alloc, handle, on(now), 0, 0, step, octets),
+            Call::Configure(now, changed, items) => {
+                let settings = changed.settings();
+                jalwedd_configure(alloc, handle, on(now), &settings, items, step, octets)
+            }
+            Call::Forget(now, ssrc) => jalwedd_forget(alloc, handle, on(now), ssrc, step, octets),
             Call::Leave(now) => jalwedd_leave(alloc, handle, on(now), 0, step, octets),
             Call::Free => {
                 *step = BLANK;

@@ -1,6 +1,7 @@
 //! Worked sessions, on clocks that show anything at the start: all is as from 0, shifted by that.
 
 use super::calls::{Call, NO_SOURCE, Row, Session};
+use super::settings::{MANY_CLOCKS, USUAL};
 use super::*;
 
 /// A clock of a host that has run for ten minutes.
@@ -9,7 +10,7 @@ const TEN_MINUTES: u64 = 600_000_000;
 /// CLOCK_REALTIME in November 2023: microseconds since 1970.
 const REALTIME: u64 = 1_700_000_000_000_000;
 
-const CLOCKS: &[u64] = &[0, 1, TEN_MINUTES, REALTIME, LATEST];
+pub(super) const CLOCKS: &[u64] = &[0, 1, TEN_MINUTES, REALTIME, LATEST];
 
 /// The sender report of a participant that sent one packet of 160 octets, with its CNAME `a`.
 const SENDER_REPORT: [u8; 40] = [
@@ -25,14 +26,16 @@ const BYE: [u8; 28] = [
 ];
 
 /// A sender report of source 5 without blocks, and its CNAME `a`.
-const OF_FIVE: [u8; 40] = [
+pub(super) const OF_FIVE: [u8; 40] = [
     0x80, 0xc8, 0, 6, 0, 0, 0, 5, 0, 0, 0, 9, 0x80, 0, 0, 0, 0, 0, 0x23, 0xf8, 0, 0, 0, 2, 0, 0, 1,
     0x40, // NTP and RTP timestamps, packets, octets
     0x81, 0xca, 0, 2, 0, 0, 0, 5, 1, 1, 0x61, 0,
 ];
 
 /// A BYE of source 7, after a receiver report of 5.
-const BYE_OF_SEVEN: [u8; 16] = [0x80, 0xc9, 0, 1, 0, 0, 0, 5, 0x81, 0xcb, 0, 1, 0, 0, 0, 7];
+pub(super) const BYE_OF_SEVEN: [u8; 16] = [
+    0x80, 0xc9, 0, 1, 0, 0, 0, 5, 0x81, 0xcb, 0, 1, 0, 0, 0, 7,
+];
 
 // RTP packets without payload: 1, 10 and 11 of source 9, and 12 of the own SSRC.
 const FIRST_OF_NINE: [u8; 12] = [0x80, 0, 0, 1, 0, 0, 0, 0, 0, 0, 0, 9];
@@ -44,7 +47,7 @@ const ELEVEN_OF_NINE: [u8; 12] = [0x80, 0, 0, 11, 0, 0, 0, 0, 0, 0, 0, 9];
 const TWELVE_OF_OURS: [u8; 12] = [0x80, 0, 0, 12, 0, 0, 0, 0, 0, 0, 0, 0xaa];
 
 /// The first interval is 2.5 s, of which the words 0 and 2^32 - 1 draw half and one and a half, over 1.21828.
-const BEGUN: Step = Step {
+pub(super) const BEGUN: Step = Step {
     next: 1_026_037,
     members: 1,
     ssrc: 0xaa,
@@ -57,7 +60,7 @@ const BEGUN_LATE: Step = Step {
 };
 
 /// One member sends RTP packets.
-const ONE_SENDER: Step = Step {
+pub(super) const ONE_SENDER: Step = Step {
     senders: 1,
     ..BEGUN
 };
@@ -76,7 +79,7 @@ const LEAVING: Step = Step {
 };
 
 /// A call that is taken, of which nothing is seen but a blank step.
-const ROW: Row<'static> = Row {
+pub(super) const ROW: Row<'static> = Row {
     calls: &[],
     status: 0,
     step: BLANK,
@@ -84,13 +87,13 @@ const ROW: Row<'static> = Row {
     sources: &[],
 };
 
-const BEGINS: Row<'static> = Row {
+pub(super) const BEGINS: Row<'static> = Row {
     calls: &[Call::New(0, 0)],
     step: BEGUN,
     ..ROW
 };
 
-const ENDS: Row<'static> = Row {
+pub(super) const ENDS: Row<'static> = Row {
     calls: &[Call::Free],
     ..ROW
 };
@@ -126,12 +129,14 @@ const LEAVES: Row<'static> = Row {
     ..ROW
 };
 
-/// The five calls at a moment.
+/// The seven calls at a moment.
 const AT_ZERO: &[Call<'static>] = &[
     Call::Rtcp(0, &OF_SEVEN),
     Call::Rtp(0, 1, 0, &FIRST_OF_NINE),
     Call::Sent(0, 0, 0),
     Call::Tick(0),
+    Call::Configure(0, USUAL, &[]),
+    Call::Forget(0, 7),
     Call::Leave(0),
 ];
 
@@ -140,6 +145,8 @@ const JUST_BEFORE: &[Call<'static>] = &[
     Call::Rtp(599_999_999, 1, 0, &FIRST_OF_NINE),
     Call::Sent(599_999_999, 0, 0),
     Call::Tick(599_999_999),
+    Call::Configure(599_999_999, USUAL, &[]),
+    Call::Forget(599_999_999, 7),
     Call::Leave(599_999_999),
 ];
 
@@ -148,11 +155,13 @@ const AT_TEN_MINUTES: &[Call<'static>] = &[
     Call::Rtp(TEN_MINUTES, 1, 0, &FIRST_OF_NINE),
     Call::Sent(TEN_MINUTES, 0, 0),
     Call::Tick(TEN_MINUTES),
+    Call::Configure(TEN_MINUTES, USUAL, &[]),
+    Call::Forget(TEN_MINUTES, 7),
     Call::Leave(TEN_MINUTES),
 ];
 
 /// What is told where nobody is listed.
-const UNLISTED: &[(u64, u32, Source)] = &[(0, 9, NO_SOURCE)];
+pub(super) const UNLISTED: &[(u64, u32, Source)] = &[(0, 9, NO_SOURCE)];
 
 /// What an empty handle tells.
 const EMPTY: Row<'static> = Row {
@@ -345,6 +354,7 @@ const NINE: Source = Source {
     ssrc: 9,
     member: 1,
     sender: 1,
+    rate: 8_000,
     ..NOBODY
 };
 
@@ -367,6 +377,11 @@ const TOO_EARLY: &[Row<'static>] = &[
     Row {
         calls: &[Call::Rtp(0, 1, 0, &TOO_LONG)],
         status: 23,
+        ..BEGUN_IN_TEN_MINUTES
+    },
+    Row {
+        calls: &[Call::Configure(0, MANY_CLOCKS, &[])],
+        status: 15,
         ..BEGUN_IN_TEN_MINUTES
     },
     Row {

@@ -1,0 +1,39 @@
+-- The moment is counted from the start of the session that is held, and the settings are those that were filled in.
+use Rattle.std.proofs.Common.{◌≡◌, ◌∙◌, ℕ, [], refl, subst}
+use Rattle.rtcp_engine.specs.Acts.{configured}
+use Rattle.rtcp_engine.specs.Setups.{SettingsValue}
+use Rattle.jalwedd_host.specs.Configs.{settings_given}
+use Rattle.jalwedd_host.specs.Promises.{Serves}
+use Rattle.jalwedd_host.proofs.LawLemmas.{session_of}
+use Rattle.jalwedd_c.proofs.Serving.{refuses_early, same_moment, serves}
+use Rattle.jalwedd_c.proofs.calls.jalwedd_configure.Goals as goal
+
+pub returns-in_default-moment_of-clause-early : goal.returns-in_default-moment_of-clause-early
+returns-in_default-moment_of-clause-early c fits =
+    let put = c.put_back_early.ensures in
+    refuses_early _ _ _ _ _ _ _ c.in-Some.ensures.gives put.held put.status put.nothing put.shown refl c.args.now
+
+pub returns-clause-serves : goal.returns-clause-serves
+returns-clause-serves c start moment history fits leads told =
+    let put = c.put_back.ensures in
+    let holds = session_of _ _ start history c.in-Some.ensures.gives leads in
+    let same = same_moment _ _ start history holds c.deref.ensures _ _ moment c.in-Some-moment_of.ensures told in
+    let settings = settings_given c.args.settings.now c.args.items.now in
+    let given = c.in_default-fill_settings.ensures.given refl in
+    let takes = c.configure_told-reply.ensures.takes [] in
+    subst (λ (m : ℕ). Serves start history (configured m settings) c.put_back.new.self.owned.held
+    c.put_back.result c.put_back.new.step c.args.octets.now c.put_back.new.octets) same
+    (subst (λ (s : SettingsValue). Serves start history (configured c.in-Some-moment_of.moment s)
+    c.put_back.new.self.owned.held c.put_back.result c.put_back.new.step c.args.octets.now c.put_back.new.octets) given
+    (serves _ _ _ start history holds c.deref_mut.ensures.value refl _ _ _ _ takes refl _ put.held _ _ _ _ put.status
+    put.handed put.shown))
+
+pub returns-in-Some-fill_settings-clause-turns_away : goal.returns-in-Some-fill_settings-clause-turns_away
+returns-in-Some-fill_settings-clause-turns_away c status is =
+    let put = c.put_back_untold.ensures in
+    let same : c.in-Some-fill_settings.status ≡ status = cc (c.in-Some-fill_settings.ensures.refused, is) in
+    record {
+      too_long = λ session held. (put.status ∙ same, put.nothing, refl);
+      still_shows = λ start history leads.
+          put.shown start history (session_of _ _ start history c.in-Some.ensures.gives leads);
+    }

@@ -1,0 +1,260 @@
+//! Other settings in a running session, worked by hand.
+
+use super::calls::{Call, Changed, NO_SOURCE, Row, Session};
+use super::sessions::{BEGINS, BEGUN, CLOCKS, ENDS, ONE_SENDER, ROW};
+use super::*;
+
+/// Those of `CONFIG`.
+pub(super) const USUAL: Changed<'static> = Changed {
+    sender_bw: 100,
+    receiver_bw: 300,
+    clocks: NO_CLOCKS,
+};
+
+pub(super) const MANY_CLOCKS: Changed<'static> = Changed {
+    clocks: SEVENTEEN_CLOCKS,
+    ..USUAL
+};
+
+/// A report of 20 octets, with headers of 28, takes 3 s of this bandwidth.
+const NARROW: Changed<'static> = Changed {
+    sender_bw: 16,
+    receiver_bw: 16,
+    ..USUAL
+};
+
+const TOO_NARROW: Changed<'static> = Changed {
+    receiver_bw: 15,
+    ..USUAL
+};
+
+/// A clock of payload type 96, and one that is not given.
+const VIDEO: Changed<'static> = Changed {
+    clocks: Clocks {
+        count: 1,
+        given: &[
+            Clock {
+                payload_type: 96,
+                rate: 90_000,
+            },
+            Clock {
+                payload_type: 97,
+                rate: 48_000,
+            },
+        ],
+    },
+    ..USUAL
+};
+
+/// A clock without a rate, and a bandwidth that is refused first.
+const STILL: Changed<'static> = Changed {
+    clocks: Clocks {
+        count: 1,
+        given: &[Clock {
+            payload_type: 96,
+            rate: 0,
+        }],
+    },
+    ..USUAL
+};
+
+const NARROW_AND_STILL: Changed<'static> = Changed {
+    sender_bw: 15,
+    ..STILL
+};
+
+/// A payload type that is no octet, and a bandwidth that is refused after it.
+const STRANGE_TYPE: Changed<'static> = Changed {
+    sender_bw: 15,
+    clocks: STRANGE_CLOCK,
+    ..USUAL
+};
+
+const NAME: Item = Item {
+    kind: 2,
+    size: 1,
+    text: [b'n'; 255],
+};
+
+/// A CNAME is none of the items.
+const CNAME: Item = Item { kind: 1, ..NAME };
+
+// RTP packets without payload of source 9: 10 to 12 of payload type 96, and one of type 97.
+const TEN: [u8; 12] = [0x80, 96, 0, 10, 0, 0, 0, 0, 0, 0, 0, 9];
+
+const ELEVEN: [u8; 12] = [0x80, 96, 0, 11, 0, 0, 0, 0, 0, 0, 0, 9];
+
+const TWELVE: [u8; 12] = [0x80, 97, 0, 12, 0, 0, 0, 0, 0, 0, 0, 9];
+
+const THIRTEEN: [u8; 12] = [0x80, 96, 0, 13, 0, 0, 0, 0, 0, 0, 0, 9];
+
+const WITH_NINE: Step = Step {
+    members: 2,
+    entries: 1,
+    ..ONE_SENDER
+};
+
+const HEARD: Row<'static> = Row {
+    step: WITH_NINE,
+    ..ROW
+};
+
+const NINE: Source = Source {
+    heard: 100_000,
+    received: 1,
+    highest: 11,
+    ssrc: 9,
+    member: 1,
+    sender: 1,
+    rate: 90_000,
+    ..NOBODY
+};
+
+/// Packets that come count by the clocks that are given then, and so does what was counted until one comes.
+const COUNTED: &[Row<'static>] = &[
+    BEGINS,
+    Row {
+        calls: &[Call::Configure(0, VIDEO, &[NAME])],
+        step: BEGUN,
+        ..ROW
+    },
+    Row {
+        calls: &[Call::Rtp(100_000, 9, 0, &TEN)],
+        step: Step {
+            entries: 1,
+            ..BEGUN
+        },
+        ..ROW
+    },
+    Row {
+        calls: &[Call::Rtp(100_000, 9, 0, &ELEVEN)],
+        step: Step {
+            others_changed: 1,
+            ..WITH_NINE
+        },
+        sources: &[(0, 0, NINE)],
+        ..ROW
+    },
+    Row {
+        calls: &[Call::Rtp(100_000, 9, 0, &TWELVE)],
+        sources: &[(
+            0,
+            0,
+            Source {
+                received: 2,
+                highest: 12,
+                rate: 8_000,
+                ..NINE
+            },
+        )],
+        ..HEARD
+    },
+    Row {
+        calls: &[
+            Call::Rtp(100_000, 9, 0, &THIRTEEN),
+            Call::Configure(100_000, USUAL, &[]),
+            Call::Configure(100_000, USUAL, &[]),
+        ],
+        sources: &[(
+            0,
+            0,
+            Source {
+                received: 3,
+                highest: 13,
+                ..NINE
+            },
+        )],
+        ..HEARD
+    },
+    ENDS,
+];
+
+/// With less bandwidth the first report is put off: to half of 3 s, over 1.21828.
+const PUT_OFF: &[Row<'static>] = &[
+    BEGINS,
+    Row {
+        calls: &[Call::Configure(0, NARROW, &[])],
+        step: BEGUN,
+        ..ROW
+    },
+    Row {
+        calls: &[Call::Tick(1_026_037)],
+        step: Step {
+            next: 1_231_245,
+            ..BEGUN
+        },
+        ..ROW
+    },
+    ENDS,
+];
+
+const UNTAKEN: Row<'static> = Row {
+    step: BEGUN,
+    sources: &[(0, 9, NO_SOURCE)],
+    ..ROW
+};
+
+/// What does not fit is told before all else, and then the first reason.
+const REFUSED: &[Row<'static>] = &[
+    BEGINS,
+    Row {
+        calls: &[
+            Call::Configure(0, MANY_CLOCKS, &[NAME; 8]),
+            Call::Configure(0, USUAL, &[NAME; 8]),
+            Call::Configure(0, USUAL, &[CNAME]),
+        ],
+        status: 16,
+        ..UNTAKEN
+    },
+    Row {
+        calls: &[
+            Call::Configure(0, MANY_CLOCKS, &[]),
+            Call::Configure(0, STRANGE_TYPE, &[]),
+            Call::Configure(0, STILL, &[CNAME]),
+        ],
+        status: 15,
+        ..UNTAKEN
+    },
+    Row {
+        calls: &[
+            Call::Configure(0, TOO_NARROW, &[CNAME]),
+            Call::Configure(0, NARROW_AND_STILL, &[]),
+        ],
+        status: 14,
+        ..UNTAKEN
+    },
+    // After 2^50 microseconds that is the reason.
+    Row {
+        calls: &[Call::Configure(1_125_899_906_842_625, TOO_NARROW, &[])],
+        status: 3,
+        ..UNTAKEN
+    },
+    ENDS,
+];
+
+static SESSIONS: [Session<'static>; 3] = [
+    Session {
+        name: "packets by other clocks",
+        clocks: CLOCKS,
+        rows: COUNTED,
+    },
+    Session {
+        name: "a report that is put off",
+        clocks: CLOCKS,
+        rows: PUT_OFF,
+    },
+    Session {
+        name: "settings that are refused",
+        clocks: CLOCKS,
+        rows: REFUSED,
+    },
+];
+
+/// Each row of each session holds.
+#[test]
+fn settings(rt: HostRuntime) {
+    let alloc = rt.alloc();
+    for session in &SESSIONS {
+        session.play(&rt, alloc);
+    }
+}
