@@ -260,6 +260,107 @@ static void full_tables(void)
     full_table(1024, 1022 * 12 / 20.0, repeat_heads);
 }
 
+/* ---- A full table, in which the host makes room */
+
+enum { MOST = 1024 };
+
+/* The sources that were listed last, by rising SSRC, and since when. */
+struct seen {
+    uint32_t ssrc;
+    uint64_t since;
+};
+
+struct listing {
+    struct seen seen[MOST];
+    size_t count;
+};
+
+/* Since when a source is listed: since now, if it was not before. `at` goes on with the SSRCs. */
+static uint64_t since(const struct listing *before, size_t *at, uint32_t ssrc, uint64_t now)
+{
+    while (*at < before->count && before->seen[*at].ssrc < ssrc)
+        ++*at;
+    return *at < before->count && before->seen[*at].ssrc == ssrc ? before->seen[*at].since : now;
+}
+
+/* As docs/EMBEDDING.md shows: if the table is full, forgets the source that was never valid and is listed for the
+ * longest time. Returns whether there was one. */
+static bool make_room(struct host *host, struct listing *listed, uint32_t capacity)
+{
+    static uint8_t octets[JALWEDD_OCTETS];
+    struct listing now = {.count = 0};
+    jalwedd_source_state source;
+    const struct seen *oldest = NULL;
+    size_t at = 0;
+    for (uint64_t from = 0; jalwedd_source(&host->session, from, &source) == JALWEDD_TAKEN; from = source.ssrc + 1ull) {
+        struct seen *seen = &now.seen[now.count++];
+        *seen = (struct seen){source.ssrc, since(listed, &at, source.ssrc, host->now)};
+        if (!source.member && source.left == JALWEDD_NEVER && (oldest == NULL || seen->since < oldest->since))
+            oldest = seen;
+    }
+    const bool makes = now.count == capacity && oldest != NULL;
+    if (makes)
+        jalwedd_forget(&host->session, host->now, oldest->ssrc, &host->step, octets);
+    *listed = now;
+    return makes;
+}
+
+/* An hour in which an attacker sends a report of each of so many invented sources each 20 seconds, without a CNAME, and
+ * a newcomer reports each 5 seconds from the first minute on, and says goodbye at the end. */
+struct crowded {
+    double after;                       /* how long after its first report the newcomer was a member, or -1 */
+    uint32_t members, forgotten, entries; /* at the end, in all, and the most */
+    bool stayed;                        /* the newcomer, from then on */
+};
+
+static struct crowded crowded(uint32_t capacity, uint32_t invented, bool makes_room)
+{
+    enum { FIRST = 60 };
+    static struct listing listed;
+    struct host host = begun(capacity, true, 1);
+    struct crowded hour = {.after = -1, .stayed = true};
+    uint8_t datagram[8];
+    listed.count = 0;
+    for (uint32_t turn = 0; turn < 3600; turn++) {
+        for (uint32_t other = turn % 20; other < invented; other += 20) {
+            put_report(datagram, INVENTED + other);
+            rtcp(&host, 0xbad, datagram, sizeof datagram);
+            if (makes_room)
+                hour.forgotten += make_room(&host, &listed, capacity);
+        }
+        if (turn >= FIRST && turn % 5 == 0) {
+            name(&host, NEWCOMER);
+            if (makes_room)
+                hour.forgotten += make_room(&host, &listed, capacity);
+        }
+        const bool is_member = state_of(&host, NEWCOMER).member;
+        if (is_member && hour.after < 0)
+            hour.after = turn - FIRST;
+        hour.stayed &= is_member || hour.after < 0;
+        hour.entries = host.step.entries > hour.entries ? host.step.entries : hour.entries;
+        pass(&host, (turn + 1ull) * SECOND);
+    }
+    hour.members = host.step.members;
+    jalwedd_free(&host.session);
+    return hour;
+}
+
+static void making_room(void)
+{
+    const struct crowded without = crowded(20, 20, false), with = crowded(20, 20, true);
+    const struct crowded large = crowded(1024, 2000, true);
+    printf("A table of 20 is kept full by reports of 20 invented sources, one a second, without a CNAME:\n");
+    told("what the attacker sends", 8, "octets a second", 0);
+    holds("a newcomer is kept out to the end", without.after < 0 && without.members == 1 && without.entries == 20);
+    printf("The host forgets whom it lists for the longest time of those who were never valid:\n");
+    told("the newcomer is a member after", with.after, "s", 0);
+    holds("at its first report, and it stays", with.after == 0 && with.stayed && with.members == 2);
+    told("sources that it forgets in an hour", with.forgotten, "", 0);
+    printf("The same for a table of 1,024, and 2,000 invented sources:\n");
+    holds("the newcomer is a member at its first report, and stays", large.after == 0 && large.stayed);
+    told("sources that it forgets in an hour", large.forgotten, "", 0);
+}
+
 /* ---- What is sent, whatever comes */
 
 /* A report with the host's own SSRC, from this peer. */
@@ -551,6 +652,7 @@ int main(void)
     names();
     leaving();
     full_tables();
+    making_room();
     collisions();
     storms();
     averages();

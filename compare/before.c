@@ -18,14 +18,14 @@ static void mix(const void *what, size_t size)
     digest ^= digest >> 29;
 }
 
-/* The sources that are listed. Such a structure has no padding. */
+/* The sources that are listed, as far as a source of 0.3 goes, which has no padding. */
 static void write_sources(jalwedd_handle *session)
 {
     jalwedd_source_state source;
     uint32_t count = 0;
     digest = 1;
     for (uint64_t from = 0; jalwedd_source(session, from, &source) == JALWEDD_TAKEN; from = (uint64_t)source.ssrc + 1) {
-        mix(&source, sizeof source);
+        mix(&source, offsetof(jalwedd_source_state, sender) + sizeof source.sender);
         count++;
     }
     printf(" sources=%" PRIu32 ":%016" PRIx64, count, digest);

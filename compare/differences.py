@@ -122,6 +122,13 @@ def ways_to_change(octets, answers):
         yield f"session with {number} changes"
 
 
+def ways_of_hosts(octets, answers):
+    """What a host said beside, and was taken."""
+    for line, answer in zip(lines_of(octets), answers.splitlines()[1:]):
+        if answer.startswith("ok") and line.startswith((b"configure ", b"forget ")):
+            yield "settings" if line.startswith(b"configure ") else "dismissal"
+
+
 def kinds_of(octets, answers, fault):
     """How many answers there are of each kind."""
     kinds = re.findall("^(?:ok|refused E[0-9]+|start)", answers, re.M)
@@ -130,6 +137,7 @@ def kinds_of(octets, answers, fault):
     kinds += ["report with 31 blocks in its first packet" for _ in re.findall("report:9f", answers)]
     kinds += ways_to_leave(octets, answers)
     kinds += ways_to_change(octets, answers)
+    kinds += ways_of_hosts(octets, answers)
     if fault:
         kinds.append("usage" if fault == USAGE else re.sub("line [0-9]+: ", "", fault).strip())
     return collections.Counter(kinds)

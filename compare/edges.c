@@ -50,10 +50,16 @@ void rattle_dealloc(void *at)
     free(at);
 }
 
-static const jalwedd_config CONFIG = {0, 0, 0xaa, 1024, 1472, 100, 300, 8000};
+static const jalwedd_config CONFIG = {.ssrc = 0xaa, .capacity = 1024, .limit = 1472, .sender_bw = 100,
+                                      .receiver_bw = 300, .rate = 8000};
 
 /* an RR of 7 without blocks, and its SDES with the CNAME "a" */
 static const uint8_t OF_SEVEN[] = {0x80, 0xc9, 0, 1, 0, 0, 0, 7, 0x81, 0xca, 0, 2, 0, 0, 0, 7, 1, 1, 0x61, 0};
+
+static const jalwedd_settings SETTINGS = {.sender_bw = 100, .receiver_bw = 300};
+
+static const jalwedd_item NAMES[8] = {{2, 1, "n"}, {2, 1, "n"}, {2, 1, "n"}, {2, 1, "n"},
+                                      {2, 1, "n"}, {2, 1, "n"}, {2, 1, "n"}, {2, 1, "n"}};
 
 static int is_blank(const jalwedd_step *step)
 {
@@ -72,6 +78,8 @@ static int empty(void)
     HOLDS(jalwedd_arrive_rtp(&handle, 0, 1, 0, OF_SEVEN, sizeof OF_SEVEN, &step, octets) == JALWEDD_IS_EMPTY);
     HOLDS(jalwedd_sent_rtp(&handle, 0, 0, 0, &step, octets) == JALWEDD_IS_EMPTY);
     HOLDS(jalwedd_tick(&handle, 0, 0, 0, &step, octets) == JALWEDD_IS_EMPTY);
+    HOLDS(jalwedd_configure(&handle, 0, &SETTINGS, NAMES, 8, &step, octets) == JALWEDD_IS_EMPTY);
+    HOLDS(jalwedd_forget(&handle, 0, 7, &step, octets) == JALWEDD_IS_EMPTY && is_blank(&step));
     HOLDS(jalwedd_leave(&handle, 0, 0, &step, octets) == JALWEDD_IS_EMPTY);
     HOLDS(jalwedd_members(&handle) == 0 && jalwedd_senders(&handle) == 0 && jalwedd_ssrc(&handle) == 0);
     HOLDS(jalwedd_source(&handle, 0, &source) == JALWEDD_NO_SOURCE && source.ssrc == 99);
@@ -102,6 +110,15 @@ static int begun(void)
     config.receiver_bw = 15;
     HOLDS(jalwedd_new(&handle, &config, cname, 1, items, 2, 0, &step) == JALWEDD_BANDWIDTH);
     config = CONFIG;
+    config.clock_count = 17;
+    HOLDS(jalwedd_new(&handle, &config, cname, 0, items, 2, 0, &step) == JALWEDD_RATE);
+    HOLDS(jalwedd_new(&handle, &config, cname, 0, items, 8, 0, &step) == JALWEDD_ITEM);
+    config.clock_count = 1;
+    config.clocks[0] = (jalwedd_clock){256, 1};
+    HOLDS(jalwedd_new(&handle, &config, cname, 0, items, 2, 0, &step) == JALWEDD_RATE);
+    config.clocks[0] = (jalwedd_clock){255, 0};
+    HOLDS(jalwedd_new(&handle, &config, cname, 1, items, 2, 0, &step) == JALWEDD_RATE);
+    config = CONFIG;
     config.rate = 0;
     HOLDS(jalwedd_new(&handle, &config, cname, 1, items, 2, 0, &step) == JALWEDD_RATE && handle.at == NULL);
     HOLDS(jalwedd_new(&handle, &CONFIG, cname, 255, items, 2, 0, &step) == JALWEDD_TAKEN);
@@ -109,6 +126,57 @@ static int begun(void)
     HOLDS(jalwedd_new(&handle, &CONFIG, cname, 1, items, 2, 7, &step) == JALWEDD_IS_LIVE && step.next == 1026037);
     HOLDS(jalwedd_free(&handle) == JALWEDD_TAKEN && jalwedd_free(&handle) == JALWEDD_IS_EMPTY);
     HOLDS(handle.at == NULL);
+    return 0;
+}
+
+/* Settings that do not fit come before all else, and then those that a configuration may not have. */
+static int settings(void)
+{
+    jalwedd_handle handle = JALWEDD_EMPTY;
+    jalwedd_settings other = SETTINGS;
+    jalwedd_step step;
+    uint8_t octets[JALWEDD_OCTETS] = {0x5a};
+    const uint64_t too_far = ((uint64_t)1 << 50) + 1;
+    HOLDS(jalwedd_new(&handle, &CONFIG, OF_SEVEN + 18, 1, NAMES, 0, 0, &step) == JALWEDD_TAKEN);
+    HOLDS(jalwedd_configure(&handle, 5, &SETTINGS, NAMES, 7, &step, octets) == JALWEDD_TAKEN);
+    HOLDS(step.next == 1026037 && step.members == 1 && step.kind == 0 && step.others_changed == 0);
+    HOLDS(jalwedd_configure(&handle, 4, &SETTINGS, NAMES, 0, &step, octets) == JALWEDD_BACKWARDS);
+    HOLDS(jalwedd_configure(&handle, too_far, &SETTINGS, NAMES, 0, &step, octets) == JALWEDD_TOO_FAR);
+    other.clock_count = 17;
+    HOLDS(jalwedd_configure(&handle, too_far, &other, NAMES, 8, &step, octets) == JALWEDD_ITEM);
+    HOLDS(jalwedd_configure(&handle, too_far, &other, NAMES, 7, &step, octets) == JALWEDD_RATE);
+    other.clock_count = 1;
+    other.clocks[0] = (jalwedd_clock){256, 1};
+    HOLDS(jalwedd_configure(&handle, too_far, &other, NAMES, 0, &step, octets) == JALWEDD_RATE);
+    other.clocks[0] = (jalwedd_clock){255, 1 << 20};
+    HOLDS(jalwedd_configure(&handle, 5, &other, NAMES, 0, &step, octets) == JALWEDD_TAKEN);
+    other.clocks[0].rate = (1 << 20) + 1;
+    HOLDS(jalwedd_configure(&handle, 5, &other, NAMES, 0, &step, octets) == JALWEDD_RATE);
+    other.sender_bw = 15;
+    HOLDS(jalwedd_configure(&handle, 5, &other, NAMES, 0, &step, octets) == JALWEDD_BANDWIDTH);
+    HOLDS(step.next == 1026037 && step.kind == 0 && octets[0] == 0x5a);
+    HOLDS(jalwedd_free(&handle) == JALWEDD_TAKEN);
+    return 0;
+}
+
+/* A source that is forgotten has no entry, and comes as a new one. */
+static int forgotten(void)
+{
+    jalwedd_handle handle = JALWEDD_EMPTY;
+    jalwedd_source_state source;
+    jalwedd_step step;
+    uint8_t octets[JALWEDD_OCTETS] = {0x5a};
+    HOLDS(jalwedd_new(&handle, &CONFIG, OF_SEVEN + 18, 1, NAMES, 0, 0, &step) == JALWEDD_TAKEN);
+    HOLDS(jalwedd_arrive_rtcp(&handle, 5, 1, 0, OF_SEVEN, sizeof OF_SEVEN, &step, octets) == JALWEDD_TAKEN);
+    HOLDS(jalwedd_forget(&handle, 4, 7, &step, octets) == JALWEDD_BACKWARDS && step.members == 2);
+    HOLDS(jalwedd_forget(&handle, 5, 8, &step, octets) == JALWEDD_TAKEN && step.entries == 1);
+    HOLDS(jalwedd_forget(&handle, 6, 7, &step, octets) == JALWEDD_TAKEN && step.entries == 0 && step.members == 1);
+    HOLDS(step.others_changed == 1 && step.kind == 0 && step.next == 1026037 && octets[0] == 0x5a);
+    HOLDS(jalwedd_source(&handle, 0, &source) == JALWEDD_NO_SOURCE);
+    HOLDS(jalwedd_forget(&handle, 6, 7, &step, octets) == JALWEDD_TAKEN && step.others_changed == 0);
+    HOLDS(jalwedd_arrive_rtcp(&handle, 7, 1, 0, OF_SEVEN, sizeof OF_SEVEN, &step, octets) == JALWEDD_TAKEN);
+    HOLDS(step.members == 2 && jalwedd_source(&handle, 0, &source) == JALWEDD_TAKEN && source.heard == 7);
+    HOLDS(jalwedd_free(&handle) == JALWEDD_TAKEN);
     return 0;
 }
 
@@ -178,6 +246,8 @@ static int sizes(void)
         HOLDS(jalwedd_new(&handle, &CONFIG, padded, 1, items, most[at], 0, &step) == JALWEDD_ITEM);
     }
     HOLDS(jalwedd_new(&handle, &CONFIG, padded, 1, items, 0, 0, &step) == JALWEDD_TAKEN);
+    for (size_t at = 0; at < 4; at++)
+        HOLDS(jalwedd_configure(&handle, 0, &SETTINGS, items, most[at], &step, octets) == JALWEDD_ITEM);
     HOLDS(jalwedd_arrive_rtp(&handle, 0, 1, 0, padded, sizeof PADDED, &step, octets) == JALWEDD_TAKEN);
     HOLDS(step.entries == 1 && step.members == 1);
     const uint64_t next = step.next;
@@ -492,6 +562,6 @@ static int memory(void)
 
 int main(void)
 {
-    return empty() || begun() || lengths() || sizes() || reports() || parts() || apps() || heads() || no_parts()
-           || sources() || source_states() || changes() || listings() || memory();
+    return empty() || begun() || settings() || forgotten() || lengths() || sizes() || reports() || parts() || apps()
+           || heads() || no_parts() || sources() || source_states() || changes() || listings() || memory();
 }

@@ -14,6 +14,8 @@ FAULTY_BANDWIDTHS = ["0", "15", "1073741825", "4294967295", "4294967312", "68719
 PEERS = [0, 1, 2, 7, 8, 9, 5005, 2**32 - 1, 2**32, 139637976798093, 2**63, 2**64 - 2, 2**64 - 1]
 SEQUENCE_STEPS = [-65536, -101, -100, -99, -98, -2, -1, 0, 2, 3, 50, 2998, 2999, 3000, 3001, 32768]
 TEXT_SIZES = [0, 1, 2, 3, 4, 20, 254, 255]
+PAYLOAD_TYPES = [0, 8, 96, 71, 77]
+RATES = [1, 7, 8000, 48000, 90000, 2**20]
 # A report's minimum intervals, the horizons that follow from these, and the stay of a goodbye.
 WAITS = [2_500_000, 5_000_000, 10_000_000, 12_500_000, 25_000_000]
 FAULTY_OPTIONS = [
@@ -30,6 +32,9 @@ FAULTY_OPTIONS = [
     ["--ntp", "000000000000000g"], ["--priv", "0"], ["--priv", "zz"], ["--priv", "00" * 256], ["--tool", "t" * 256],
     ["--note", "\u00e9" * 128], ["--word", "0000000"], ["--word", "0x000000"], ["--lines", "0"],
     ["--lines", "4294967296"], ["--lines", "000000000000000000001"], ["--lines", ""], ["--what", "1"], ["--tool"],
+    ["--clock", "8000"], ["--clock", "128:8000"], ["--clock", "0:4294967296"], ["--clock", "0:0"], ["--clock", ""],
+    ["--clock", "96:1048577"], ["--clock", "0:8000,8:8000"], ["--clock", "0:8000:1"], ["--clock", ":8000"],
+    ["--clock", "0:"], ["--clock", "+0:8000"], ["--clock", "000000000000000000000:8000"], ["--clock", "0:1"] * 17,
     ["word"], ["--ssrc", "00000000"], ["--cname", "a"], ["--help"],
 ]
 FAULTY_LINES = [
@@ -48,6 +53,18 @@ FAULTY_LINES = [
     b"\x00", b"tick 1 0000000\xc3\xa9 00000000", b"sent 1 1_0 0", b"leave", b"leave 1", b"leave 1 0000000",
     b"leave 1 0000000g", b"leave 1 00000000 00000000", b"leave 1 00000000 ", b"leave x 0", b"LEAVE 1 00000000",
     b"leave 18446744073709551616 00000000", b"leave 000000000000000000001 00000000", b"leave 1 00000000\r",
+    b"configure", b"configure 1 16 16 -", b"configure 1 16 16 - - ", b"configure 1 16 16 -  ", b"CONFIGURE 1 16 16 - -",
+    b"configure x x x x x", b"configure 1 4294967296 16 - -", b"configure 1 16 +16 - -", b"configure 1 16 16  zz",
+    b"configure 1 16 16 256:8000 -", b"configure 1 16 16 0:4294967296 -", b"configure 1 16 16 8000 -",
+    b"configure 1 16 16 0:8000, -", b"configure 1 16 16 0:8000:1 -", b"configure 1 16 16 0:8000\xb2 -",
+    b"configure 1 16 16 " + b",".join([b"0:1"] * 17) + b" zz",
+    b"configure 1 16 16 " + b",".join([b"0:1"] * 16) + b" zz",
+    b"configure 1 16 16 - ", b"configure 1 16 16 - 256:00", b"configure 1 16 16 - 2", b"configure 1 16 16 - 2:0",
+    b"configure 1 16 16 - 2:0g", b"configure 1 16 16 - 2:00,", b"configure 1 16 16 - 2:" + b"00" * 256,
+    b"configure 1 16 16 - " + b",".join([b"2:"] * 8), b"configure 1 16 16 - 2:\r", b"configure 1 16 16 - 2:00:00",
+    b"forget", b"forget 1", b"forget 1 0000000", b"forget 1 000000000", b"forget 1 00000000 ", b"forget x 0",
+    b"forget 1 00000000 00000000", b"FORGET 1 00000000", b"forget 18446744073709551616 00000000",
+    b"forget 1 0x000000",
 ]
 
 
@@ -81,7 +98,8 @@ def random_options(rng, own, capacities):
     options.append(["--capacity", str(rng.choice(capacities))])
     options.append(["--limit", str(rng.choice([576, 580, 600, 1000, 1468, 1472]))])
     options += random_bandwidths(rng)
-    options.append(["--rate", str(rng.choice([1, 7, 8000, 48000, 90000, 2**20]))])
+    options.append(["--rate", str(rng.choice(RATES))])
+    options += [["--clock", f"{kind}:{rate}"] for kind, rate in random_clocks(rng, 128, RATES)]
     options.append(["--ntp", number(rng, 8).hex()])
     options.append(["--word", f"{random_word(rng):08x}"])
     for item in ("name", "email", "phone", "loc", "tool", "note"):
@@ -111,6 +129,34 @@ def random_bandwidths(rng):
     if rng.randrange(25) == 0:
         values[rng.choice(list(values))] = rng.choice(FAULTY_BANDWIDTHS)
     return [[option, str(value)] for option, value in values.items()]
+
+
+def random_clocks(rng, types, rates):
+    """Payload types with their rates, mostly few: some are those of packets that come, and some have two."""
+    count = choose(rng, (5, 0), (3, rng.randrange(1, 4)), (1, rng.randrange(17)))
+    return [(choose(rng, (5, rng.choice(PAYLOAD_TYPES)), (1, rng.randrange(types))), rng.choice(rates))
+            for _ in range(count)]
+
+
+def listed(values):
+    """As a field of a line: a hyphen where there are none."""
+    return ",".join(values) or "-"
+
+
+def random_settings(rng):
+    """Two bandwidths, clocks and items, as a line has them. Now and then no session may have them."""
+    bandwidths = [rng.choice(BANDWIDTHS), rng.choice(BANDWIDTHS)]
+    rates, kinds, types = RATES, range(2, 9), 256 if rng.randrange(4) == 0 else 128
+    if rng.randrange(12) == 0:
+        bandwidths[rng.randrange(2)] = rng.choice([0, 15, 2**30 + 1, 2**32 - 1])
+    if rng.randrange(12) == 0:
+        rates = [*RATES, 0, 2**20 + 1, 2**32 - 1]
+    if rng.randrange(12) == 0:
+        kinds = range(256)
+    count = choose(rng, (3, 0), (2, 1), (1, rng.randrange(8)))
+    items = [(rng.choice(kinds), number(rng, rng.choice(TEXT_SIZES)).hex()) for _ in range(count)]
+    clocks = listed(f"{kind}:{rate}" for kind, rate in random_clocks(rng, types, rates))
+    return f"{bandwidths[0]} {bandwidths[1]} {clocks} {listed(f'{kind}:{text}' for kind, text in items)}"
 
 
 def full_packet_limit(rng):
@@ -298,19 +344,29 @@ class History:
         payload = number(rng, rng.randrange(6)) + choose(rng, (6, b""), (1, b"\1"), (1, b"\0\0\0\4"))
         is_padded = payload and 1 <= payload[-1] <= len(payload) or rng.randrange(40) == 0
         first = 0x80 | len(csrcs) | (0x10 if extension else 0) | (0x20 if is_padded else 0)
-        kind = choose(rng, (20, rng.choice([0, 8, 96, 0x80, 71, 77])), (1, rng.randrange(256)))
+        kind = choose(rng, (20, rng.choice([*PAYLOAD_TYPES, 0x80])), (1, rng.randrange(256)))
         head = bytes([first, kind]) + (sequence % 65536).to_bytes(2, "big")
         return head + participant.words(timestamp, ssrc, *csrcs) + extension + payload
 
     def line(self):
         rng = self.rng
-        kind = choose(rng, (8, "rtp"), (5, "rtcp"), (2, "sent"), (8, "tick"))
+        kind = choose(rng, (8, "rtp"), (5, "rtcp"), (2, "sent"), (8, "tick"), (0.6, "configure"), (0.6, "forget"))
         if kind == "tick":
             return f"tick {self.tick_moment()} {random_word(rng):08x} {random_word(rng):08x}"
         if kind == "sent":
             octets = choose(rng, (5, 160), (1, rng.getrandbits(32)))
             return f"sent {self.advance()} {rng.getrandbits(32)} {octets}"
+        if kind == "configure":
+            return f"configure {self.advance()} {random_settings(rng)}"
+        if kind == "forget":
+            return self.forgetting_line()
         return self.datagram_line(kind, self.rtp_packet(self.pool()) if kind == "rtp" else compound(rng, self.pool()))
+
+    def forgetting_line(self):
+        """A host says that a source is gone, in most cases one that is there."""
+        rng, there = self.rng, list(self.model.sources) if self.model else []
+        ssrc = choose(rng, (6, rng.choice(there or POOL)), (2, rng.choice(POOL)), (1, self.identifier()))
+        return f"forget {self.advance()} {ssrc:08x}"
 
     def add(self, line):
         self.lines.append(line)
@@ -378,11 +434,13 @@ class History:
 
     def backoff_line(self):
         rng = self.rng
-        kind = choose(rng, (6, "farewell"), (4, "tick"), (1, "leave"), (3, "any"), (2, "colliding"))
+        kind = choose(rng, (6, "farewell"), (4, "tick"), (1, "leave"), (3, "any"), (2, "colliding"), (0.4, "settings"),
+                      (0.4, "forget"))
         if kind == "tick":
             return f"tick {self.tick_moment()} {random_word(rng):08x} {random_word(rng):08x}"
         makers = {"farewell": self.farewell_line, "leave": self.leave_line, "any": self.line,
-                  "colliding": self.colliding_line}
+                  "colliding": self.colliding_line, "forget": self.forgetting_line,
+                  "settings": lambda: f"configure {self.advance()} {random_settings(rng)}"}
         return makers[kind]()
 
     def add_flood(self):

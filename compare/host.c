@@ -33,6 +33,9 @@ static const char *const REASONS[] = {"",       "Short",   "Version", "FirstType
 
 static const char *const REFUSALS[] = {"", "Left", "Backwards", "TooFar", "TooMany", "Wire", "Rtp", "OwnSsrc"};
 
+/* Why settings are refused, from JALWEDD_BANDWIDTH on. */
+static const char *const SETTINGS[] = {"C4 Bandwidth", "C5 Rate", "C6 Item"};
+
 /* A moment that is told, as one from the start on. */
 static uint64_t since_start(uint64_t told)
 {
@@ -69,8 +72,8 @@ static void write_source(const jalwedd_source_state *source)
     printf("  %08" PRIx32 " member=%" PRIu32 " sender=%" PRIu32, source->ssrc, source->member, source->sender);
     write_moment("heard", source->heard);
     write_moment("left", source->left);
-    printf(" received=%" PRIu64 " lost=%" PRId32 " highest=%" PRIu32 " jitter=%" PRIu32, source->received, source->lost,
-           source->highest, source->jitter);
+    printf(" received=%" PRIu64 " lost=%" PRId32 " highest=%" PRIu32 " jitter=%" PRIu32 " rate=%" PRIu32,
+           source->received, source->lost, source->highest, source->jitter, source->rate);
     write_moment("told", source->told);
     printf(" ntp=%016" PRIx64 " rtp=%08" PRIx32 " octets=%" PRIu64, source->ntp, source->rtp, source->octets);
     /* without a block both numbers have to be 0 */
@@ -124,6 +127,10 @@ static void write_answer(uint32_t status, const jalwedd_step *step, const uint8_
         printf("refused TooLong");
         return;
     }
+    if (status >= JALWEDD_BANDWIDTH && status <= JALWEDD_ITEM) {
+        printf("refused E8 Settings: %s", SETTINGS[status - JALWEDD_BANDWIDTH]);
+        return;
+    }
     if (status != JALWEDD_TAKEN) {
         printf("refused E%" PRIu32 " %s", status, REFUSALS[status]);
         if (status == JALWEDD_NO_COMPOUND)
@@ -140,11 +147,13 @@ static void write_answer(uint32_t status, const jalwedd_step *step, const uint8_
 
 /* ---- Calls before the start */
 
-/* One of the five calls, at this moment, which is recorded too. */
+/* One of the seven calls, at this moment, which is recorded too. */
 static uint32_t call_of(uint64_t kind, jalwedd_handle *session, uint64_t now, jalwedd_step *step, uint8_t *octets)
 {
     static const uint8_t report[] = {0x80, 0xc9, 0, 1, 0, 0, 0, 7}, packet[12] = {0x80, 0, 0, 1};
-    switch (kind % 5) {
+    static const jalwedd_settings settings = {.sender_bw = 1 << 20, .receiver_bw = 16};
+    static const jalwedd_item no_item;
+    switch (kind % 7) {
     case 0:
         jalwedd_record_arrive_rtcp(&calls, now, 7, 9, report, sizeof report);
         return jalwedd_arrive_rtcp(session, now, 7, 9, report, sizeof report, step, octets);
@@ -157,6 +166,12 @@ static uint32_t call_of(uint64_t kind, jalwedd_handle *session, uint64_t now, ja
     case 3:
         jalwedd_record_tick(&calls, now, 7, 9);
         return jalwedd_tick(session, now, 7, 9, step, octets);
+    case 4:
+        jalwedd_record_configure(&calls, now, &settings, &no_item, 0);
+        return jalwedd_configure(session, now, &settings, &no_item, 0, step, octets);
+    case 5:
+        jalwedd_record_forget(&calls, now, 7);
+        return jalwedd_forget(session, now, 7, step, octets);
     default:
         jalwedd_record_leave(&calls, now, 9);
         return jalwedd_leave(session, now, 9, step, octets);
@@ -196,7 +211,19 @@ static uint64_t random_word(void)
 
 /* ---- The events */
 
-/* Tells the participant the event of a line, of at most five fields. */
+/* Tells the participant of other settings. */
+static uint32_t configure(jalwedd_handle *session, uint64_t now, char **fields, jalwedd_step *step, uint8_t *octets)
+{
+    jalwedd_settings settings = {.sender_bw = (uint32_t)strtoul(fields[2], NULL, 10),
+                                 .receiver_bw = (uint32_t)strtoul(fields[3], NULL, 10)};
+    jalwedd_item items[MOST_ITEMS];
+    settings.clock_count = read_clocks(fields[4], settings.clocks);
+    const size_t item_count = read_items(fields[5], items);
+    jalwedd_record_configure(&calls, now, &settings, items, item_count);
+    return jalwedd_configure(session, now, &settings, items, item_count, step, octets);
+}
+
+/* Tells the participant the event of a line, of at most six fields. */
 static void tell(jalwedd_handle *session, char **fields)
 {
     static uint8_t octets[JALWEDD_OCTETS];
@@ -236,6 +263,12 @@ static void tell(jalwedd_handle *session, char **fields)
         const uint32_t first = (uint32_t)strtoul(fields[2], NULL, 16), second = (uint32_t)strtoul(fields[3], NULL, 16);
         jalwedd_record_tick(&calls, now, first, second);
         status = jalwedd_tick(session, now, first, second, &step, octets);
+    } else if (strcmp(fields[0], "configure") == 0) {
+        status = configure(session, now, fields, &step, octets);
+    } else if (strcmp(fields[0], "forget") == 0) {
+        const uint32_t ssrc = (uint32_t)strtoul(fields[2], NULL, 16);
+        jalwedd_record_forget(&calls, now, ssrc);
+        status = jalwedd_forget(session, now, ssrc, &step, octets);
     } else {
         const uint32_t word = (uint32_t)strtoul(fields[2], NULL, 16);
         jalwedd_record_leave(&calls, now, word);
@@ -299,9 +332,9 @@ int main(int count, char **words)
     write_counts("start", &step);
     end_answer(&session, &step);
     while (fgets(line, sizeof line, stdin) != NULL) {
-        char *fields[5] = {"", "", "", "", ""};
+        char *fields[6] = {"", "", "", "", "", ""};
         size_t field = 0;
-        for (char *word = strtok(line, " \n"); word != NULL && field < 5; word = strtok(NULL, " \n"))
+        for (char *word = strtok(line, " \n"); word != NULL && field < 6; word = strtok(NULL, " \n"))
             fields[field++] = word;
         tell(&session, fields);
     }

@@ -9,7 +9,7 @@
 #include <stdlib.h>
 #include <string.h>
 
-enum { MOST_OCTETS = 65600, MOST_ITEMS = 7 };
+enum { MOST_OCTETS = 65600, MOST_ITEMS = 7, MOST_CLOCKS = 16 };
 
 struct options {
     jalwedd_config config;
@@ -48,6 +48,55 @@ static void add_item(struct options *options, uint8_t kind, const char *text, in
     memcpy(item->text, text, item->size);
 }
 
+/* Before 0.5 there were no clocks. */
+#if JALWEDD_VERSION_MAJOR > 0 || JALWEDD_VERSION_MINOR >= 5
+static jalwedd_clock clock_of(const char *text)
+{
+    const char *rate = strchr(text, ':');
+    return (jalwedd_clock){(uint32_t)strtoul(text, NULL, 10), rate == NULL ? 0 : (uint32_t)strtoul(rate + 1, NULL, 10)};
+}
+
+/* Reads clocks between commas, `-` as none, and returns how many there are. */
+static inline uint32_t read_clocks(const char *text, jalwedd_clock *clocks)
+{
+    uint32_t count = 0;
+    for (; text != NULL && strcmp(text, "-") != 0 && count < MOST_CLOCKS; text = strchr(text, ',')) {
+        text += *text == ',';
+        clocks[count++] = clock_of(text);
+    }
+    return count;
+}
+
+/* Reads items between commas, `-` as none, and returns how many there are. */
+static inline size_t read_items(char *text, jalwedd_item *items)
+{
+    size_t count = 0;
+    if (strcmp(text, "-") == 0)
+        return 0;
+    while (text != NULL && count < MOST_ITEMS) {
+        jalwedd_item *item = &items[count++];
+        char *end = strchr(text, ','), *octets = strchr(text, ':');
+        if (end != NULL)
+            *end++ = '\0';
+        item->kind = (uint8_t)strtoul(text, NULL, 10);
+        item->size = octets == NULL ? 0 : (uint8_t)unhex(octets + 1, item->text, sizeof item->text);
+        text = end;
+    }
+    return count;
+}
+
+static void add_clock(struct options *options, const char *text)
+{
+    if (options->config.clock_count < MOST_CLOCKS)
+        options->config.clocks[options->config.clock_count++] = clock_of(text);
+}
+#else
+static void add_clock(struct options *options, const char *text)
+{
+    (void)options, (void)text;
+}
+#endif
+
 static uint32_t at_most_32_bits(uint64_t number)
 {
     return number > UINT32_MAX ? UINT32_MAX : (uint32_t)number;
@@ -85,6 +134,8 @@ static void read_options(struct options *options, int count, char **words)
     for (int at = 0; at + 1 < count; at += 2) {
         if (strcmp(words[at], "--cname") == 0)
             options->cname = words[at + 1];
+        else if (strcmp(words[at], "--clock") == 0)
+            add_clock(options, words[at + 1]);
         else
             read_number(options, words[at], words[at + 1]);
     }

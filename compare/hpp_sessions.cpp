@@ -20,7 +20,7 @@ using listing = std::vector<jalwedd_source_state>;
  * that draw by the word 0, as docs/PROTOCOL.md has it */
 constexpr std::uint64_t START = 600'000'000, FIRST = START + 1'026'037;
 
-constexpr jalwedd_config CONFIG = {0xeead0eea00000000, START, 0xaa, 1024, 1472, 100, 300, 8000};
+constexpr jalwedd_config CONFIG = {0xeead0eea00000000, START, 0xaa, 1024, 1472, 100, 300, 8000, 0, {}, 0};
 
 static_assert(!std::is_copy_constructible_v<participant> && !std::is_copy_assignable_v<participant>);
 static_assert(std::is_nothrow_move_constructible_v<participant> && std::is_nothrow_move_assignable_v<participant>);
@@ -114,6 +114,7 @@ static int empty()
     HOLDS(none.arrive_rtp(0, 1, 0, &octet, 1, step, out) == JALWEDD_IS_EMPTY);
     HOLDS(none.sent_rtp(0, 0, 0, step, out) == JALWEDD_IS_EMPTY);
     HOLDS(none.tick(0, 0, 0, step, out) == JALWEDD_IS_EMPTY && none.leave(0, 0, step, out) == JALWEDD_IS_EMPTY);
+    HOLDS(none.configure(0, {}, step, out) == JALWEDD_IS_EMPTY && none.forget(0, 7, step, out) == JALWEDD_IS_EMPTY);
     HOLDS(none.members() == 0 && none.senders() == 0 && none.ssrc() == 0 && none.entries() == 0);
     HOLDS(none.next() == JALWEDD_NEVER && none.source(0, source) == JALWEDD_NO_SOURCE);
     HOLDS(none.sources().begin() == none.sources().end() && none.sources().status() == JALWEDD_NO_SOURCE);
@@ -247,6 +248,29 @@ static int before_the_start()
     return 0;
 }
 
+/* Settings, with items and without, and a source that is forgotten. */
+static int settled()
+{
+    static const std::uint8_t named[] = {0x80, 0xc9, 0, 1, 0, 0, 0, 7, 0x81, 0xca, 0, 2, 0, 0, 0, 7, 1, 1, 0x61, 0};
+    participant session = made(9);
+    jalwedd_step step;
+    std::uint8_t out[JALWEDD_OCTETS];
+    const jalwedd_settings narrow{16, 16, 1, {{96, 90000}}}, wrong{100, 15, 0, {}};
+    const std::vector<jalwedd_item> items(8, *jalwedd::item(2, "n"));
+    HOLDS(session.configure(START - 1, narrow, step, out) == JALWEDD_BACKWARDS);
+    HOLDS(session.configure(START, wrong, step, out) == JALWEDD_BANDWIDTH);
+    HOLDS(session.configure(START, narrow, items.data(), 8, step, out) == JALWEDD_ITEM);
+    HOLDS(session.configure(START, narrow, items.data(), 7, step, out) == JALWEDD_TAKEN && step.next == FIRST);
+    HOLDS(session.configure(START, narrow, step, out) == JALWEDD_TAKEN && step.kind == JALWEDD_NOTHING);
+    HOLDS(session.tick(FIRST, 0, 0, step, out) == JALWEDD_TAKEN && step.next == START + 1'231'245);
+    HOLDS(session.arrive_rtcp(FIRST, 1, 0, named, sizeof named, step, out) == JALWEDD_TAKEN && step.members == 2);
+    HOLDS(session.forget(START, 7, step, out) == JALWEDD_BACKWARDS && session.members() == 2);
+    HOLDS(session.forget(FIRST, 8, step, out) == JALWEDD_TAKEN && step.others_changed == 0);
+    HOLDS(session.forget(FIRST, 7, step, out) == JALWEDD_TAKEN && step.others_changed == 1);
+    HOLDS(session.members() == 1 && session.entries() == 0);
+    return 0;
+}
+
 /* Without items, and with another word than 0. */
 static int joined_without_items()
 {
@@ -313,6 +337,9 @@ static int called(pair& both, const std::string& call, std::uint64_t now, std::i
     } else if (call == "tick") {
         status = both.session.tick(now, first, second, both.step, both.out);
         other = jalwedd_tick(&both.other, now, first, second, &both.other_step, both.other_out);
+    } else if (call == "forget") {
+        status = both.session.forget(now, first, both.step, both.out);
+        other = jalwedd_forget(&both.other, now, first, &both.other_step, both.other_out);
     } else {
         HOLDS(call == "leave");
         status = both.session.leave(now, first, both.step, both.out);
@@ -408,6 +435,9 @@ static const std::vector<std::string> COLLISIONS = {
     "rtcp 1400000 9 000000de 80c90001000000dd",
     "rtcp 1400000 10 000000ee 80c90001000000dd",
     "rtcp 1400000 11 00000000 80c90001ffffffff81ca0002ffffffff01016100",
+    "forget 1400000 000000aa",
+    "forget 1400000 00000008",
+    "forget 1400000 00000008",
     "tick 1300000 00000000 00000000",
     "rtcp 1400000 9 00000000 -",
     "rtp 1400000 9 00000000 -",
@@ -444,7 +474,8 @@ static int changed()
 
 static int all_of(const std::string& samples)
 {
-    PASSES(empty() || refused() || items() || moved() || contained() || before_the_start() || joined_without_items());
+    PASSES(empty() || refused() || items() || moved() || contained() || before_the_start() || settled()
+           || joined_without_items());
     for (const char* name : {"conversation", "gstreamer", "leaving", "loop"})
         PASSES(answered_alike(lines_of(samples + "/" + name + ".replay")));
     PASSES(answered_alike(COLLISIONS));

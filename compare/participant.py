@@ -21,6 +21,7 @@ HEADERS = 28  # of UDP and IPv4
 BLOCKS_IN_A_PACKET = 31
 MOST_WITHOUT_BACKOFF, MOST_LEAVING = 50, 65_535
 MOST_CHANGES = 8  # of the identifier
+MOST_CLOCKS, MOST_ITEMS = 16, 7
 
 
 class Refusal(Exception):
@@ -104,9 +105,18 @@ def read_head(octets):
     return number(2, 2), number(4, 4), number(8, 4), [number(at, 4) for at in range(12, csrcs_end, 4)]
 
 
-def jitter_of(transits):
+def payload_type(octets):
+    return octets[1] & 0x7f
+
+
+def jitter_of(transits, rates):
+    """The jitter after packets with these transits, in units of clocks with these rates: it begins anew with each
+    packet whose clock has another rate than that of the packet before."""
     jitter = 0
-    for before, transit in zip(transits, transits[1:]):
+    for (before, transit), (rate_before, rate) in zip(zip(transits, transits[1:]), zip(rates, rates[1:])):
+        if rate != rate_before:
+            jitter = 0
+            continue
         ahead = (transit - before) % 2**32
         distance = min(ahead, 2**32 - ahead)
         jitter = jitter + distance - (jitter + 8) // 16
@@ -125,7 +135,8 @@ class Source:
         self.counted = []  # moments of all counted packets
         self.integers = []  # of the counted packets of the last run
         self.greatest = []  # the run's greatest integer after each of them
-        self.transits, self.sizes = [], []  # theirs, and the octets of their payloads
+        self.transits, self.rates = [], []  # theirs, and the units a second in which these count
+        self.sizes = []  # the octets of their payloads
         self.strays = []  # sequence numbers since the run began
         self.has_news = False
         self.reported = 0  # how many packets of the run came before the last block
@@ -148,7 +159,7 @@ class Source:
             return self.greatest[-1] + ahead - 65536
         return None
 
-    def take(self, sequence, transit, size, moment):
+    def take(self, sequence, transit, rate, size, moment):
         """Takes an RTP packet. Says whether it is counted."""
         integer = self.integer_near(sequence)
         if integer is None:
@@ -156,11 +167,12 @@ class Source:
                 self.strays.append(sequence)
                 return False
             integer = sequence
-            self.integers, self.greatest, self.transits, self.sizes = [], [], [], []
+            self.integers, self.greatest, self.transits, self.rates, self.sizes = [], [], [], [], []
             self.strays, self.reported = [], 0
         self.integers.append(integer)
         self.greatest.append(max(self.greatest[-1:] + [integer]))
         self.transits.append(transit)
+        self.rates.append(rate)
         self.sizes.append(size)
         self.counted.append(moment)
         self.has_news = self.is_sender = True
@@ -186,24 +198,25 @@ class Source:
         self.reported, self.has_news = received, False
         self.last_block = fraction, self.greatest[-1] % 2**32
         losses = fraction << 24 | self.lost() % 2**24
-        return words(ssrc, losses, self.greatest[-1], jitter_of(self.transits), last_report, delay)
+        return words(ssrc, losses, self.greatest[-1], jitter_of(self.transits, self.rates), last_report, delay)
 
     def reception(self):
-        """Received, lost, highest and jitter: zeros where no packet was counted."""
+        """Received, lost, highest, jitter and the rate of its clock: zeros where no packet was counted."""
         if not self.integers:
-            return 0, 0, 0, 0
-        return len(self.integers), self.lost(), self.greatest[-1] % 2**32, jitter_of(self.transits)
+            return 0, 0, 0, 0, 0
+        jitter = jitter_of(self.transits, self.rates)
+        return len(self.integers), self.lost(), self.greatest[-1] % 2**32, jitter, self.rates[-1]
 
     def told(self, ssrc):
         """The line that tells of it."""
         member, sender, left = int(self.is_member()), int(self.counts_as_sender()), self.left
-        received, lost, highest, jitter = self.reception()
+        received, lost, highest, jitter, rate = self.reception()
         came, ntp, rtp = self.sender_reports[-1] if self.sender_reports else ("-", 0, 0)
         block = "{}/{}".format(*self.last_block) if self.last_block else "-"
         return (f"  {ssrc:08x} member={member} sender={sender} heard={self.sightings[-1]}"
                 f" left={'-' if left is None else left} received={received} lost={lost} highest={highest}"
-                f" jitter={jitter} told={came} ntp={ntp:016x} rtp={rtp:08x} octets={sum(self.sizes) % 2**64}"
-                f" block={block}\n")
+                f" jitter={jitter} rate={rate} told={came} ntp={ntp:016x} rtp={rtp:08x}"
+                f" octets={sum(self.sizes) % 2**64} block={block}\n")
 
 
 # The participant
@@ -224,6 +237,9 @@ class Participant:
         """`options` has a value for each name of the table in docs/FORMATS.md, and `items`, the extra items."""
         self.options = options
         self.ssrc, self.rate = options["ssrc"], options["rate"]  # the SSRC is the present identifier
+        self.clocks, self.items = options["clock"], options["items"]
+        self.bandwidths = options["sender-bw"], options["receiver-bw"]
+        self.pace = *self.bandwidths, 0  # bandwidths by which checks go too, and until when
         self.earlier = []  # the identifiers before it
         self.listed = []  # the peers whose datagrams changed it
         self.packets_before, self.reports_before = 0, 0  # how many were sent before the last change
@@ -255,10 +271,25 @@ class Participant:
             return 0
         return int(self.is_sender) + sum(source.counts_as_sender() for source in self.sources.values())
 
-    def interval(self, is_sender):
+    def interval(self, is_sender, bandwidths=None):
         minimum = MINIMUM if self.reports and self.is_present() else SHORT_MINIMUM
         return deterministic_interval(self.members(), self.senders(), is_sender, self.average,
-                                      self.options["sender-bw"], self.options["receiver-bw"], minimum)
+                                      *(bandwidths or self.bandwidths), minimum)
+
+    def check_interval(self, moment):
+        """The interval by which a check goes, as a receiver's. For a while after settings were given it goes by the
+        bandwidths before these too: by the lesser ones."""
+        return self.interval(is_sender=False, bandwidths=self.paced(moment))
+
+    def paced(self, moment):
+        sender_bw, receiver_bw, until = self.pace
+        if moment >= until:
+            return self.bandwidths
+        return min(self.bandwidths[0], sender_bw), min(self.bandwidths[1], receiver_bw)
+
+    def rate_of(self, kind):
+        """The units a second of the clock of a payload type."""
+        return next((rate for one, rate in self.clocks if one == kind), self.rate)
 
     def roles(self):
         """Of each other member, whether it is a sender. All other sources are away."""
@@ -345,11 +376,11 @@ class Participant:
         if source and kind == "named":
             source.is_named = True
 
-    def take_packet(self, ssrc, sequence, timestamp, size, moment):
+    def take_packet(self, ssrc, sequence, timestamp, rate, size, moment):
         """Takes an RTP packet of a source. Says whether it is counted."""
         source = self.seen(ssrc, moment)
-        transit = (media_units(moment, self.rate) - timestamp) % 2**32
-        return source is not None and source.take(sequence, transit, size, moment)
+        transit = (media_units(moment, rate) - timestamp) % 2**32
+        return source is not None and source.take(sequence, transit, rate, size, moment)
 
     def move_average(self, size):
         self.average = (256 * (size + HEADERS) + 15 * self.average) // 16
@@ -387,7 +418,8 @@ class Participant:
         change = self.give_way(peer, word, [ssrc], csrcs)
         if not self.is_present():
             return self.end_call(moment, *change)
-        if self.step(self.take_packet, ssrc, sequence, timestamp, payload_size(octets), moment):
+        rate = self.rate_of(payload_type(octets))
+        if self.step(self.take_packet, ssrc, sequence, timestamp, rate, payload_size(octets), moment):
             for csrc in csrcs:
                 if csrc != self.ssrc:
                     self.step(self.seen, csrc, moment)
@@ -400,8 +432,30 @@ class Participant:
             self.is_sender = True
         return self.end_call(moment)
 
+    def configure(self, moment, sender_bw, receiver_bw, clocks, items):
+        self.begin_call(moment)
+        fault = settings_fault(sender_bw, receiver_bw, clocks, items)
+        if fault:
+            raise Refusal("E8 Settings: " + fault)
+        if self.is_present():
+            self.pace = *self.paced(moment), moment + 5 * self.check_interval(moment)
+        self.bandwidths, self.clocks, self.items = (sender_bw, receiver_bw), clocks, items
+        return self.end_call(moment)
+
+    def dismiss(self, ssrc):
+        if ssrc in self.sources and self.sources[ssrc].left is None:
+            del self.sources[ssrc]
+
+    def forget(self, moment, ssrc):
+        """A host says that a source is gone. One that said goodbye stays as long as it would."""
+        self.begin_call(moment)
+        if self.is_present():
+            self.step(self.dismiss, ssrc)
+            self.reconsider_departures(moment)
+        return self.end_call(moment)
+
     def check(self, moment):
-        interval = self.interval(is_sender=False)
+        interval = self.check_interval(moment)
         silent, idle = max(0, moment - 5 * interval), max(0, moment - 2 * interval)
         gone = max(0, moment + 1 - 5 * SECOND)
         for ssrc, source in list(self.sources.items()):
@@ -479,7 +533,7 @@ class Participant:
 
     def extra_items(self):
         """What the source description of the next report holds beside the CNAME."""
-        extra, number = self.options["items"], self.reports + 1
+        extra, number = self.items, self.reports + 1
         return [extra[(number // 3 - 1) % len(extra)]] if extra and number % 3 == 0 else []
 
     def description(self, extra):
@@ -535,6 +589,44 @@ def private_value(text):
     return bytes.fromhex(text.decode()) if re.fullmatch(b"([0-9a-fA-F]{2}){0,255}", text) else None
 
 
+def clock(text):
+    """A payload type and its rate."""
+    sides = re.fullmatch(b"([0-9]{1,20}):([0-9]{1,20})", text)
+    if sides and int(sides[1]) < 2**8 and int(sides[2]) < 2**32:
+        return int(sides[1]), int(sides[2])
+    return None
+
+
+def clock_option(text):
+    value = clock(text)
+    return value if value and value[0] <= 127 else None
+
+
+def item(text):
+    """The type of an item and its text."""
+    sides = re.fullmatch(b"([0-9]{1,20}):(([0-9a-fA-F]{2}){0,255})", text)
+    return (int(sides[1]), bytes.fromhex(sides[2].decode())) if sides and int(sides[1]) < 2**8 else None
+
+
+def values_of(value_of, most):
+    """At most so many values with commas between them, or a hyphen for none."""
+    def read(text):
+        values = [] if text == b"-" else [value_of(part) for part in text.split(b",")]
+        return values if len(values) <= most and None not in values else None
+    return read
+
+
+def settings_fault(sender_bw, receiver_bw, clocks, items):
+    """Why no session may have these settings, if none may."""
+    if not all(16 <= bandwidth <= 2**30 for bandwidth in (sender_bw, receiver_bw)):
+        return "C4 Bandwidth"
+    if not all(1 <= rate <= 2**20 for _, rate in clocks):
+        return "C5 Rate"
+    if not all(2 <= kind <= 8 for kind, _ in items):
+        return "C6 Item"
+    return None
+
+
 def datagram(text):
     if text == b"-":
         return b""
@@ -545,11 +637,13 @@ OPTIONS = {
     "ssrc": (hex_digits(8), None), "cname": (text_value, None), "capacity": (decimal(2**32), b"1024"),
     "limit": (decimal(2**32), b"1472"), "session-bps": (decimal(2**64), b"64000"),
     "sender-bw": (decimal(2**64), None), "receiver-bw": (decimal(2**64), None), "rate": (decimal(2**32), b"8000"),
+    "clock": (clock_option, None),
     "ntp": (hex_digits(16), b"0" * 16),
     **{name: (text_value, None) for name in ("name", "email", "phone", "loc", "tool", "note")},
     "priv": (private_value, None), "word": (hex_digits(8), b"0" * 8),
     "lines": (lambda text: decimal(2**32)(text) or None, b"65536"),
 }
+REPEATED = {"clock": MOST_CLOCKS}  # those that may be given again, and how often at most
 ITEM_TYPES = {"name": 2, "email": 3, "phone": 4, "loc": 5, "tool": 6, "note": 7, "priv": 8}
 
 LINES = {
@@ -558,22 +652,27 @@ LINES = {
     b"sent": (Participant.packet_sent, ("moment", "timestamp", "octets")),
     b"tick": (Participant.tick, ("moment", hex_digits(8), hex_digits(8))),
     b"leave": (Participant.leave, ("moment", hex_digits(8))),
+    b"configure": (Participant.configure, ("moment", "bandwidth", "bandwidth", "clocks", values_of(item, MOST_ITEMS))),
+    b"forget": (Participant.forget, ("moment", hex_digits(8))),
 }
-NUMBERS = {"moment": decimal(2**64), "peer": decimal(2**64), "timestamp": decimal(2**32), "octets": decimal(2**32)}
+NUMBERS = {"moment": decimal(2**64), "peer": decimal(2**64), "timestamp": decimal(2**32), "octets": decimal(2**32),
+           "bandwidth": decimal(2**32), "clocks": values_of(clock, MOST_CLOCKS)}
 
 
 def given_options(arguments):
-    """The options of a command line, by name, as octets."""
+    """The options of a command line, by name, as octets: of each its values, in their order."""
     given = {}
     if len(arguments) % 2:
         raise Usage
     for option, value in zip(arguments[::2], arguments[1::2]):
-        if not option.startswith("--") or option[2:] not in OPTIONS or option[2:] in given:
+        if not option.startswith("--") or option[2:] not in OPTIONS:
+            raise Usage
+        if option[2:] in given and option[2:] not in REPEATED:
             raise Usage
         if value.startswith("-") and value != "-":  # an option, so the one before has no value
             raise Usage
         try:
-            given[option[2:]] = value.encode()
+            given.setdefault(option[2:], []).append(value.encode())
         except UnicodeEncodeError:
             raise Usage
     if "ssrc" not in given or "cname" not in given:
@@ -584,10 +683,11 @@ def given_options(arguments):
 def configuration(arguments):
     given, options = given_options(arguments), {}
     for name, (value_of, default) in OPTIONS.items():
-        text = given.get(name, default)
-        options[name] = None if text is None else value_of(text)
-        if text is not None and options[name] is None:
+        texts = given.get(name, [] if default is None else [default])
+        values = [value_of(text) for text in texts]
+        if None in values or len(values) > REPEATED.get(name, 1):
             raise Fault("option " + name)
+        options[name] = values if name in REPEATED else next(iter(values), None)
     rtcp_bw = options["session-bps"] // 160
     for name, share in (("sender-bw", rtcp_bw // 4), ("receiver-bw", rtcp_bw - rtcp_bw // 4)):
         options[name] = share if options[name] is None else options[name]
@@ -598,10 +698,9 @@ def configuration(arguments):
         raise Fault("config C2 Capacity")
     if not 576 <= options["limit"] <= 1472 or options["limit"] % 4:
         raise Fault("config C3 Limit")
-    if not all(16 <= options[name] <= 2**30 for name in ("sender-bw", "receiver-bw")):
-        raise Fault("config C4 Bandwidth")
-    if not 1 <= options["rate"] <= 2**20:
-        raise Fault("config C5 Rate")
+    if fault := settings_fault(options["sender-bw"], options["receiver-bw"],
+                               [(None, options["rate"]), *options["clock"]], options["items"]):
+        raise Fault("config " + fault)
     return options
 
 

@@ -95,6 +95,67 @@ static int lines(void)
     return wrong | HOLDS(memory.writes == 7) | HOLDS(!record.failed);
 }
 
+/* ---- Settings, and sources that are forgotten */
+
+static const jalwedd_clock CLOCKS[3] = {{96, 90000}, {0, 0}, {255, UINT32_MAX}};
+
+static jalwedd_item item(uint8_t kind, const char *text, size_t size)
+{
+    jalwedd_item made;
+    made.kind = kind;
+    made.size = (uint8_t)size;
+    memset(made.text, 0xff, sizeof made.text);
+    memcpy(made.text, text, size);
+    return made;
+}
+
+static int settings_lines(void)
+{
+    const jalwedd_item items[8] = {item(8, "\0'\xff", 3), item(2, "", 0), item(0, "a,", 2), item(255, ":", 1)};
+    jalwedd_settings settings = {.sender_bw = UINT32_MAX, .receiver_bw = 0};
+    jalwedd_record record = begun(SIZE_MAX);
+    int wrong = 0;
+    record.start = 5;
+    jalwedd_record_configure(&record, 4, &settings, items, 0);
+    jalwedd_record_configure(&record, 5, &settings, NULL, 0);
+    memcpy(settings.clocks, CLOCKS, sizeof CLOCKS);
+    settings.clock_count = 3;
+    jalwedd_record_configure(&record, 6, &settings, items, 4);
+    settings.clock_count = 1;
+    jalwedd_record_configure(&record, 6, &settings, items, 1);
+    jalwedd_record_forget(&record, 4, 7);
+    jalwedd_record_forget(&record, 7, 0xabcdef);
+    wrong |= HOLDS(is_text("configure 0 4294967295 0 - -\n"
+                           "configure 1 4294967295 0 96:90000,0:0,255:4294967295 8:0027ff,2:,0:612c,255:3a\n"
+                           "configure 1 4294967295 0 96:90000 8:0027ff\n"
+                           "forget 2 00abcdef\n"));
+    /* what does not fit a line has none, and is not read */
+    record = begun(SIZE_MAX);
+    jalwedd_record_configure(&record, 6, &settings, items, 8);
+    jalwedd_record_configure(&record, 6, &settings, items, SIZE_MAX);
+    settings.clock_count = 17;
+    jalwedd_record_configure(&record, 6, &settings, items, 1);
+    settings.clock_count = UINT32_MAX;
+    jalwedd_record_configure(&record, 6, &settings, items, 1);
+    settings.clock_count = 2;
+    settings.clocks[1].payload_type = 256;
+    jalwedd_record_configure(&record, 6, &settings, items, 1);
+    return wrong | HOLDS(memory.writes == 0) | HOLDS(!record.failed);
+}
+
+/* The longest line: 16 clocks and 7 items of 255 octets. */
+static int longest_settings(void)
+{
+    static jalwedd_item items[7];
+    static jalwedd_settings settings = {.clock_count = 16};
+    jalwedd_record record = begun(SIZE_MAX);
+    for (size_t at = 0; at < 7; at++)
+        items[at].size = 255;
+    jalwedd_record_configure(&record, 0, &settings, items, 7);
+    /* "configure 0 0 0 ", 16 of "0:0", 7 of "0:" and 510 digits, the commas, and what stands between and after */
+    return HOLDS(memory.size == 16 + 16 * 3 + 15 + 1 + 7 * 512 + 6 + 1) | HOLDS(memory.longest <= 256);
+}
+
 /* ---- Datagrams of each size up to 1,000 octets, of the most, and of more */
 
 static void arrive(jalwedd_record *record, size_t size)
@@ -171,7 +232,8 @@ static int failures(void)
 
 static int none(void)
 {
-    const jalwedd_config config = {0, 7, 1, 2, 3, 4, 5, 6};
+    const jalwedd_config config = {.start = 7, .ssrc = 1, .capacity = 2, .limit = 3, .sender_bw = 4, .receiver_bw = 5,
+                                   .rate = 6};
     jalwedd_record record = {NULL, NULL, 0, 0};
     three_calls(&record);
     return HOLDS(!record.failed) |
@@ -201,17 +263,8 @@ static int files(void)
 
 /* ---- Commands */
 
-static const jalwedd_config CONFIG = {0x0123456789abcdef, 0, 0xaa, 1024, 1472, 100, 300, 8000};
-
-static jalwedd_item item(uint8_t kind, const char *text, size_t size)
-{
-    jalwedd_item made;
-    made.kind = kind;
-    made.size = (uint8_t)size;
-    memset(made.text, 0xff, sizeof made.text);
-    memcpy(made.text, text, size);
-    return made;
-}
+static const jalwedd_config CONFIG = {.ntp_base = 0x0123456789abcdef, .ssrc = 0xaa, .capacity = 1024, .limit = 1472,
+                                      .sender_bw = 100, .receiver_bw = 300, .rate = 8000};
 
 static uint32_t commanded(const char *cname, size_t cname_size, const jalwedd_item *items, size_t item_count)
 {
@@ -237,6 +290,29 @@ static int comments(void)
         wrong |= HOLDS(is_text(wanted)) | HOLDS(!record.failed);
     }
     return wrong;
+}
+
+/* Each clock is an option, in their order. */
+static int clocks(void)
+{
+    const jalwedd_clock given[2] = {{96, 90000}, {127, UINT32_MAX}};
+    jalwedd_config config = CONFIG;
+    jalwedd_record record = begun(SIZE_MAX);
+    int wrong = 0;
+    memcpy(config.clocks, given, sizeof given);
+    config.clock_count = 2;
+    wrong |= HOLDS(jalwedd_record_command(&record, &config, (const uint8_t *)"a", 1, NULL, 0, 7) == JALWEDD_TAKEN);
+    wrong |= HOLDS(is_text("rtcp replay --ssrc 000000aa --cname 'a' --capacity 1024 --limit 1472 --sender-bw 100 "
+                           "--receiver-bw 300 --rate 8000 --clock 96:90000 --clock 127:4294967295 "
+                           "--ntp 0123456789abcdef --word 00000007 --lines 4294967295\n"));
+    record = begun(SIZE_MAX);
+    config.clock_count = 17;
+    wrong |= HOLDS(jalwedd_record_command(&record, &config, (const uint8_t *)"a", 1, NULL, 0, 7) == JALWEDD_RATE);
+    config.clock_count = 1;
+    config.clocks[0].payload_type = 128;
+    wrong |= HOLDS(jalwedd_record_command(&record, &config, (const uint8_t *)"a", 1, NULL, 0, 7) == JALWEDD_RATE);
+    wrong |= HOLDS(jalwedd_record_command(&record, &config, (const uint8_t *)"", 256, NULL, 0, 7) == JALWEDD_CNAME);
+    return wrong | HOLDS(memory.writes == 0) | HOLDS(!record.failed);
 }
 
 static int commands(void)
@@ -280,18 +356,23 @@ static void read_whole(void *to, size_t size)
     }
 }
 
-/* Reads one: the octets of the CNAME and of how many items, each number as an octet, and each item as it lies in C. */
+/* Reads one: the octets of the CNAME, of how many items and of how many clocks, each number as an octet, and each item
+ * and each clock as it lies in C, of which there are 16 at most. */
 static int command_given(jalwedd_record *record)
 {
+    jalwedd_config config = CONFIG;
     jalwedd_item items[7];
-    uint8_t cname[255], item_count;
+    uint8_t cname[255], item_count, clock_count;
     const int cname_size = getchar();
     if (cname_size == EOF)
         return 0;
     read_whole(cname, (size_t)cname_size);
     read_whole(&item_count, 1);
     read_whole(items, item_count * sizeof *items);
-    fprintf(stderr, "%u\n", jalwedd_record_command(record, &CONFIG, cname, (size_t)cname_size, items, item_count, 7));
+    read_whole(&clock_count, 1);
+    read_whole(config.clocks, (clock_count < 16 ? clock_count : 16) * sizeof *config.clocks);
+    config.clock_count = clock_count;
+    fprintf(stderr, "%u\n", jalwedd_record_command(record, &config, cname, (size_t)cname_size, items, item_count, 7));
     return 1;
 }
 
@@ -303,5 +384,6 @@ int main(int count, char **words)
             continue;
         return record.failed;
     }
-    return lines() | sizes() | failures() | none() | files() | comments() | commands();
+    return lines() | settings_lines() | longest_settings() | sizes() | failures() | none() | files() | comments() |
+           clocks() | commands();
 }

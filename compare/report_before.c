@@ -13,7 +13,8 @@
         }                                                                                                              \
     } while (0)
 
-static const jalwedd_config CONFIG = {0, 0, 0xaa, 1024, 1472, 100, 300, 8000};
+static const jalwedd_config CONFIG = {.ssrc = 0xaa, .capacity = 1024, .limit = 1472, .sender_bw = 100,
+                                      .receiver_bw = 300, .rate = 8000};
 
 /* packets of 7: an RR without blocks, its SDES with the CNAME "a", a BYE, an APP packet, and a PLI about 0xaa */
 #define RR 0x80, 201, 0, 1, 0, 0, 0, 7

@@ -567,7 +567,209 @@ BANDWIDTHS = [
     (["--sender-bw", "000000000000000000016", "--receiver-bw", "15"], "option sender-bw"),
 )]
 
-ALL = SESSIONS + LEAVING + CHANGING + BANDWIDTHS
+NAMED = "80c900010000000181ca00020000000101016100"
+CLOCKS = PLAIN + ["--clock", "96:90000", "--clock", "96:8000", "--clock", "97:8000"]
+
+
+def configure(moment, senders=100, others=300, clocks="-", items="-"):
+    return f"configure {moment} {senders} {others} {clocks} {items}"
+
+
+def forget(moment, ssrc):
+    return f"forget {moment} {ssrc:08x}"
+
+
+def of_9(moment, kind, sequence):
+    """A packet of the source 9, of this payload type, whose timestamp is 0."""
+    return f"rtp {moment} 1 00000000 80{kind:02x}{sequence:04x}0000000000000009"
+
+
+def on_9(sequence, jitter):
+    """The report on it, up to this sequence number."""
+    return REPORT_ON_9.replace(f"{11:08x}" + "0" * 8, f"{sequence:08x}{jitter:08x}")
+
+
+def counted_9(kind):
+    """The first two packets of the source 9, the second of which is counted."""
+    return [(of_9(0, kind, 10), ok(1, 0, 1026037)), (of_9(0, kind, 11), ok(2, 1, 1026037))]
+
+
+# In 20 milliseconds there are 1800 units of 90 kHz, and 160 of 8 kHz. A sixteenth of each difference counts.
+RATES = [
+    (CLOCKS, counted_9(96) + [
+        (of_9(20000, 96, 12), ok(2, 1, 1026037)),
+        (tick(1026037), ok(2, 1, 3078111, on_9(12, 1800 // 16))),
+    ], "", 0),
+    (CLOCKS, counted_9(0) + [
+        (of_9(20000, 0, 12), ok(2, 1, 1026037)),
+        (tick(1026037), ok(2, 1, 3078111, on_9(12, 10))),
+    ], "", 0),
+    # The marker bit is no part of the type.
+    (CLOCKS, counted_9(0x80 + 96) + [
+        (of_9(20000, 96, 12), ok(2, 1, 1026037)),
+        (tick(1026037), ok(2, 1, 3078111, on_9(12, 1800 // 16))),
+    ], "", 0),
+    # At a clock of another rate jitter begins anew,
+    (CLOCKS, counted_9(96) + [
+        (of_9(20000, 96, 12), ok(2, 1, 1026037)),
+        (of_9(20000, 0, 13), ok(2, 1, 1026037)),
+        (tick(1026037), ok(2, 1, 3078111, on_9(13, 0))),
+    ], "", 0),
+    (CLOCKS, counted_9(96) + [
+        (of_9(20000, 96, 12), ok(2, 1, 1026037)),
+        (of_9(20000, 0, 13), ok(2, 1, 1026037)),
+        (of_9(40000, 0, 14), ok(2, 1, 1026037)),
+        (tick(1026037), ok(2, 1, 3078111, on_9(14, 10))),
+    ], "", 0),
+    # and at another type of the same rate it goes on.
+    (CLOCKS, counted_9(97) + [
+        (of_9(20000, 0, 12), ok(2, 1, 1026037)),
+        (tick(1026037), ok(2, 1, 3078111, on_9(12, 10))),
+    ], "", 0),
+    # Clocks that come in the session hold for the packets that come after them.
+    (PLAIN, counted_9(96) + [
+        (configure(20000, clocks="96:90000"), ok(2, 1, 1026037)),
+        (of_9(20000, 96, 12), ok(2, 1, 1026037)),
+        (tick(1026037), ok(2, 1, 3078111, on_9(12, 0))),
+    ], "", 0),
+    (PLAIN, counted_9(96) + [
+        (configure(20000, clocks="96:90000"), ok(2, 1, 1026037)),
+        (of_9(20000, 96, 12), ok(2, 1, 1026037)),
+        (of_9(40000, 96, 13), ok(2, 1, 1026037)),
+        (tick(1026037), ok(2, 1, 3078111, on_9(13, 1800 // 16))),
+    ], "", 0),
+    (PLAIN + ["--clock", "0:1"] * 16, [], "", 0),
+    (PLAIN + ["--clock", "127:1048576", "--clock", "00:0000000000000000001"], [], "", 0),
+] + [(PLAIN + options, [(tick(0), None)], fault, 2) for options, fault in (
+    (["--clock", "0:0"], "config C5 Rate"),
+    (["--clock", "0:1", "--clock", "1:1048577"], "config C5 Rate"),
+    (["--clock", "0:0", "--sender-bw", "15"], C4),
+    (["--clock", "128:8000"], "option clock"),
+    (["--clock", "0:4294967296"], "option clock"),
+    (["--clock", "8000"], "option clock"),
+    (["--clock", "0:8000,8:8000"], "option clock"),
+    (["--clock", "0:8000:1"], "option clock"),
+    (["--clock", ""], "option clock"),
+    (["--clock", "0:1"] * 17, "option clock"),
+    (["--clock", "0:1", "--clock", "x", "--ntp", "x"], "option clock"),
+    (["--clock", "x", "--rate", "x"], "option rate"),
+)]
+
+SETTINGS = [
+    (PLAIN, [
+        (configure(5, senders=15), "refused E8 Settings: C4 Bandwidth"),
+        (configure(5, others=2**30 + 1, clocks="0:0"), "refused E8 Settings: C4 Bandwidth"),
+        (configure(5, clocks="0:8000,1:0", items="1:"), "refused E8 Settings: C5 Rate"),
+        (configure(5, clocks="0:1048577"), "refused E8 Settings: C5 Rate"),
+        (configure(5, items="1:61"), "refused E8 Settings: C6 Item"),
+        (configure(5, items="8:,9:"), "refused E8 Settings: C6 Item"),
+        (configure(4, 16, 2**30, "255:1048576", "2:,8:"), ok(1, 0, 1026037)),
+        (configure(3, senders=15), "refused E2 Backwards"),
+        (leave(5), LEFT),
+        (configure(5, senders=15), "refused E1 Left"),
+        (forget(5, 1), "refused E1 Left"),
+    ], "", 0),
+    # The next interval goes by the new bandwidths, and the timer stays until then.
+    (PLAIN, [
+        (configure(0, 16, 16), ok(1, 0, 1026037)),
+        (tick(1026037), ok(1, 0, 1231245)),
+        (tick(1231245), ok(1, 0, 3283319, REPORT)),
+    ], "", 0),
+    # Items come and go.
+    (PLAIN, [
+        (configure(0, items="6:74"), ok(1, 0, 1026037)),
+        (tick(1026037), ok(1, 0, 3078111, REPORT)),
+        (tick(3078111), ok(1, 0, 5130185, REPORT)),
+        (tick(5130185), ok(1, 0, 7182259, REPORT_WITH_TOOL)),
+    ], "", 0),
+    (TOOL, [
+        (tick(1026037), ok(1, 0, 3078111, REPORT)),
+        (tick(3078111), ok(1, 0, 5130185, REPORT)),
+        (configure(3078111), ok(1, 0, 5130185)),
+        (tick(5130185), ok(1, 0, 7182259, REPORT)),
+    ], "", 0),
+    # By 16 octets a second a source may be silent for 30 seconds, by 300 for 12.5, and for 25 after a report. The
+    # former 30 hold for that long after a change.
+    (SLOW, [
+        (f"rtcp 0 1 00000000 {NAMED}", ok(2, 0, 1231245)),
+        (configure(1000000), ok(2, 0, 1231245)),
+        (tick(13500001), ok(2, 0, 15552075, REPORT)),
+        (tick(15552075), ok(2, 0, 17604149, REPORT)),
+        (tick(30000000), ok(2, 0, 32052074, REPORT)),
+        (tick(30000001), ok(1, 0, 31026037)),
+    ], "", 0),
+    (SLOW, [
+        (f"rtcp 0 1 00000000 {NAMED}", ok(2, 0, 1231245)),
+        (configure(1000000), ok(2, 0, 1231245)),
+        (f"rtcp 5500000 1 00000000 {NAMED}", ok(2, 0, 1231245)),
+        (tick(30999999), ok(2, 0, 33052073, REPORT)),
+        (tick(31000000), ok(1, 0, 32026036)),
+    ], "", 0),
+    # In a backoff settings change no timer, and nobody is there to be gone. The BYE is reconsidered by the new
+    # bandwidth: 56 octets at 16 a second.
+    (PLAIN, BACKOFF + [
+        (configure(10000000, 16, 16), ok(1, 0, 11026037)),
+        (forget(10000000, 1), ok(1, 0, 11026037)),
+        (tick(11026037), ok(1, 0, 11436452)),
+        (tick(11436452), ok(0, 0, "-", BYE)),
+    ], "", 0),
+]
+
+DISMISSALS = [
+    (PLAIN, [
+        (f"rtcp 0 1 00000000 {NAMED}", ok(2, 0, 1026037)),
+        (forget(5, 2), ok(2, 0, 1026037)),
+        (forget(5, 0xaa), ok(2, 0, 1026037)),
+        (forget(4, 1), "refused E2 Backwards"),
+        (forget(2**50 + 1, 1), "refused E3 TooFar"),
+        (forget(5, 1), ok(1, 0, 1026037)),
+        (forget(5, 1), ok(1, 0, 1026037)),
+        (f"rtcp 5 1 00000000 {NAMED}", ok(2, 0, 1026037)),
+    ], "", 0),
+    # As after a goodbye the timer goes by those who are left.
+    (PLAIN, [
+        (f"rtcp 0 1 00000000 {NAMED}", ok(2, 0, 1026037)),
+        (tick(1026037), ok(2, 0, 3078111, REPORT)),
+        (forget(2026037, 1), ok(1, 0, 2552074)),
+        (tick(2552074), ok(1, 0, 3578111)),
+    ], "", 0),
+    # One that said goodbye stays until its time has come, and takes nothing until then.
+    (PLAIN, [
+        (f"rtcp 0 1 00000000 {NAMED}", ok(2, 0, 1026037)),
+        (f"rtcp 0 1 00000000 {GOODBYE_OF_1}", ok(1, 0, 1026037)),
+        (forget(0, 1), ok(1, 0, 1026037)),
+        (f"rtcp 0 1 00000000 {NAMED}", ok(1, 0, 1026037)),
+    ], "", 0),
+    # A sender is forgotten with what was counted of it.
+    (PLAIN, counted_9(0) + [
+        (forget(0, 9), ok(1, 0, 1026037)),
+        (of_9(0, 0, 12), ok(1, 0, 1026037)),
+        (of_9(0, 0, 13), ok(2, 1, 1026037)),
+        (tick(1026037), ok(2, 1, 3078111, on_9(13, 0))),
+    ], "", 0),
+]
+
+# Lines that are none: the fault of the second line.
+LINE_FAULTS = [(PLAIN, [(configure(0), ok(1, 0, 1026037)), (line, None)], f"line 2: {fault}", 2) for line, fault in (
+    ("configure 0 100 300 -", "X3 Words"),
+    ("configure 0 100 300 - - -", "X3 Words"),
+    ("forget 0", "X3 Words"),
+    ("configure x 100 300 - zz", "X5 Number"),
+    ("configure 0 4294967296 300 - zz", "X5 Number"),
+    ("configure 0 100 -1 - zz", "X5 Number"),
+    ("configure 0 100 300 256:1 zz", "X5 Number"),
+    ("configure 0 100 300 0:1, zz", "X5 Number"),
+    ("configure 0 100 300 " + ",".join(["0:1"] * 17) + " zz", "X5 Number"),
+    ("configure 0 100 300 " + ",".join(["0:1"] * 16) + " zz", "X4 Hex"),
+    ("configure 0 100 300 - 256:", "X4 Hex"),
+    ("configure 0 100 300 - 2:6", "X4 Hex"),
+    ("configure 0 100 300 - 2:" + "61" * 256, "X4 Hex"),
+    ("configure 0 100 300 - " + ",".join(["2:"] * 8), "X4 Hex"),
+    ("forget 0 0000001", "X4 Hex"),
+    ("forget x 0000001", "X5 Number"),
+)]
+
+ALL = SESSIONS + LEAVING + CHANGING + BANDWIDTHS + RATES + SETTINGS + DISMISSALS + LINE_FAULTS
 
 
 def expected(options, rows, fault):

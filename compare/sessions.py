@@ -345,6 +345,17 @@ class Session:
             place = max(self.place(), self.place())
             self.put(place, f"leave {self.moment(place)} {random_word(rng):08x}")
 
+    def add_settings(self):
+        place = self.place()
+        self.put(place, f"configure {self.moment(place)} {histories.random_settings(self.rng)}")
+
+    def add_dismissals(self):
+        """Sources of which a host says that they are gone, mostly known ones."""
+        rng = self.rng
+        for _ in range(choose(rng, (3, 1), (1, rng.randrange(1, 5)))):
+            place, ssrc = self.place(), choose(rng, (6, rng.choice(self.known())), (1, self.own))
+            self.put(place, f"forget {self.moment(place)} {ssrc:08x}")
+
     def break_line(self):
         """A line that is not of its form, or no longer."""
         rng, place = self.rng, max(self.place(), self.place())
@@ -423,7 +434,7 @@ CHANGES = [
     (4, "drop"), (4, "double"), (4, "exchange"), (3, "splice"), (4, "move_one"), (5, "move_rest"), (1, "move_to_limit"),
     (1, "stretch"), (3, "change_words"), (9, "change_datagrams"), (3, "add_datagram"), (4, "add_goodbyes"),
     (2, "add_audience"), (4, "add_run"), (0.8, "add_crowd"), (1, "add_farewell"), (2, "add_return"), (4, "add_ticks"),
-    (2, "add_sent"), (2, "add_leave"),
+    (2, "add_sent"), (2, "add_leave"), (2, "add_settings"), (2, "add_dismissals"),
 ]
 
 

@@ -96,8 +96,8 @@ class Shown:
         elif not source.is_member():
             text += " valid=no"
         if source.integers:
-            received, lost, _, jitter = source.reception()
-            jitter = time_text(jitter * SECOND // self.participant.rate)
+            received, lost, _, jitter, rate = source.reception()
+            jitter = time_text(jitter * SECOND // rate)
             text += f" packets={received} lost={lost} jitter={jitter}"
         if ssrc in self.trips:
             text += f" round-trip={time_text(self.trips[ssrc] * SECOND // 65536)}"

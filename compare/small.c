@@ -57,7 +57,8 @@ static uint8_t octets[JALWEDD_OCTETS];
 
 static void begin(jalwedd_handle *session, uint32_t capacity)
 {
-    const jalwedd_config config = {0, 0, 0xaa, capacity, 1472, 100, 300, 8000};
+    const jalwedd_config config = {.ssrc = 0xaa, .capacity = capacity, .limit = 1472, .sender_bw = 100,
+                                   .receiver_bw = 300, .rate = 8000};
     const jalwedd_item item = {2, 4, "name"};
     HOLDS(jalwedd_new(session, &config, (const uint8_t *)"a", 1, &item, 1, 1, &step) == JALWEDD_TAKEN);
 }
@@ -76,7 +77,7 @@ static void take_part(jalwedd_handle *session, uint32_t others)
     HOLDS(step.kind == JALWEDD_REPORT);
 }
 
-/* As the header says: 2,568 octets in one block and 144 for each source of the capacity in another, all of it as the
+/* As the header says: 2,720 octets in one block and 144 for each source of the capacity in another, all of it as the
  * session begins. */
 static void heap_by_capacity(void)
 {
@@ -88,7 +89,7 @@ static void heap_by_capacity(void)
         begin(&session, capacity);
         printf("heap at capacity %u: %zu octets in %zu blocks\n", capacity, octets_asked, blocks_asked);
         HOLDS(octets_asked == JALWEDD_MEMORY(capacity) && blocks_asked == 2);
-        HOLDS((asked_last == 2568) != (asked_before == 2568));
+        HOLDS((asked_last == 2720) != (asked_before == 2720));
         take_part(&session, capacity + 5);
         HOLDS(step.members == capacity + 1 && step.senders == capacity);
         HOLDS(blocks_asked == 2);

@@ -12,10 +12,12 @@ SENDER_REPORTS_OF_9 = ["80c8000600000009" + told["ntp"] + told["rtp"] + "00" * 8
 
 
 def source(ssrc, heard, member=0, sender=0, left="-", received=0, lost=0, highest=0, jitter=0, told="-", ntp="0" * 16,
-           rtp="0" * 8, octets=0, block="-"):
-    """What is told of a source. `block` is the fraction lost and the highest sequence number of the last block."""
+           rtp="0" * 8, octets=0, block="-", rate=8000):
+    """What is told of a source. `block` is the fraction lost and the highest sequence number of the last block, and
+    `rate` that of the clock of the newest packet that was counted, if one was."""
     return (f"  {ssrc:08x} member={member} sender={sender} heard={heard} left={left} received={received} lost={lost}"
-            f" highest={highest} jitter={jitter} told={told} ntp={ntp} rtp={rtp} octets={octets} block={block}\n")
+            f" highest={highest} jitter={jitter} rate={rate if received else 0} told={told} ntp={ntp} rtp={rtp}"
+            f" octets={octets} block={block}\n")
 
 
 def came(kind, moment, octets, peer=1):

@@ -14,7 +14,8 @@ enum { STACK = 1 << 20, PAINT = 0xa5, OTHERS = 1000 };
 static jalwedd_handle session = JALWEDD_EMPTY;
 static jalwedd_step step;
 static uint8_t octets[JALWEDD_OCTETS];
-static const jalwedd_config CONFIG = {0, 0, 0xaa, 1024, 1472, 100, 300, 8000};
+static const jalwedd_config CONFIG = {.ssrc = 0xaa, .capacity = 1024, .limit = 1472, .sender_bw = 100,
+                                      .receiver_bw = 300, .rate = 8000};
 static const jalwedd_item item = {2, 4, "name"};
 
 static void nothing(void)
@@ -53,6 +54,20 @@ static void tick(void)
     for (int tries = 0; tries < 1000 && step.kind == JALWEDD_NOTHING; tries++)
         jalwedd_tick(&session, step.next, 0, 0, &step, octets);
     if (step.kind != JALWEDD_REPORT || step.size < 1400)
+        exit(1);
+}
+
+static void configure(void)
+{
+    static const jalwedd_settings settings = {.sender_bw = 50, .receiver_bw = 150, .clock_count = 1,
+                                              .clocks = {{96, 90000}}};
+    if (jalwedd_configure(&session, step.next, &settings, &item, 1, &step, octets) != JALWEDD_TAKEN)
+        exit(1);
+}
+
+static void forget(void)
+{
+    if (jalwedd_forget(&session, step.next, 1u << 16 | 1, &step, octets) != JALWEDD_TAKEN || step.members != OTHERS)
         exit(1);
 }
 
@@ -97,8 +112,8 @@ int main(void)
     static const struct {
         const char *name;
         void (*call)(void);
-    } calls[] = {{"new", begin}, {"arrive", arrive}, {"sent_rtp", send_packet}, {"tick", tick}, {"change", collide},
-                 {"leave", leave}};
+    } calls[] = {{"new", begin}, {"arrive", arrive}, {"sent_rtp", send_packet}, {"tick", tick},
+                 {"configure", configure}, {"forget", forget}, {"change", collide}, {"leave", leave}};
     const size_t none = taken(nothing);
     int is_more = 0;
     for (size_t at = 0; at < sizeof calls / sizeof *calls; at++) {

@@ -23,7 +23,8 @@ static const uint64_t STARTS[] = {0, 1, 600000000, 1700000000000000, INT64_MAX -
 
 enum { SECOND = 1000000, FIRST = 1026037 }; /* the first tick of a draw by the word 0, as docs/PROTOCOL.md has it */
 
-static const jalwedd_config CONFIG = {5ull << 32, 0, 0xaa, 20, 1472, 100, 300, 8000};
+static const jalwedd_config CONFIG = {.ntp_base = 5ull << 32, .ssrc = 0xaa, .capacity = 20, .limit = 1472,
+                                      .sender_bw = 100, .receiver_bw = 300, .rate = 8000};
 
 static const uint64_t LAST = (uint64_t)1 << 50;
 
@@ -33,6 +34,8 @@ static const uint8_t SENT[28] = {0x80, 0xc8, 0, 6, 0, 0, 0, 7, 0, 0, 0, 1};
 static const uint8_t GONE[] = {0x80, 0xc9, 0, 1, 0, 0, 0, 7, 0x81, 0xcb, 0, 1, 0, 0, 0, 7};
 
 static const jalwedd_item NO_ITEM = {2, 0, ""};
+
+static const jalwedd_settings SETTINGS = {.sender_bw = 100, .receiver_bw = 300};
 
 static uint32_t begin(jalwedd_handle *handle, uint64_t start, jalwedd_step *step)
 {
@@ -77,6 +80,8 @@ static int session_from(uint64_t start, struct handed *handed)
         HOLDS(step.next > start && step.next < start + 30 * SECOND);
         keep(handed, &step, octets);
     }
+    HOLDS(jalwedd_configure(&handle, step.next, &SETTINGS, &NO_ITEM, 1, &step, octets) == JALWEDD_TAKEN);
+    HOLDS(jalwedd_forget(&handle, step.next, 8, &step, octets) == JALWEDD_TAKEN && step.entries == 1);
     const uint64_t now = step.next;
     HOLDS(jalwedd_arrive_rtcp(&handle, now, 1, 0, GONE, sizeof GONE, &step, octets) == JALWEDD_TAKEN);
     HOLDS(jalwedd_source(&handle, 0, &source) == JALWEDD_TAKEN && source.left == now && source.heard == now);
@@ -146,6 +151,9 @@ static int early(jalwedd_handle *handle, uint64_t now, uint32_t status)
     HOLDS(jalwedd_sent_rtp(handle, now, 1, 160, &step, octets) == status);
     HOLDS(jalwedd_tick(handle, now, 0, 0, &step, octets) == status);
     HOLDS(memcmp(&step, &wanted, sizeof step) == 0);
+    HOLDS(jalwedd_configure(handle, now, &SETTINGS, &NO_ITEM, 0, &step, octets) == status);
+    HOLDS(jalwedd_configure(handle, now, &SETTINGS, &NO_ITEM, 8, &step, octets) == JALWEDD_ITEM);
+    HOLDS(jalwedd_forget(handle, now, 7, &step, octets) == status && memcmp(&step, &wanted, sizeof step) == 0);
     HOLDS(jalwedd_leave(handle, now, 0, &step, octets) == status);
     HOLDS(memcmp(&step, &wanted, sizeof step) == 0 && memcmp(octets, untouched, sizeof octets) == 0);
     return 0;

@@ -2,8 +2,8 @@
  * and its bandwidth is large, so each interval is the shortest one.
  *
  * Lines on standard input: "rtp MOMENT TIMES HEX", a datagram that comes so often; "rtcp MOMENT HEX"; "tick MOMENT";
- * "look MOMENT". For each tick it prints "report MOMENT HEX", or "nothing MOMENT" if none is due, and for a look "seen
- * MOMENT SSRC:ROLE ..": each other source that is a member, as member or sender.
+ * "look MOMENT"; "forget MOMENT SSRC". For each tick it prints "report MOMENT HEX", or "nothing MOMENT" if none is due,
+ * and for a look "seen MOMENT SSRC:ROLE ..": each other source that is a member, as member or sender.
  *
  * usage: library RATE < LINES
  *        library                 prints the library's version */
@@ -57,7 +57,7 @@ static void take(jalwedd_handle *session, const char *line)
 {
     static uint8_t datagram[ROOM], octets[JALWEDD_OCTETS];
     uint64_t now;
-    uint32_t times, status = JALWEDD_TAKEN;
+    uint32_t times, ssrc, status = JALWEDD_TAKEN;
     int hex = 0;
     jalwedd_step step;
     if (sscanf(line, "rtp %" SCNu64 " %" SCNu32 " %n", &now, &times, &hex) == 2 && hex) {
@@ -71,6 +71,8 @@ static void take(jalwedd_handle *session, const char *line)
         status = jalwedd_tick(session, now, 0, 0, &step, octets);
         if (status == JALWEDD_TAKEN)
             print_step(now, &step, octets);
+    } else if (sscanf(line, "forget %" SCNu64 " %" SCNx32, &now, &ssrc) == 2) {
+        status = jalwedd_forget(session, now, ssrc, &step, octets);
     } else if (sscanf(line, "look %" SCNu64, &now) == 1) {
         look(session, now);
     } else {
