@@ -23,7 +23,7 @@ pub(crate) struct Session<T: MemberTable> {
 }
 
 impl<T: InlineTable> Session<T> {
-    /// A session without members, whose media's clock has 8,000 units a second.
+    /// A session without members.
     pub(crate) fn new() -> Session<T> {
         Session {
             table: T::empty(1024),
@@ -34,7 +34,7 @@ impl<T: InlineTable> Session<T> {
 }
 
 impl<T: MemberTable> Session<T> {
-    /// An RTP packet of the source with this number.
+    /// An RTP packet of the source with this number, of a clock of 8,000 units a second.
     pub(crate) fn packet(&mut self, rt: &impl Abort, ssrc: u32, seq: u16) {
         assert!(rt; self.facts < 10_000);
         let _ = self.table.apply(Fact::Media(ssrc, seq, 0, 0, 8_000), 0);

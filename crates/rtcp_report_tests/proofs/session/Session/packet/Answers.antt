@@ -10,5 +10,5 @@ invariant_of-self g c =
     record {
       few = subst (HasFew (c.args.self.now.facts + 1)) (sym c.apply.ensures.content)
           (packets_are_few-fact c.args.self.now.facts (g.T.MemberTable.content c.args.self.now.table)
-          (Media c.args.ssrc c.args.seq 0 0) 0 c.args.self.now.few);
+          (Media c.args.ssrc c.args.seq 0 0 8000) 0 c.args.self.now.few);
     }
