@@ -11,7 +11,7 @@ use Rattle.rtcp_wire.specs.Grammar.{IsAccepted}
 use Rattle.rtcp_wire.specs.Values.{RtcpPacket}
 use Rattle.rtcp_parts.specs.declared.cursor.Cursor.{Cursor}
 use Rattle.rtcp_parts.specs.Cursors.{HasPassed, Leaves, begun_at, ended_at, is_within, position}
-use Rattle.rtcp_parts.specs.Walks.{Gives, HasNoneLeft, Readies, Takes, TakesNext, place_from}
+use Rattle.rtcp_parts.specs.Walks.{Gives, HasNoneLeft, Readies, TakesHere, TakesNext, place_from}
 
 -- ---- Where a walk begins
 
@@ -197,7 +197,7 @@ module _ {Part Given : Type 0} {parts_of : RtcpPacket → List Part} {IsLeft : L
     {Shows : Part → Given → Type 0} (datagram : List ℕ) (was at ready now : Cursor)
     (begun : at ≡ begun_at (length datagram) was) (readies : Readies parts_of IsLeft datagram at ready)
   where
-    taken : (given : Option Given) → Takes parts_of IsLeft Shows HasNoneLeft datagram ready now given
+    taken : (given : Option Given) → TakesHere parts_of IsLeft Shows HasNoneLeft datagram ready now given
         → (parts : List Part) → Leaves parts_of IsLeft datagram at parts
         → MatchOption given
         ((parts ≡ []) × Leaves parts_of IsLeft datagram now [])
@@ -212,7 +212,7 @@ module _ {Part Given : Type 0} {parts_of : RtcpPacket → List Part} {IsLeft : L
         )
     taken (Some one) takes parts leaves = takes.takes parts (readies.leaves parts leaves).0
 
-    on_from : (given : Option Given) → Takes parts_of IsLeft Shows HasNoneLeft datagram ready now given
+    on_from : (given : Option Given) → TakesHere parts_of IsLeft Shows HasNoneLeft datagram ready now given
         → IfSome given (λ part. place_from at < place_from now)
     on_from None takes = tt
     on_from (Some one) takes =
@@ -226,7 +226,7 @@ module _ {Part Given : Type 0} {parts_of : RtcpPacket → List Part} {IsLeft : L
               grind (arith, nat_tests, some, same, takes.further.1, kept.0, kept.1)
         ]
 
-    begun_now : (given : Option Given) → Takes parts_of IsLeft Shows HasNoneLeft datagram ready now given
+    begun_now : (given : Option Given) → TakesHere parts_of IsLeft Shows HasNoneLeft datagram ready now given
         → 0 < length datagram → now.next ≢ 0
     begun_now given takes octets first =
         let kept = within_is (length datagram) ready readies.within in
@@ -242,7 +242,7 @@ module _ {Part Given : Type 0} {parts_of : RtcpPacket → List Part} {IsLeft : L
         ]
 
     -- It takes the next part.
-    pub ready_takes : (given : Option Given) → Takes parts_of IsLeft Shows HasNoneLeft datagram ready now given
+    pub ready_takes : (given : Option Given) → TakesHere parts_of IsLeft Shows HasNoneLeft datagram ready now given
         → TakesNext parts_of IsLeft Shows datagram at now given
     ready_takes given takes = record {
       takes = taken given takes;
@@ -256,7 +256,7 @@ pub none_taken : {Part Given : Type 0} {parts_of : RtcpPacket → List Part}
     {IsLeft : List ℕ → Cursor → List Part → Type 0} {Shows : Part → Given → Type 0} {IsSpent : List ℕ → Cursor → Type 0}
     (datagram : List ℕ) (was : Cursor) (result : Option Given) → is_within (length datagram) was ≡ true → result ≡ None
     → ((parts : List Part) → Leaves parts_of IsLeft datagram was parts → IsSpent datagram was)
-    → Takes parts_of IsLeft Shows IsSpent datagram was was result
+    → TakesHere parts_of IsLeft Shows IsSpent datagram was was result
 none_taken datagram was None within is spent = record {
   takes = spent;
   none = λ none. refl;

@@ -13,7 +13,7 @@ use Rattle.rtcp_parts.specs.declared.cursor.Cursor.{Cursor}
 use Rattle.rtcp_parts.specs.declared.packet.Packet.{Packet}
 use Rattle.rtcp_parts.specs.declared.packet.Wanted.{Wanted}
 use Rattle.rtcp_parts.specs.Cursors.{Leaves, LeavesHere, LeavesItems, ended_at, is_within, rest_of}
-use Rattle.rtcp_parts.specs.Walks.{AreUnwanted, ComesNext, Enters, GoesOn, HasNoItem, IsPlaced, IsUnwanted, IsWanted, Opens, PassesOn, Takes, TakesNext, place_from}
+use Rattle.rtcp_parts.specs.Walks.{AreUnwanted, ComesNext, Enters, GoesOn, HasNoItem, IsPlaced, IsUnwanted, IsWanted, Opens, PassesOn, TakesHere, TakesNext, place_from}
 use Rattle.rtcp_parts.proofs.Calls.{ended_within, is_within_by, place_within, within_is}
 use Rattle.rtcp_parts.proofs.Entering.{leaves_packet, left_inside, none_among, nothing_left}
 use Rattle.rtcp_parts.proofs.OctetParts.{length_parts, stands_within, word_first}
@@ -475,13 +475,13 @@ pub record Follows (datagram : List ℕ) (was now : Cursor) : Type 0 where
 
 module _ (datagram : List ℕ) (first was taken : Cursor) (result : Option PlacedItem)
     (follows : Follows datagram first was)
-    (takes : Takes packet_items LeavesItems (PlacesItem datagram) HasNoItem datagram was taken result) where
+    (takes : TakesHere packet_items LeavesItems (PlacesItem datagram) HasNoItem datagram was taken result) where
   pub taken_next : (item : PlacedItem) → result ≡ Some item →
       TakesNext packet_items LeavesItems (PlacesItem datagram) datagram first taken result
   taken_next item is = found result is takes
     where
       found : (result : Option PlacedItem) → result ≡ Some item →
-          Takes packet_items LeavesItems (PlacesItem datagram) HasNoItem datagram was taken result →
+          TakesHere packet_items LeavesItems (PlacesItem datagram) HasNoItem datagram was taken result →
           TakesNext packet_items LeavesItems (PlacesItem datagram) datagram first taken result
       found None is takes = absurd cc
       found (Some other_item) is takes =
@@ -502,7 +502,7 @@ module _ (datagram : List ℕ) (first was taken : Cursor) (result : Option Place
   spent parts is h = none result is takes
     where
       none : (result : Option PlacedItem) → result ≡ None →
-          Takes packet_items LeavesItems (PlacesItem datagram) HasNoItem datagram was taken result →
+          TakesHere packet_items LeavesItems (PlacesItem datagram) HasNoItem datagram was taken result →
           HasNoItem datagram was
       none None is takes = takes.takes parts (follows.leaves parts h)
       none (Some item) is takes = absurd cc

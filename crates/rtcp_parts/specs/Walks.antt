@@ -134,7 +134,7 @@ pub record SaysApp (packet : Packet) (app : PlacedApp) : Type 0 where
   pub size : app.content.size + 8 ≡ length packet.body.now
 
 -- A walk takes the next part of the packet that it is in, unless that has none left.
-pub record Takes
+pub record TakesHere
     {Part Given : Type 0} (parts_of : RtcpPacket → List Part) (IsLeft : List ℕ → Cursor → List Part → Type 0)
     (Shows : Part → Given → Type 0) (IsSpent : List ℕ → Cursor → Type 0) (datagram : List ℕ) (was now : Cursor)
     (result : Option Given) : Type 0 where

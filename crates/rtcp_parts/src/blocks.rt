@@ -5,7 +5,7 @@ ghost use Rattle.rtcp_wire.specs.Contents.{packet_blocks};
 ghost use Rattle.rtcp_wire.specs.Grammar.{block_in};
 ghost use Rattle.rtcp_wire.specs.Views.{block_value};
 ghost use Rattle.rtcp_parts.specs.Cursors.{LeavesBlocks, ShowsReported, blocks_place, is_within};
-ghost use Rattle.rtcp_parts.specs.Walks.{Readies, Gives, HasNoneLeft, IsAtBlocks, Takes};
+ghost use Rattle.rtcp_parts.specs.Walks.{Readies, Gives, HasNoneLeft, IsAtBlocks, TakesHere};
 
 use crate::cursor::{Cursor, begun};
 use crate::octets::{ID_SIZE, u32_at};
@@ -92,7 +92,7 @@ fn in_report(packet: &Packet<'_>) -> Option<Cursor>
 /// Takes the next block of the report that a walk is in.
 fn take_block(datagram: &[u8], cursor: &mut Cursor) -> Option<(u32, Block)>
     requires { is_within (length datagram.now) cursor.old ≡ true }
-    ensures { Takes packet_blocks LeavesBlocks ShowsReported HasNoneLeft datagram.now cursor.old cursor.new result }
+    ensures { TakesHere packet_blocks LeavesBlocks ShowsReported HasNoneLeft datagram.now cursor.old cursor.new result }
 {
     if cursor.left == 0 {
         return None;

@@ -5,7 +5,7 @@ ghost use Rattle.rtcp_wire.specs.Contents.{packet_goodbyes};
 ghost use Rattle.rtcp_wire.specs.Grammar.{IsReasonPart};
 ghost use Rattle.rtcp_wire.specs.Placed.{PlacesGoodbye, span_at};
 ghost use Rattle.rtcp_parts.specs.Cursors.{LeavesGoodbyes, is_within};
-ghost use Rattle.rtcp_parts.specs.Walks.{Readies, Gives, HasNoneLeft, Takes};
+ghost use Rattle.rtcp_parts.specs.Walks.{Readies, Gives, HasNoneLeft, TakesHere};
 
 use crate::cursor::{Cursor, begun};
 use crate::octets::{ID_SIZE, u32_at};
@@ -67,7 +67,7 @@ fn ready(datagram: &[u8], cursor: &Cursor) -> Cursor
 /// Takes the next source of the goodbye that a walk is in.
 fn take_source(datagram: &[u8], cursor: &mut Cursor) -> Option<PlacedGoodbye>
     requires { is_within (length datagram.now) cursor.old ≡ true }
-    ensures takes { Takes packet_goodbyes LeavesGoodbyes (PlacesGoodbye datagram.now) HasNoneLeft
+    ensures takes { TakesHere packet_goodbyes LeavesGoodbyes (PlacesGoodbye datagram.now) HasNoneLeft
         datagram.now cursor.old cursor.new result }
     ensures within { IfSome result (λ goodbye. IfSome goodbye.reason (λ reason.
         reason.place + reason.size ≤ length datagram.now)) }

@@ -4,7 +4,7 @@ ghost use Rattle.std.specs.Prelude.{◌≡◌, ◌≤◌, ◌<◌, ◌+◌, leng
 ghost use Rattle.rtcp_wire.specs.Contents.{packet_items};
 ghost use Rattle.rtcp_wire.specs.Placed.{PlacesItem};
 ghost use Rattle.rtcp_parts.specs.Cursors.{LeavesItems, is_within};
-ghost use Rattle.rtcp_parts.specs.Walks.{Enters, Gives, GoesOn, HasNoItem, Opens, PassesOn, Takes, TakesNext};
+ghost use Rattle.rtcp_parts.specs.Walks.{Enters, Gives, GoesOn, HasNoItem, Opens, PassesOn, TakesHere, TakesNext};
 
 use crate::cursor::{Cursor, begun};
 use crate::octets::{ID_SIZE, u32_at};
@@ -59,7 +59,7 @@ fn item_from(datagram: &[u8], cursor: &mut Cursor) -> Option<PlacedItem>
 /// Takes the next item of the chunk that a walk is in.
 fn take_item(datagram: &[u8], cursor: &mut Cursor) -> Option<PlacedItem>
     requires { is_within (length datagram.now) cursor.old ≡ true }
-    ensures takes { Takes packet_items LeavesItems (PlacesItem datagram.now) HasNoItem
+    ensures takes { TakesHere packet_items LeavesItems (PlacesItem datagram.now) HasNoItem
         datagram.now cursor.old cursor.new result }
     ensures within { IfSome result (λ item. item.text.place + item.text.size ≤ length datagram.now) }
 {

@@ -7,7 +7,7 @@ use Rattle.rtcp_wire.specs.declared.fault.FaultReason.{FaultReason}
 use Rattle.rtcp_wire.specs.declared.fault.FaultReason.TheVariants.{Short, Version, FirstType, FirstPadding, Length, Padding, Body, Item, Reason}
 use Rattle.rtcp_wire.specs.Grammar.{version_of, is_padded, count_of, type_of, size_of, padding_of, body_of, IsPadding, IsSpelling}
 use Rattle.rtcp_wire.specs.Faults.{FindsInBody, Finds, number_of, IsFirstFound, MayStand}
-use Rattle.rtcp_wire.specs.Parts.{Takes, IsWhole, IsUnpadded}
+use Rattle.rtcp_wire.specs.Parts.{TakesPrefix, IsWhole, IsUnpadded}
 use Rattle.rtcp_wire.specs.Validity.{IsSomeBody, IsSomePacket}
 use Rattle.rtcp_wire.proofs.Spellings.{own, is_own}
 use Rattle.rtcp_wire.proofs.Stops.{body_at, padding_at, begins_at, reason_in, reason_has_number}
@@ -211,7 +211,7 @@ module _ (first : Bool) (b body : List ℕ) (kind count : ℕ) (h : HasBody firs
   -- What is found in a body is found of the packet.
   pub packet_passed : (tested : Result Unit FaultReason) → MatchResult tested (λ _. IsSomeBody kind count body)
       (λ reason. FindsInBody reason kind count body)
-      → MatchResult tested (λ _. Takes b (drop (size_of b) b) (λ s. IsSomePacket s × MayStand first s))
+      → MatchResult tested (λ _. TakesPrefix b (drop (size_of b) b) (λ s. IsSomePacket s × MayStand first s))
       (λ reason. IsFirstFound reason first b)
   packet_passed (Ok done) made =
       let mine = is_own b h.good.size in
@@ -234,7 +234,7 @@ module _ (first : Bool) (b body : List ℕ) (kind count : ℕ) (h : HasBody firs
 
 -- A packet was taken, which may stand here.
 abbrev pub TakesPacket : Bool → List ℕ → List ℕ → Type 0
-TakesPacket first old new = Takes old new (λ octets. IsSomePacket octets × MayStand first octets)
+TakesPacket first old new = TakesPrefix old new (λ octets. IsSomePacket octets × MayStand first octets)
 
 -- A packet is taken, or a first test finds a fault: by the steps of the tests.
 pub packet_from : (first : Bool) (b : List ℕ) → TakesPacket first b (drop (size_of b) b) ⊎ IsFaulty first b

@@ -10,14 +10,14 @@ use Rattle.rtcp_wire.specs.declared.fault.FaultReason.TheVariants.{Body, Item}
 use Rattle.rtcp_wire.specs.Values.{ItemValue, ChunkValue, sdes}
 use Rattle.rtcp_wire.specs.Grammar.{Joins, IsItem, IsChunk}
 use Rattle.rtcp_wire.specs.Faults.{IsCut, EndsBesideChunks, EndsInsideChunk, FindsInBody}
-use Rattle.rtcp_wire.specs.Parts.{Takes, EndsInItems, EndsInChunk}
+use Rattle.rtcp_wire.specs.Parts.{TakesPrefix, EndsInItems, EndsInChunk}
 use Rattle.rtcp_wire.specs.Validity.{PassesItems, IsSomeChunk, IsSomeBody}
 use Rattle.rtcp_wire.proofs.Joining.{Joins-push}
 use Rattle.rtcp_wire.proofs.Prefixes.{cons_not_nil}
 
 -- one part more after those that were taken
 one_part_more : {A : Type 0} (S : A → List ℕ → Type 0) (xs : List A) (y : A) (octets old new : List ℕ) →
-    Takes octets old (Joins S xs) → Takes old new (S y) → Takes octets new (Joins S (xs ++ y ∷ []))
+    TakesPrefix octets old (Joins S xs) → TakesPrefix old new (S y) → TakesPrefix octets new (Joins S (xs ++ y ∷ []))
 one_part_more S xs y octets old new all one = (
   all.0 ++ one.0,
   all.1 ∙ ap (λ (t : List ℕ). all.0 ++ t) one.1 ∙ sym (append_assoc all.0 one.0 new),
@@ -28,11 +28,11 @@ one_part_more S xs y octets old new all one = (
 
 -- The octets so far are items.
 abbrev pub HasTakenItems : List ℕ → List ℕ → Type 0
-HasTakenItems octets left = (items : List ItemValue) × Takes octets left (Joins IsItem items)
+HasTakenItems octets left = (items : List ItemValue) × TakesPrefix octets left (Joins IsItem items)
 
 -- the item whose type and length are these, with its text
 one_item : (kind size : ℕ) (text : List ℕ) → kind ≢ 0 → size ≤ length text →
-    Takes (kind ∷ size ∷ text) (drop size text) (IsItem (record { kind = kind; text = take size text }))
+    TakesPrefix (kind ∷ size ∷ text) (drop size text) (IsItem (record { kind = kind; text = take size text }))
 one_item kind size text some room = (
   kind ∷ size ∷ take size text,
   ap (λ (t : List ℕ). kind ∷ size ∷ t) (sym (take-append-drop size text)),
@@ -44,7 +44,7 @@ pub item_taken : (octets old new : List ℕ) (kind size : ℕ) (text : List ℕ)
     old ≡ kind ∷ size ∷ text → kind ≢ 0 → size ≤ length text → new ≡ drop size text → HasTakenItems octets new
 item_taken octets old new kind size text so_far is some room after =
     let item : ItemValue = record { kind = kind; text = take size text } in
-    let one : Takes old new (IsItem item) = rw (is, after) (one_item kind size text some room) in
+    let one : TakesPrefix old new (IsItem item) = rw (is, after) (one_item kind size text some room) in
     (so_far.0 ++ item ∷ [], one_part_more IsItem so_far.0 item octets old new so_far.1 one)
 
 -- a cut item after them
@@ -103,7 +103,7 @@ chunk_ends octets room items =
 -- an identifier, items, their zero octet, and the fill up to the word's end
 pub chunk_passed : (octets after : List ℕ) → 4 ≤ length octets → length octets % 4 ≡ 0 →
     PassesItems (drop 4 octets) after
-    → Takes octets (drop (length after % 4) after) IsSomeChunk × (length (drop (length after % 4) after) % 4 ≡ 0)
+    → TakesPrefix octets (drop (length after % 4) after) IsSomeChunk × (length (drop (length after % 4) after) % 4 ≡ 0)
 chunk_passed octets after room words p =
     let fill = length after % 4 in
     let free = take fill after in
@@ -133,7 +133,7 @@ chunk_passed octets after room words p =
 
 -- In whole words, with room for an identifier, a chunk is passed or ends too early.
 chunk_from : (octets : List ℕ) → 4 ≤ length octets → length octets % 4 ≡ 0 →
-    EndsInChunk octets ⊎ ((left : List ℕ) × (Takes octets left IsSomeChunk × (length left % 4 ≡ 0)))
+    EndsInChunk octets ⊎ ((left : List ℕ) × (TakesPrefix octets left IsSomeChunk × (length left % 4 ≡ 0)))
 chunk_from octets room words =
     elim (items_from (suc (length (drop 4 octets))) (drop 4 octets) (drop 4 octets) (omega arith)
     ([], ([], refl, refl))) [
@@ -152,7 +152,7 @@ pub record HasTakenChunks (count : ℕ) (body left : List ℕ) : Type 0 where
   pub words : length left % 4 ≡ 0
   pub chunks : List ChunkValue
   pub counted : length chunks ≡ count
-  pub taken : Takes body left (Joins IsChunk chunks)
+  pub taken : TakesPrefix body left (Joins IsChunk chunks)
 
 -- what is said where a part was passed
 pub passed_if_some : (passed : Option Unit) (P Q : Type 0) → is_some passed ≡ true → MatchOption passed P (λ _. Q) → Q
@@ -164,7 +164,8 @@ pub no_chunk_taken : (body : List ℕ) → length body % 4 ≡ 0 → HasTakenChu
 no_chunk_taken body words = record { words = words; chunks = []; counted = refl; taken = ([], refl, refl) }
 
 -- one chunk more
-pub chunk_taken : (count : ℕ) (body old new : List ℕ) → HasTakenChunks count body old → Takes old new IsSomeChunk →
+pub chunk_taken : (count : ℕ) (body old new : List ℕ) → HasTakenChunks count body old →
+    TakesPrefix old new IsSomeChunk →
     length new % 4 ≡ 0 → HasTakenChunks (count + 1) body new
 chunk_taken count body old new h one words = record {
   words = words;

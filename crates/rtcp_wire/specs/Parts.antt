@@ -5,8 +5,8 @@ use Rattle.rtcp_wire.specs.Grammar.{Joins, IsItem, version_of, is_padded, size_o
 use Rattle.rtcp_wire.specs.Faults.{IsCut, MayStand}
 
 -- A part was taken from the start of the octets, and the rest is left.
-abbrev pub Takes : List ℕ → List ℕ → (List ℕ → Type 0) → Type 0
-Takes old new P = (prefix : List ℕ) × (old ≡ prefix ++ new) × P prefix
+abbrev pub TakesPrefix : List ℕ → List ℕ → (List ℕ → Type 0) → Type 0
+TakesPrefix old new P = (prefix : List ℕ) × (old ≡ prefix ++ new) × P prefix
 
 -- ---- Source descriptions
 

@@ -3,7 +3,7 @@
 
 ghost use Rattle.std.specs.Prelude.{◌≡◌, ◌≤◌, ◌%◌, length, MatchResult};
 ghost use Rattle.rtcp_wire.specs.Faults.{least_size, FindsInBody, IsNoReason, IsFirstFound, IsFirstFault, MayStand};
-ghost use Rattle.rtcp_wire.specs.Parts.{Takes};
+ghost use Rattle.rtcp_wire.specs.Parts.{TakesPrefix};
 ghost use Rattle.rtcp_wire.specs.Validity.{IsSomeBody, IsSomePacket, IsSomeDatagram};
 
 mod chunks;
@@ -56,7 +56,7 @@ fn check_packets(datagram: &[u8]) -> Result<(), WireFault>
 /// Tests the next packet, and takes it.
 fn pass_packet(reader: &mut Reader<'_>, is_first: bool) -> Result<(), FaultReason>
     ensures { MatchResult result
-        (λ _. Takes reader.old reader.new (λ octets. IsSomePacket octets × MayStand is_first octets))
+        (λ _. TakesPrefix reader.old reader.new (λ octets. IsSomePacket octets × MayStand is_first octets))
         (λ reason. IsFirstFound reason is_first reader.old) }
 {
     let header = read_header(reader.rest(), is_first)?;

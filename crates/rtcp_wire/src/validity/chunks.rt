@@ -2,7 +2,7 @@
 
 ghost use Rattle.std.specs.Prelude.{◌≡◌, ◌≤◌, ◌%◌, length, MatchResult, MatchOption};
 ghost use Rattle.rtcp_wire.specs.Faults.{FindsInBody};
-ghost use Rattle.rtcp_wire.specs.Parts.{Takes, EndsInItems, EndsInChunk};
+ghost use Rattle.rtcp_wire.specs.Parts.{TakesPrefix, EndsInItems, EndsInChunk};
 ghost use Rattle.rtcp_wire.specs.Validity.{PassesItems, IsSomeChunk, IsSomeBody};
 
 use crate::fault::FaultReason;
@@ -39,7 +39,7 @@ fn pass_chunk(reader: &mut Reader<'_>) -> Option<()>
     requires words { length reader.old % 4 ≡ 0 }
     ensures { MatchOption result
         (EndsInChunk reader.old)
-        (λ _. Takes reader.old reader.new IsSomeChunk × (length reader.new % 4 ≡ 0)) }
+        (λ _. TakesPrefix reader.old reader.new IsSomeChunk × (length reader.new % 4 ≡ 0)) }
 {
     reader.take(ID_SIZE);
     pass_items(reader)?;
