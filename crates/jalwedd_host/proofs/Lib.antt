@@ -7,6 +7,5 @@ mod Never
 mod Ranges
 mod Turns
 mod Held
-mod HeadPlaces
 mod AppSteps
 mod WholeWalks

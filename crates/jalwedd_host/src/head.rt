@@ -1,7 +1,6 @@
 //! How a host is told of the head of an RTP datagram.
 
-ghost use Rattle.std.specs.Prelude.{◌≡◌, ◌≤◌, if◌then◌else◌, length};
-ghost use Rattle.rtcp_wire.specs.RtpHeads.{IsRtpHead, has_padding, last_of};
+ghost use Rattle.rtcp_wire.specs.RtpHeads.{IsRtpHead};
 ghost use Rattle.jalwedd_host.specs.Heads.{ShowsHead};
 
 use rtcp_wire::RtpHead;
@@ -38,30 +37,15 @@ pub fn head_place(datagram: &[u8], head: &RtpHead<'_>) -> HeadPlace
     requires { IsRtpHead datagram.now head.now }
     ensures { (spelled : IsRtpHead datagram.now head.now) → ShowsHead datagram.now head.now spelled result }
 {
-    let payload_size = head.payload().len();
-    let after_payload = datagram.len() - padding_size(datagram);
-    let before_payload = after_payload - payload_size;
     HeadPlace {
         csrcs_offset: FIXED_SIZE,
-        payload_offset: before_payload as u64,
-        payload_size: payload_size as u64,
+        payload_offset: head.payload_offset(datagram) as u64,
+        payload_size: head.payload().len() as u64,
         ssrc: head.ssrc(),
         timestamp: head.timestamp(),
         sequence: u32::from(head.sequence()),
         payload_type: u32::from(head.payload_type()),
         marker: u32::from(head.marker()),
         csrcs: head.csrcs().count() as u32,
-    }
-}
-
-/// The octets of the padding after the payload (RFC 3550, 5.1): the last of them counts all.
-fn padding_size(datagram: &[u8]) -> usize
-    requires { 12 ≤ length datagram.now }
-    ensures { result ≡ (if has_padding datagram.now then last_of datagram.now else 0) }
-{
-    if datagram[0] >> 5 & 1 == 1 {
-        usize::from(datagram[datagram.len() - 1])
-    } else {
-        0
     }
 }

@@ -46,5 +46,6 @@ mod PartsAgain
 mod WritableAgain
 mod PartRanges
 mod RtpRanges
+mod RtpPlaces
 mod WrongRows
 pub mod LawLemmas

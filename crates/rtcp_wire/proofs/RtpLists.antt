@@ -1,5 +1,5 @@
 -- Parts of lists of octets, and the words, extensions and padding that they are.
-use Rattle.std.proofs.Common.{◌≡◌, ◌≢◌, ℕ, zero, suc, ◌+◌, ◌-◌, ◌*◌, ◌<◌, ◌≤◌, Bool, true, false, List, [], ◌∷◌, ◌++◌, length, get_or, take, drop, slice_index, refl, sym, ap, subst, ◌∙◌, append_assoc, arith}
+use Rattle.std.proofs.Common.{◌≡◌, ◌≢◌, ℕ, zero, suc, ◌+◌, ◌-◌, ◌*◌, ◌<◌, ◌≤◌, if◌then◌else◌, Bool, true, false, List, [], ◌∷◌, ◌++◌, length, get_or, take, drop, slice_index, refl, sym, ap, subst, ◌∙◌, append_assoc, arith}
 use Rattle.std.proofs.Math.Seq.{take-append_seam, drop-append_seam, get_or-append_seam}
 use Rattle.std.proofs.lemmas.List.{take-append-drop, take_more, drop-append-le, length-append, length-drop, length-take-le, get_or_append_left, get_or-drop}
 use Rattle.byteorder.specs.Endian.{big_from, big_number}
@@ -100,9 +100,9 @@ last_of-append x o =
     let place : length (x ++ o ∷ []) - 1 ≡ length x = omega (arith, length-append x (o ∷ [])) in
     ap (λ (i : ℕ). slice_index (x ++ o ∷ []) i) place ∙ get_or-append_seam x o [] 0
 
--- What stands before the padding is what is left without it.
+-- What stands before the padding is what is left without it, and the last octet counts it.
 pub padding_off : (padded : Bool) (x y : List ℕ) → IsPaddingPart padded y → (without_padding padded (x ++ y) ≡ x)
-    × (padded ≡ true → IsPadded (x ++ y))
+    × (padded ≡ true → IsPadded (x ++ y)) × ((if padded then last_of (x ++ y) else 0) ≡ length y)
 padding_off true x y h =
     let n : ℕ = length h.0 + 1 in
     let whole : x ++ y ≡ (x ++ h.0) ++ n ∷ [] = ap (λ (t : List ℕ). x ++ t) h.1 ∙ sym (append_assoc x h.0 (n ∷ [])) in
@@ -111,8 +111,13 @@ padding_off true x y h =
     let both : length (x ++ y) ≡ length x + length y = length-append x y in (
       (cut_at (x ++ y) x y (length (x ++ y) - last_of (x ++ y)) refl (omega (arith, last, size, both))).0,
       λ _. (λ none. omega (arith, last, none), omega (arith, last, size, both)),
+      last ∙ sym size,
     )
-padding_off false x y h = (ap (λ (t : List ℕ). x ++ t) h ∙ search Rattle.std.proofs.Common.rules, λ e. absurd cc)
+padding_off false x y h = (
+  ap (λ (t : List ℕ). x ++ t) h ∙ search Rattle.std.proofs.Common.rules,
+  λ e. absurd cc,
+  sym (ap length h),
+)
 
 -- A list of some octets ends with its last one.
 last_apart : (b : List ℕ) → 0 < length b → b ≡ take (length b - 1) b ++ last_of b ∷ []

@@ -1,7 +1,8 @@
 //! RTP packets, from their octets.
 
-ghost use Rattle.std.specs.Prelude.{◌≡◌, ◌↔◌, ◌<◌, ◌≤◌, length, IfOk, IsOkAnd, Err, MatchResult, true};
-ghost use Rattle.rtcp_wire.specs.RtpHeads.{RtpValue, IsReserved, IsRtpHead, IsRtpFault, extension_size, without_extension, IsPadded, without_padding};
+ghost use Rattle.std.specs.Prelude.{◌≡◌, ◌↔◌, ◌+◌, ◌<◌, ◌≤◌, if◌then◌else◌, length, IfOk, IsOkAnd, Err, MatchResult, true};
+ghost use Rattle.rtcp_wire.specs.Placed.{StandsIn};
+ghost use Rattle.rtcp_wire.specs.RtpHeads.{RtpValue, IsReserved, IsRtpHead, IsRtpFault, extension_size, without_extension, IsPadded, without_padding, has_padding, last_of};
 ghost use Rattle.rtcp_wire.specs.declared.rtp.fault.RtpFault.{RtpFault as Fault};
 
 use crate::ids::Ids;
@@ -155,6 +156,29 @@ impl<'a> RtpHead<'a> {
         ensures { result.now ≡ self.now.payload }
     {
         self.payload
+    }
+
+    /// The octets before the payload in the datagram that was read: the fixed part, the CSRCs and the extension
+    /// (RFC 3550, 5.1 and 5.3.1).
+    pub fn payload_offset(&self, datagram: &[u8]) -> usize
+        requires { IsRtpHead datagram.now self.now }
+        ensures offset { (spelled : IsRtpHead datagram.now self.now) →
+            result ≡ length spelled.fixed + length spelled.sources + length spelled.extension }
+        ensures stands { StandsIn result self.now.payload datagram.now }
+    {
+        datagram.len() - padding_size(datagram) - self.payload().len()
+    }
+}
+
+/// The octets of the padding of a packet (RFC 3550, 5.1): its last octet counts all of them.
+fn padding_size(datagram: &[u8]) -> usize
+    requires { 12 ≤ length datagram.now }
+    ensures { result ≡ (if has_padding datagram.now then last_of datagram.now else 0) }
+{
+    if datagram[0] >> 5 & 1 == 1 {
+        usize::from(datagram[datagram.len() - 1])
+    } else {
+        0
     }
 }
 

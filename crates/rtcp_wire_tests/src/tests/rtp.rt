@@ -3,11 +3,12 @@
 use super::*;
 
 /// What is read of a packet: its payload type, marker, sequence number, timestamp and SSRC; its contributing sources;
-/// and its payload.
+/// and its payload, and the octets before it.
 struct Head {
     fixed: (u8, bool, u16, u32, u32),
     csrcs: &'static [u32],
     payload: &'static [u8],
+    offset: usize,
 }
 
 static HEADS: [(&[u8], Head); 10] = [
@@ -25,6 +26,7 @@ static HEADS: [(&[u8], Head); 10] = [
             fixed: (0, false, 1, 2, 3),
             csrcs: &[],
             payload: &[1, 2],
+            offset: 20,
         },
     ),
     // Padding is no part of the payload.
@@ -39,6 +41,7 @@ static HEADS: [(&[u8], Head); 10] = [
             fixed: (0, false, 1, 2, 3),
             csrcs: &[],
             payload: &[],
+            offset: 12,
         },
     ),
     (
@@ -52,6 +55,7 @@ static HEADS: [(&[u8], Head); 10] = [
             fixed: (0, false, 1, 2, 3),
             csrcs: &[],
             payload: &[9],
+            offset: 12,
         },
     ),
     // One contributing source, and two.
@@ -66,6 +70,7 @@ static HEADS: [(&[u8], Head); 10] = [
             fixed: (0, false, 1, 2, 3),
             csrcs: &[4],
             payload: &[],
+            offset: 16,
         },
     ),
     (
@@ -81,6 +86,7 @@ static HEADS: [(&[u8], Head); 10] = [
             fixed: (0, false, 1, 2, 3),
             csrcs: &[4, 0xff00_0005],
             payload: &[9],
+            offset: 20,
         },
     ),
     // The payload types beside the reserved ones, with and without the marker.
@@ -90,6 +96,7 @@ static HEADS: [(&[u8], Head); 10] = [
             fixed: (71, false, 1, 2, 3),
             csrcs: &[],
             payload: &[],
+            offset: 12,
         },
     ),
     (
@@ -98,6 +105,7 @@ static HEADS: [(&[u8], Head); 10] = [
             fixed: (77, false, 1, 2, 3),
             csrcs: &[],
             payload: &[],
+            offset: 12,
         },
     ),
     (
@@ -106,6 +114,7 @@ static HEADS: [(&[u8], Head); 10] = [
             fixed: (71, true, 1, 2, 3),
             csrcs: &[],
             payload: &[],
+            offset: 12,
         },
     ),
     (
@@ -114,6 +123,7 @@ static HEADS: [(&[u8], Head); 10] = [
             fixed: (77, true, 1, 2, 3),
             csrcs: &[],
             payload: &[],
+            offset: 12,
         },
     ),
     (
@@ -122,6 +132,7 @@ static HEADS: [(&[u8], Head); 10] = [
             fixed: (96, true, 1, 2, 3),
             csrcs: &[],
             payload: &[],
+            offset: 12,
         },
     ),
 ];
@@ -142,6 +153,7 @@ fn heads(rt: HostRuntime) -> Result<(), Fail> {
         let csrcs: Vec<u32> = head.csrcs().collect(rt.alloc())?;
         let rest = (csrcs.as_slice(), head.payload());
         assert_eq!(rt; rest, (wanted.csrcs, wanted.payload), "{octets:?}");
+        assert_eq!(rt; head.payload_offset(octets), wanted.offset, "{octets:?}");
     }
     Ok(())
 }
