@@ -1,19 +1,18 @@
 //! The parts of a datagram, one after the other, by a cursor of the host's: the datagram is tested once.
 
 ghost use Rattle.std.specs.Prelude.{◌≡◌, ◌≤◌, ◌+◌, length};
-ghost use Rattle.rtcp_wire.specs.Contents.{packet_blocks, packet_goodbyes, packet_items, packet_senders};
-ghost use Rattle.rtcp_parts.specs.Apps.{packet_apps};
+ghost use Rattle.rtcp_wire.specs.Contents.{packet_apps, packet_blocks, packet_goodbyes, packet_items, packet_senders};
 ghost use Rattle.rtcp_parts.specs.Cursors.{LeavesBlocks, LeavesGoodbyes, LeavesItems, LeavesNone};
 ghost use Rattle.jalwedd_host.specs.Apps.{ShowsApp};
 ghost use Rattle.jalwedd_host.specs.Parts.{ShowsGoodbye, ShowsItem, ShowsSender};
 ghost use Rattle.jalwedd_host.specs.Readings.{ShowsBlock};
 ghost use Rattle.jalwedd_host.specs.Walks.{Continues};
 
-use jalwedd_host::app::AppPlace;
+use jalwedd_host::app::{AppPlace, app_place};
 use jalwedd_host::parts::{GoodbyePlace, ItemPlace, SenderInfo, goodbye_place, item_place};
 use jalwedd_host::reading::{Report, shown};
 use jalwedd_host::status::{NO_COMPOUND, NO_PART, TAKEN};
-use jalwedd_host::walks::{app_place, sender_info};
+use jalwedd_host::walks::sender_info;
 use rtcp_parts::Cursor;
 
 /// Tells of the next part of a walk over the sender reports of a datagram, in their order, and moves the cursor after

@@ -7,5 +7,4 @@ mod Never
 mod Ranges
 mod Turns
 mod Held
-mod AppSteps
 mod WholeWalks

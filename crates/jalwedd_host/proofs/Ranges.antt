@@ -2,10 +2,10 @@
 use Rattle.std.proofs.Common.{◌≡◌, ℕ, ◌%◌, ◌<◌, ◌≤◌, ◌≤ℤ◌, ℤ, pos, negsuc, List, [], ◌∷◌, All, length, slice_get, Option, Some, None, arith, sym, subst}
 use Rattle.std.proofs.lemmas.List.Elements.{All-nil, All-cons, All-append, All-head, All-tail}
 use Rattle.std.proofs.lemmas.Option.{slice_get_within, get_or_from_slice_get}
-use Rattle.rtcp_wire.specs.Contents.{all_blocks, all_goodbyes, all_items}
+use Rattle.rtcp_wire.specs.Contents.{all_apps, all_blocks, all_goodbyes, all_items, packet_apps}
 use Rattle.rtcp_wire.specs.Grammar.{AreOctets, IsAccepted}
 use Rattle.rtcp_wire.specs.RtpHeads.{RtpValue, IsReserved, IsRtpHead}
-use Rattle.rtcp_wire.specs.Values.{ItemValue, ReportBlock, RtcpPacket, sr, rr, sdes, bye, app, other}
+use Rattle.rtcp_wire.specs.Values.{AppValue, ItemValue, ReportBlock, RtcpPacket, sr, rr, sdes, bye, app, other}
 use Rattle.rtcp_wire.specs.Writing.{IsWritable, IsWritableBlock, IsWritableItem, IsWritableReason}
 use Rattle.rtcp_wire.proofs.LawLemmas as wire
 use Rattle.jalwedd_host.specs.declared.app.AppPlace.{AppPlace}
@@ -13,7 +13,6 @@ use Rattle.jalwedd_host.specs.declared.head.HeadPlace.{HeadPlace}
 use Rattle.jalwedd_host.specs.declared.parts.GoodbyePlace.{GoodbyePlace}
 use Rattle.jalwedd_host.specs.declared.parts.ItemPlace.{ItemPlace}
 use Rattle.jalwedd_host.specs.declared.reading.Report.{Report}
-use Rattle.rtcp_parts.specs.Apps.{AppValue, packet_apps, all_apps}
 use Rattle.jalwedd_host.specs.Apps.{ShowsApp}
 use Rattle.jalwedd_host.specs.Heads.{ShowsHead}
 use Rattle.jalwedd_host.specs.Parts.{ShowsGoodbye, ShowsItem, ShowsReason}

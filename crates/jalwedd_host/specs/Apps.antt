@@ -1,9 +1,8 @@
 -- How packets that an application defines are told to a host in C (RFC 3550, 6.7).
-use Rattle.std.specs.Prelude.{◌≡◌, ℕ, ◌+◌, List, length}
-use Rattle.rtcp_wire.specs.Grammar.{IsSpelling}
+use Rattle.std.specs.Prelude.{◌≡◌, ℕ, ◌+◌, List, length, take}
+use Rattle.rtcp_wire.specs.Grammar.{Joins, IsSpelling}
 use Rattle.rtcp_wire.specs.Placed.{StandsIn}
-use Rattle.rtcp_wire.specs.Values.{app}
-use Rattle.rtcp_parts.specs.Apps.{AppValue}
+use Rattle.rtcp_wire.specs.Values.{AppValue, RtcpPacket, app}
 use Rattle.jalwedd_host.specs.declared.app.AppPlace.{AppPlace}
 
 -- What one says, and where its data stand: after the header, the SSRC and the name of a packet in the datagram that
@@ -20,11 +19,8 @@ pub record ShowsApp (datagram : List ℕ) (place : AppPlace) (part : AppValue) :
   pub packet_stands : StandsIn before octets datagram
   pub offset : place.offset ≡ before + 12
 
--- what the packet after so many octets says, whose data stand after its header, its SSRC and its name
-abbrev pub SaysApp : (before : ℕ) → AppPlace → AppValue → Type 0
-SaysApp before place part =
-    (place.ssrc ≡ part.ssrc)
-    × (place.subtype ≡ part.subtype)
-    × (place.name ≡ part.name)
-    × (place.size ≡ length part.content)
-    × (place.offset ≡ before + 12)
+-- The same of one of the datagram's own packets, and of none inside another: what stands before it is packets.
+pub record ShowsOwnApp (datagram : List ℕ) (place : AppPlace) (part : AppValue) : Type 0 where
+  pub shows : ShowsApp datagram place part
+  pub packets : List RtcpPacket
+  pub joined : Joins IsSpelling packets (take shows.before datagram)

@@ -1,11 +1,11 @@
 //! Laws of what a host is told. Each is a function that does nothing, whose postcondition is the law.
 
 ghost use Rattle.std.specs.Prelude.{◌≡◌, ◌+◌, ◌%◌, ◌^◌, ◌<◌, ◌≤◌, ◌≤ℤ◌, ℕ, pos, negsuc, List, length, Option, Some, slice_get};
-ghost use Rattle.rtcp_wire.specs.Contents.{all_blocks, all_goodbyes, all_items};
-ghost use Rattle.rtcp_wire.specs.Contents.{packet_blocks, packet_goodbyes, packet_items, packet_senders};
+ghost use Rattle.rtcp_wire.specs.Contents.{all_apps, all_blocks, all_goodbyes, all_items};
+ghost use Rattle.rtcp_wire.specs.Contents.{packet_apps, packet_blocks, packet_goodbyes, packet_items, packet_senders};
 ghost use Rattle.rtcp_wire.specs.Grammar.{AreOctets, IsAccepted};
 ghost use Rattle.rtcp_wire.specs.RtpHeads.{RtpValue, IsReserved, IsRtpHead};
-ghost use Rattle.rtcp_wire.specs.Values.{ItemValue, ReportBlock, RtcpPacket};
+ghost use Rattle.rtcp_wire.specs.Values.{AppValue, ItemValue, ReportBlock, RtcpPacket};
 ghost use Rattle.rtcp_members.specs.Told.{StateValue};
 ghost use Rattle.rtcp_engine.specs.Differences.{listed_of};
 ghost use Rattle.rtcp_engine.specs.Histories.{History, life_at, setup_at};
@@ -25,7 +25,6 @@ ghost use Rattle.jalwedd_host.specs.declared.head.HeadPlace.{HeadPlace};
 ghost use Rattle.jalwedd_host.specs.declared.parts.GoodbyePlace.{GoodbyePlace};
 ghost use Rattle.jalwedd_host.specs.declared.parts.ItemPlace.{ItemPlace};
 ghost use Rattle.jalwedd_host.specs.declared.reading.Report.{Report};
-ghost use Rattle.rtcp_parts.specs.Apps.{AppValue, all_apps, packet_apps};
 ghost use Rattle.rtcp_parts.specs.Cursors.{LeavesBlocks, LeavesGoodbyes, LeavesItems, LeavesNone};
 ghost use Rattle.jalwedd_host.specs.Apps.{ShowsApp};
 ghost use Rattle.jalwedd_host.specs.Heads.{ShowsHead};

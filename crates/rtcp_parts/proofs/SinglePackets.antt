@@ -3,16 +3,15 @@ use Rattle.std.proofs.Common.{◌≡◌, ℕ, ◌+◌, ◌≤◌, inl, inr, true
 use Rattle.std.proofs.lemmas.Bool.Decides.{nat_tests}
 use Rattle.std.proofs.lemmas.List.{drop-take, drop_at, length-append, length-take-le, take-append-drop, take_at}
 use Rattle.byteorder.specs.Endian.{big_number}
-use Rattle.rtcp_wire.specs.Contents.{packet_senders}
+use Rattle.rtcp_wire.specs.Contents.{packet_apps, packet_senders}
 use Rattle.rtcp_wire.specs.Grammar.{IsApplication, IsBody, Joins, IsSpelling, sender_in}
-use Rattle.rtcp_wire.specs.Placed.{StandsIn}
-use Rattle.rtcp_wire.specs.Values.{RtcpPacket, SenderValue, sr, rr, sdes, bye, app, other}
-use Rattle.rtcp_parts.specs.declared.apps.PlacedApp.{PlacedApp}
+use Rattle.rtcp_wire.specs.Placed.{PlacesApp, StandsIn}
+use Rattle.rtcp_wire.specs.Values.{AppValue, RtcpPacket, SenderValue, sr, rr, sdes, bye, app, other}
+use Rattle.rtcp_wire.specs.declared.placed.PlacedApp.{PlacedApp}
 use Rattle.rtcp_parts.specs.declared.cursor.Cursor.{Cursor}
 use Rattle.rtcp_parts.specs.declared.packet.Packet.{Packet}
 use Rattle.rtcp_parts.specs.declared.packet.Wanted.{Wanted}
 use Rattle.rtcp_parts.specs.declared.senders.Sender.{Sender}
-use Rattle.rtcp_parts.specs.Apps.{AppValue, PlacesApp, packet_apps}
 use Rattle.rtcp_parts.specs.Cursors.{Leaves, LeavesNone, ended_at, is_within}
 use Rattle.rtcp_parts.specs.Senders.{ShowsSender}
 use Rattle.rtcp_parts.specs.Walks.{ComesNext, IsPlaced, IsUnwanted, SaysApp, TakesNext}

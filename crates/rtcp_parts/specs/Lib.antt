@@ -1,5 +1,4 @@
 -- What a walk over the parts of a datagram gives.
-pub mod Apps
 pub mod Senders
 pub mod Cursors
 pub mod Walks

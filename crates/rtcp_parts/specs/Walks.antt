@@ -8,7 +8,7 @@ use Rattle.rtcp_wire.specs.Contents.{chunk_items}
 use Rattle.rtcp_wire.specs.Grammar.{Joins, IsAccepted, IsBody, IsChunk, IsSpelling}
 use Rattle.rtcp_wire.specs.Placed.{StandsIn}
 use Rattle.rtcp_wire.specs.Values.{ChunkValue, RtcpPacket}
-use Rattle.rtcp_parts.specs.declared.apps.PlacedApp.{PlacedApp}
+use Rattle.rtcp_wire.specs.declared.placed.PlacedApp.{PlacedApp}
 use Rattle.rtcp_parts.specs.declared.cursor.Cursor.{Cursor}
 use Rattle.rtcp_parts.specs.declared.packet.Packet.{Packet}
 use Rattle.rtcp_parts.specs.declared.packet.Wanted.{Wanted}

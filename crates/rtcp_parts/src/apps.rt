@@ -1,14 +1,15 @@
 //! The packets of a datagram that applications define, one after the other (RFC 3550, 6.7).
 
 ghost use Rattle.std.specs.Prelude.{◌≡◌, ◌≤◌, ◌+◌, ◌<◌, ◌^◌, length, true, IfOk, IfSome, MatchOption};
-ghost use Rattle.rtcp_parts.specs.Apps.{PlacesApp, packet_apps};
+ghost use Rattle.rtcp_wire.specs.Contents.{packet_apps};
+ghost use Rattle.rtcp_wire.specs.Placed.{PlacesApp};
 ghost use Rattle.rtcp_parts.specs.Cursors.{LeavesNone, is_within};
 ghost use Rattle.rtcp_parts.specs.Walks.{Gives, SaysApp, TakesNext};
 
 use crate::cursor::{Cursor, begun};
 use crate::octets::u32_at;
 use crate::packet::{Packet, Wanted, packet_from};
-use rtcp_wire::{Span, WireFault};
+use rtcp_wire::{PlacedApp, Span, WireFault};
 
 /// The octets of the body of an application's packet before its data: its SSRC and its name.
 const BEFORE_DATA: usize = 8;
@@ -19,19 +20,6 @@ const APPLICATIONS: Wanted = Wanted {
     last: 204,
     least: 0,
 };
-
-/// A packet that an application defines (RFC 3550, 6.7), and where its data stand.
-#[derive(Clone, Copy, Debug, PartialEq, Eq)]
-pub struct PlacedApp {
-    /// The SSRC of the source that sent it.
-    pub ssrc: u32,
-    /// Its subtype: below 32.
-    pub subtype: u8,
-    /// Its name, which need not be ASCII.
-    pub name: [u8; 4],
-    /// Where its data stand: whole words.
-    pub content: Span,
-}
 
 /// The next packet of a walk over those of applications in a datagram, in their order; `None` after the last one, and
 /// again from then on.

@@ -27,9 +27,10 @@ mod octets;
 mod packet;
 mod senders;
 
-pub use apps::{PlacedApp, next_app};
+pub use apps::next_app;
 pub use blocks::next_block;
 pub use cursor::Cursor;
 pub use goodbyes::next_goodbye;
 pub use items::next_item;
+pub use rtcp_wire::PlacedApp;
 pub use senders::{Sender, next_sender};

@@ -175,6 +175,7 @@ fn padded_goodbye(rt: HostRuntime) {
     }
 }
 
+/// The packets that `app_at` gives at each index.
 #[test]
 fn apps(rt: HostRuntime) {
     let app = PlacedApp {
@@ -184,7 +185,12 @@ fn apps(rt: HostRuntime) {
         content: span(128, 4),
     };
     let mut cursor = Cursor::default();
-    for expected in [Some(app), None, None] {
-        assert_eq!(rt; next_app(&CALL, &mut cursor), Ok(expected));
+    for (index, expected) in [Some(app), None, None].into_iter().enumerate() {
+        assert_eq!(rt;
+            next_app(&CALL, &mut cursor),
+            Ok(expected),
+            "packet {index}"
+        );
+        assert_eq!(rt; app_at(&CALL, index), Ok(expected), "packet {index}");
     }
 }

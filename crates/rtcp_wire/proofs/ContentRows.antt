@@ -1,7 +1,7 @@
 -- Worked examples: what packets that are written out hold, and where texts stand in octets.
 use Rattle.std.proofs.Common.{◌≡◌, ℕ, pos, List, [], ◌∷◌, ◌++◌, take, drop, Some, None, refl}
-use Rattle.rtcp_wire.specs.Values.{SenderValue, ReportBlock, ItemValue, RtcpPacket, sr, rr, sdes, bye, app, other}
-use Rattle.rtcp_wire.specs.Contents.{all_senders, all_blocks, all_items, all_goodbyes}
+use Rattle.rtcp_wire.specs.Values.{SenderValue, ReportBlock, ItemValue, AppValue, RtcpPacket, sr, rr, sdes, bye, app, other}
+use Rattle.rtcp_wire.specs.Contents.{all_senders, all_blocks, all_items, all_goodbyes, all_apps}
 use Rattle.rtcp_wire.specs.Placed.{StandsIn}
 use Rattle.rtcp_wire.specs.Walks.{packets_in}
 
@@ -24,13 +24,17 @@ cname = record { kind = 1; text = 0x61 ∷ 0x62 ∷ [] }
 abbrev note : ItemValue
 note = record { kind = 7; text = [] }
 
+-- of source 7, with subtype 0, named "none", without data
+abbrev named : AppValue
+named = record { ssrc = 7; subtype = 0; name = 0x6e ∷ 0x6f ∷ 0x6e ∷ 0x65 ∷ []; content = [] }
+
 abbrev packets : List RtcpPacket
 packets =
     sr sender (block ∷ later ∷ []) []
     ∷ rr 7 (block ∷ []) []
     ∷ sdes (record { id = 9; items = cname ∷ note ∷ [] } ∷ record { id = 5; items = [] } ∷ record
     { id = 7; items = cname ∷ [] } ∷ [])
-    ∷ app 0 7 [] []
+    ∷ app 0 7 named.name []
     ∷ bye (9 ∷ 7 ∷ []) (Some [])
     ∷ other 207 0 []
     ∷ bye (5 ∷ []) None
@@ -52,6 +56,9 @@ items = refl
 -- A reason belongs to each source of its packet, and one without text is a reason.
 goodbyes : all_goodbyes packets ≡ (9, Some []) ∷ (7, Some []) ∷ (5, None) ∷ []
 goodbyes = refl
+
+apps : all_apps packets ≡ named ∷ []
+apps = refl
 
 -- ---- In octets
 
@@ -88,3 +95,19 @@ note_place = record { before = take 30 datagram; after = drop 30 datagram; parts
 -- The goodbye begins at octet 32, and its reason after two identifiers and the octet of the size.
 reason_place : StandsIn 45 (0x63 ∷ []) datagram
 reason_place = record { before = take 45 datagram; after = drop 46 datagram; parts = refl; counted = refl }
+
+-- 85cc0003 00000007: of source 7, with subtype 5, named "none", with a word of data, after the report
+abbrev application : List ℕ
+application = 0x85 ∷ 0xcc ∷ 0 ∷ 3 ∷ 0 ∷ 0 ∷ 0 ∷ 7 ∷ (named.name ++ 1 ∷ 2 ∷ 3 ∷ 4 ∷ [])
+
+read_apps : all_apps (packets_in (report ++ application)) ≡
+    record { ssrc = 7; subtype = 5; name = named.name; content = 1 ∷ 2 ∷ 3 ∷ 4 ∷ [] } ∷ []
+read_apps = refl
+
+data_place : StandsIn 20 (1 ∷ 2 ∷ 3 ∷ 4 ∷ []) (report ++ application)
+data_place = record {
+  before = report ++ take 12 application;
+  after = [];
+  parts = refl;
+  counted = refl;
+}

@@ -39,6 +39,7 @@ mod Places
 mod ItemPlaces
 mod PacketPlaces
 mod GoodbyePlaces
+mod AppPlaces
 mod ContentRows
 mod BlockLists
 mod Octets

@@ -2,18 +2,24 @@
 use Rattle.std.proofs.Common.{flat_map, ◌≡◌, ℕ, ◌+◌, ◌-◌, Bool, true, ◌==◌, List, [], ◌∷◌, length, Some, None, refl, ap, arith, slice_get}
 use Rattle.std.proofs.lemmas.Bool.{ne_eqb}
 use Rattle.rtcp_wire.specs.Grammar.{Joins, IsSpelling}
-use Rattle.rtcp_wire.specs.Placed.{IsRest, StandsIn}
+use Rattle.rtcp_wire.specs.Parts.{TakesPrefix}
+use Rattle.rtcp_wire.specs.Placed.{StandsIn}
 use Rattle.rtcp_wire.specs.Values.{RtcpPacket}
 use Rattle.rtcp_wire.specs.Walks.{body_says, packets_in}
 use Rattle.rtcp_wire.proofs.Finding.{Passing, found_first, pass_first, none_left}
-use Rattle.rtcp_wire.proofs.Places.{rest_of_rest, rest_stands, stands_within}
+use Rattle.rtcp_wire.proofs.Passing.{one_part_more}
+use Rattle.rtcp_wire.proofs.Places.{rest_stands, stands_within}
 
 -- ---- Packets
+
+-- Octets are packets that were passed, and then these.
+abbrev pub ArePassed : (datagram rest : List ℕ) → Type 0
+ArePassed datagram rest = (packets : List RtcpPacket) × TakesPrefix datagram rest (Joins IsSpelling packets)
 
 -- The packets from here on are those after what was passed.
 abbrev pub AtPacket : {A : Type 0} → (RtcpPacket → List A) → (datagram rest : List ℕ) → (index now : ℕ) → Type 0
 AtPacket f datagram rest index now =
-    Joins IsSpelling (packets_in rest) rest × IsRest rest datagram
+    Joins IsSpelling (packets_in rest) rest × ArePassed datagram rest
     × Passing (flat_map f (packets_in datagram)) (flat_map f (packets_in rest)) index now
 
 -- At a packet: the octets from it on, its body, and the octets after it.
@@ -28,11 +34,11 @@ module _ {A : Type 0} (f : RtcpPacket → List A) (index now kind count : ℕ) (
       (ap (flat_map f) first) found
 
   pub packet_passed : (next : ℕ) → length (f (body_says kind count body)) + next ≡ now →
-      Joins IsSpelling (packets_in others) others → IsRest others rest
-      → AtPacket f datagram others index next
-  packet_passed next counted joins last = (
+      Joins IsSpelling (packets_in others) others
+      → TakesPrefix rest others (IsSpelling (body_says kind count body)) → AtPacket f datagram others index next
+  packet_passed next counted joins one = (
     joins,
-    rest_of_rest others rest datagram last h.1,
+    (_, one_part_more IsSpelling h.1.0 (body_says kind count body) datagram rest others h.1.1 one),
     pass_first (flat_map f (packets_in datagram)) (flat_map f (packets_in rest)) index now h.2
         (f (body_says kind count body)) (flat_map f (packets_in others)) next
         (ap (flat_map f) first) counted,
@@ -40,7 +46,7 @@ module _ {A : Type 0} (f : RtcpPacket → List A) (index now kind count : ℕ) (
 
   pub body_stands : StandsIn 4 body rest → StandsIn (length datagram - length rest + 4) body datagram
   body_stands own = stands_within 4 (length datagram - length rest) (length datagram - length rest + 4) body rest
-      datagram own (rest_stands rest datagram h.1) (omega arith)
+      datagram own (rest_stands rest datagram (h.1.1.0, h.1.1.1)) (omega arith)
 
 -- Nothing is left to read where the test says so.
 pub none_left_to_read : (octets : List ℕ) (is_empty : Bool) → is_empty ≡ (length octets == 0) → is_empty ≡ true →

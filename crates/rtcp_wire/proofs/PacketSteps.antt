@@ -4,7 +4,7 @@ use Rattle.std.proofs.lemmas.List.{length-append}
 use Rattle.rtcp_wire.specs.Values.{RtcpPacket, bye}
 use Rattle.rtcp_wire.specs.Grammar.{Joins, type_of, count_of, size_of, body_of, IsReasonPart, IsBody, IsSpelling}
 use Rattle.rtcp_wire.specs.Faults.{least_size}
-use Rattle.rtcp_wire.specs.Validity.{IsSomeReason, IsSomeBody, IsSomePacket}
+use Rattle.rtcp_wire.specs.Validity.{IsSomeReason, IsSomeBody}
 use Rattle.rtcp_wire.specs.Walks.{packet_in, packets_in}
 use Rattle.rtcp_wire.proofs.Bodies.{body_room}
 use Rattle.rtcp_wire.proofs.BodyFaults.{after_ids}
@@ -35,7 +35,7 @@ some_reason kind count body is h = ends h.0 h.1
 pub record PacketStep (octets : List ℕ) : Type 0 where
   pub begun : 4 ≤ length octets
   pub room : size_of octets ≤ length octets
-  pub spelled : IsSomePacket (take (size_of octets) octets)
+  pub spelled : IsSpelling (packet_in octets) (take (size_of octets) octets)
   pub body : IsSomeBody (type_of octets) (count_of octets) (body_of octets)
   pub more : Joins IsSpelling (packets_in (drop (size_of octets) octets)) (drop (size_of octets) octets)
   pub first : packets_in octets ≡ packet_in octets ∷ packets_in (drop (size_of octets) octets)
@@ -51,7 +51,7 @@ here packet packets a r h k =
     record {
       begun = omega (arith, spelling_length packet a h, length-append a r);
       room = omega (arith, size, length-append a r);
-      spelled = (packet, subst (IsSpelling packet) (sym own) h);
+      spelled = rw (packet_read packet a r h, own) h;
       body = (packet, spelling_body packet a r h);
       more = rw (after, others) k;
       first = walk_reads (packet ∷ packets) (a ++ r) (a, r, refl, h, k)

@@ -16,7 +16,7 @@ use Rattle.rtcp_wire.proofs.Joining.{Joins-push}
 use Rattle.rtcp_wire.proofs.Prefixes.{cons_not_nil}
 
 -- one part more after those that were taken
-one_part_more : {A : Type 0} (S : A → List ℕ → Type 0) (xs : List A) (y : A) (octets old new : List ℕ) →
+pub one_part_more : {A : Type 0} (S : A → List ℕ → Type 0) (xs : List A) (y : A) (octets old new : List ℕ) →
     TakesPrefix octets old (Joins S xs) → TakesPrefix old new (S y) → TakesPrefix octets new (Joins S (xs ++ y ∷ []))
 one_part_more S xs y octets old new all one = (
   all.0 ++ one.0,

@@ -1,7 +1,7 @@
--- What the packets of a compound hold, each part once and in order (RFC 3550, 6.4 to 6.6): senders, report blocks,
--- SDES items and goodbyes.
+-- What the packets of a compound hold, each part once and in order (RFC 3550, 6.4 to 6.7): senders, report blocks,
+-- SDES items, goodbyes and packets of applications.
 use Rattle.std.specs.Prelude.{ℕ, List, [], ◌∷◌, ◌++◌, Option, map, flat_map}
-use Rattle.rtcp_wire.specs.Values.{SenderValue, ReportBlock, ItemValue, ChunkValue, RtcpPacket, sr, rr, sdes, bye, app, other}
+use Rattle.rtcp_wire.specs.Values.{SenderValue, ReportBlock, ItemValue, ChunkValue, AppValue, RtcpPacket, sr, rr, sdes, bye, app, other}
 
 -- ---- Senders
 
@@ -77,3 +77,18 @@ packet_goodbyes (other kind count body) = []
 -- the sources that all goodbyes name
 abbrev pub all_goodbyes : List RtcpPacket → List (ℕ × Option (List ℕ))
 all_goodbyes packets = flat_map packet_goodbyes packets
+
+-- ---- Packets of applications
+
+abbrev pub packet_apps : RtcpPacket → List AppValue
+packet_apps (sr sender blocks extension) = []
+packet_apps (rr reporter blocks extension) = []
+packet_apps (sdes chunks) = []
+packet_apps (bye ids reason) = []
+packet_apps (app subtype source name content) =
+    record { ssrc = source; subtype = subtype; name = name; content = content } ∷ []
+packet_apps (other kind count body) = []
+
+-- what all packets of applications say
+abbrev pub all_apps : List RtcpPacket → List AppValue
+all_apps packets = flat_map packet_apps packets

@@ -1,9 +1,11 @@
 -- Where a part of a datagram stands in it.
-use Rattle.std.specs.Prelude.{◌≡◌, ℕ, ◌+◌, ◌^◌, ◌<◌, List, ◌++◌, Option, Some, None, Result, Ok, Err, length, slice_get}
-use Rattle.rtcp_wire.specs.Values.{ItemValue}
+use Rattle.std.specs.Prelude.{◌≡◌, ℕ, ◌+◌, ◌^◌, ◌<◌, List, ◌++◌, Option, Some, None, Result, Ok, Err, length, slice_get, take}
+use Rattle.rtcp_wire.specs.Grammar.{Joins, IsSpelling}
+use Rattle.rtcp_wire.specs.Values.{ItemValue, AppValue, RtcpPacket, app}
 use Rattle.rtcp_wire.specs.declared.placed.Span.{Span}
 use Rattle.rtcp_wire.specs.declared.placed.PlacedItem.{PlacedItem}
 use Rattle.rtcp_wire.specs.declared.placed.PlacedGoodbye.{PlacedGoodbye}
+use Rattle.rtcp_wire.specs.declared.placed.PlacedApp.{PlacedApp}
 
 -- The part stands in the whole, after so many octets.
 pub record StandsIn (place : ℕ) (part whole : List ℕ) : Type 0 where
@@ -31,6 +33,26 @@ PlacesItem datagram item placed =
 abbrev pub PlacesGoodbye : List ℕ → ℕ × Option (List ℕ) → PlacedGoodbye → Type 0
 PlacesGoodbye datagram goodbye placed =
     (placed.ssrc ≡ goodbye.0) × MaySpan placed.reason goodbye.1 datagram
+
+-- What a packet of an application says, and where its data stand: after the header, the SSRC and the name of a packet
+-- in the datagram that says so.
+pub record PlacesApp (datagram : List ℕ) (part : AppValue) (placed : PlacedApp) : Type 0 where
+  pub ssrc : placed.ssrc ≡ part.ssrc
+  pub subtype : placed.subtype ≡ part.subtype
+  pub name : placed.name ≡ part.name
+  pub size : placed.content.size ≡ length part.content
+  pub data_stand : StandsIn placed.content.place part.content datagram
+  pub before : ℕ
+  pub octets : List ℕ
+  pub packet : IsSpelling (app part.subtype part.ssrc part.name part.content) octets
+  pub packet_stands : StandsIn before octets datagram
+  pub place : placed.content.place ≡ before + 12
+
+-- The same of one of the datagram's own packets, and of none inside another: what stands before it is packets.
+pub record PlacesOwnApp (datagram : List ℕ) (part : AppValue) (placed : PlacedApp) : Type 0 where
+  pub places : PlacesApp datagram part placed
+  pub packets : List RtcpPacket
+  pub joined : Joins IsSpelling packets (take places.before datagram)
 
 -- What is given at an index of a list shows the value there, if there is one.
 abbrev pub GivesAt : {A B : Type 0} → (A → B → Type 0) → List A → (index : ℕ) → Option B → Type 0
@@ -64,3 +86,14 @@ span_moved octets (Some span) = Some (record { place = span.place + octets; size
 abbrev pub MayMove : (octets : ℕ) → Option Span → Type 0
 MayMove octets None = Unit {0}
 MayMove octets (Some span) = span.place + octets < 2 ^ 64
+
+-- ---- Packets of applications
+
+-- what one says, whose data stand in its body after its SSRC and its name
+abbrev pub SaysApp : AppValue → PlacedApp → Type 0
+SaysApp part placed =
+    (placed.ssrc ≡ part.ssrc)
+    × (placed.subtype ≡ part.subtype)
+    × (placed.name ≡ part.name)
+    × (placed.content.size ≡ length part.content)
+    × (placed.content.place ≡ 8)

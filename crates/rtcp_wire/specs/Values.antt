@@ -29,6 +29,13 @@ pub record ChunkValue : Type 0 where
   pub id : ℕ
   pub items : List ItemValue
 
+-- what a packet that an application defines says (6.7): its source, its subtype, its name of four octets, and its data
+pub record AppValue : Type 0 where
+  pub ssrc : ℕ
+  pub subtype : ℕ
+  pub name : List ℕ
+  pub content : List ℕ
+
 pub data RtcpPacket : Type 0 where
   -- a sender report (6.4.1): its sender, its blocks, and the extension after them
   sr : (sender : SenderValue) (blocks : List ReportBlock) (extension : List ℕ) → RtcpPacket

@@ -59,7 +59,7 @@ pub use fault::{FaultReason, WireFault};
 pub use ids::Ids;
 pub use other::OtherPacket;
 pub use packet::PacketView;
-pub use placed::{PlacedGoodbye, PlacedItem, Span, goodbye_at, item_at};
+pub use placed::{PlacedApp, PlacedGoodbye, PlacedItem, Span, app_at, goodbye_at, item_at};
 pub use rr::ReceiverReport;
 pub use rtp::{RtpFault, RtpHead};
 pub use sdes::{CNAME, Chunk, Chunks, Items, SourceDescription};

@@ -1,24 +1,27 @@
-//! Where parts of a compound stand in its datagram: the texts of SDES items (RFC 3550, 6.5) and the reasons of
-//! BYEs (6.6), so that a caller in another language finds them by offset and size.
+//! Where parts of a compound stand in its datagram: the texts of SDES items (RFC 3550, 6.5), the reasons of BYEs
+//! (6.6) and the data of applications' packets (6.7), so that a caller in another language finds them by offset and
+//! size.
 
 ghost use Rattle.std.specs.Prelude.{◌≡◌, ◌+◌, ◌<◌, ◌^◌, List, Err, IsOkAnd};
 ghost use Rattle.rtcp_wire.specs.declared.fault.WireFault.{WireFault as Fault};
-ghost use Rattle.rtcp_wire.specs.Contents.{all_items, all_goodbyes};
+ghost use Rattle.rtcp_wire.specs.Contents.{all_apps, all_items, all_goodbyes};
 ghost use Rattle.rtcp_wire.specs.Faults.{IsFirstFault};
 ghost use Rattle.rtcp_wire.specs.Grammar.{IsAccepted};
-ghost use Rattle.rtcp_wire.specs.Placed.{GivesAt, PlacesItem, PlacesGoodbye};
+ghost use Rattle.rtcp_wire.specs.Placed.{GivesAt, PlacesItem, PlacesGoodbye, PlacesOwnApp};
 ghost use Rattle.rtcp_wire.specs.Values.{RtcpPacket};
 
+mod apps;
 mod first_packet;
 mod goodbyes;
 mod items;
 
 use crate::compound::Compound;
 use crate::fault::WireFault;
+use apps::app_in_packets;
 use goodbyes::goodbye_in_packets;
 use items::item_in_packets;
 
-/// Where a text stands.
+/// Where a text or other octets stand.
 #[derive(Clone, Copy, Debug, PartialEq, Eq)]
 pub struct Span {
     /// The octets before it.
@@ -61,6 +64,19 @@ pub struct PlacedGoodbye {
     pub reason: Option<Span>,
 }
 
+/// A packet that an application defines (RFC 3550, 6.7), and where its data stand.
+#[derive(Clone, Copy, Debug, PartialEq, Eq)]
+pub struct PlacedApp {
+    /// The SSRC of the source that sent it.
+    pub ssrc: u32,
+    /// Its subtype: below 32.
+    pub subtype: u8,
+    /// Its name, which need not be ASCII.
+    pub name: [u8; 4],
+    /// Where its data stand: whole words.
+    pub content: Span,
+}
+
 /// Of the items of all chunks of all source descriptions of a datagram, in their order, the one at `index`, from
 /// 0 on; `None` where there are no more.
 ///
@@ -91,6 +107,23 @@ pub fn goodbye_at(datagram: &[u8], index: usize) -> Result<Option<PlacedGoodbye>
 {
     match Compound::read(datagram) {
         Ok(_) => Ok(goodbye_in_packets(datagram, index)),
+        Err(fault) => Err(fault),
+    }
+}
+
+/// Of the packets of a datagram that applications define, in their order, the one at `index`, from 0 on (RFC 3550,
+/// 6.7); `None` where there are no more.
+///
+/// # Errors
+///
+/// The datagram's first fault, where it is not a compound.
+pub fn app_at(datagram: &[u8], index: usize) -> Result<Option<PlacedApp>, WireFault>
+    ensures gives { (packets : List RtcpPacket) → IsAccepted datagram.now packets →
+        IsOkAnd result (λ given. GivesAt (PlacesOwnApp datagram.now) (all_apps packets) index given) }
+    ensures finds { (fault : Fault) → IsFirstFault datagram.now fault → result ≡ Err fault }
+{
+    match Compound::read(datagram) {
+        Ok(_) => Ok(app_in_packets(datagram, index)),
         Err(fault) => Err(fault),
     }
 }

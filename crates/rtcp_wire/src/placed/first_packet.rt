@@ -2,7 +2,8 @@
 
 ghost use Rattle.std.specs.Prelude.{◌≡◌, ◌<◌, ◌∷◌, length};
 ghost use Rattle.rtcp_wire.specs.Grammar.{Joins, IsSpelling};
-ghost use Rattle.rtcp_wire.specs.Placed.{IsRest, StandsIn};
+ghost use Rattle.rtcp_wire.specs.Parts.{TakesPrefix};
+ghost use Rattle.rtcp_wire.specs.Placed.{StandsIn};
 ghost use Rattle.rtcp_wire.specs.Validity.{IsSomeBody};
 ghost use Rattle.rtcp_wire.specs.Walks.{body_says, packets_in};
 
@@ -27,7 +28,8 @@ pub(super) fn first_packet(octets: &[u8]) -> FirstPacket<'_>
     ensures body { IsSomeBody result.kind result.count result.body.now }
     ensures place { StandsIn 4 result.body.now octets.now }
     ensures others { Joins IsSpelling (packets_in result.others.now) result.others.now }
-    ensures rest { IsRest result.others.now octets.now }
+    ensures rest { TakesPrefix octets.now result.others.now
+        (IsSpelling (body_says result.kind result.count result.body.now)) }
     ensures shorter { length result.others.now < length octets.now }
 {
     let header = header_at(octets);

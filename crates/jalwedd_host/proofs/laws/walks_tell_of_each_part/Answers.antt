@@ -1,6 +1,5 @@
 -- Each call goes on where the one before stopped.
-use Rattle.rtcp_wire.specs.Contents.{packet_blocks, packet_goodbyes, packet_items, packet_senders}
-use Rattle.rtcp_parts.specs.Apps.{packet_apps}
+use Rattle.rtcp_wire.specs.Contents.{packet_apps, packet_blocks, packet_goodbyes, packet_items, packet_senders}
 use Rattle.rtcp_parts.specs.Cursors.{LeavesBlocks, LeavesGoodbyes, LeavesItems, LeavesNone}
 use Rattle.jalwedd_host.specs.Apps.{ShowsApp}
 use Rattle.jalwedd_host.specs.Parts.{ShowsGoodbye, ShowsItem, ShowsSender}

@@ -1,4 +1,5 @@
-use Rattle.std.proofs.Common.{◌≢◌, ◌<◌, ℕ, ◌-◌, ◌∷◌, List, [], length, drop, sym, ap, subst, ◌∙◌, arith}
+use Rattle.std.proofs.Common.{◌≢◌, ◌<◌, ℕ, ◌-◌, ◌∷◌, List, [], length, take, drop, sym, ap, subst, ◌∙◌, arith}
+use Rattle.std.proofs.lemmas.List.{take-append-drop}
 use Rattle.rtcp_wire.specs.Grammar.{size_of, padding_of}
 use Rattle.rtcp_wire.specs.Placed.{StandsIn}
 use Rattle.rtcp_wire.specs.Walks.{body_says, packets_in}
@@ -49,3 +50,17 @@ pub returns-clause-others : goal.returns-clause-others
 returns-clause-others c =
     let step = packet_step c.args.octets.now (some c.args.octets.now c.requires.some) c.requires.packets in
     rw (c.split_at.ensures.back, c.header_at-header.ensures.size) step.more
+
+pub returns-clause-rest : goal.returns-clause-rest
+returns-clause-rest c =
+    let octets = c.args.octets.now in
+    let step = packet_step octets (some octets c.requires.some) c.requires.packets in
+    let header = c.header_at-header.ensures in
+    rw (
+      header.kind,
+      header.count,
+      own_body octets c.split_at.result.0.now c.accepted_body.result.now
+          c.header_at-header.result.size step header.size c.split_at.ensures.front c.accepted_body.ensures,
+      c.split_at.ensures.back,
+      header.size,
+    ) (take (size_of octets) octets, sym (take-append-drop (size_of octets) octets), step.spelled)

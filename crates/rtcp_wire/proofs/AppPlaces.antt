@@ -1,0 +1,80 @@
+-- Where the data of an application's packet stand.
+use Rattle.std.proofs.Common.{◌≡◌, ℕ, zero, suc, ◌+◌, ◌-◌, List, [], ◌++◌, length, Some, refl, sym, ap, subst, ◌∙◌, append_assoc, append-nil, arith, slice_get}
+use Rattle.std.proofs.lemmas.List.{length-append}
+use Rattle.rtcp_wire.specs.Contents.{packet_apps}
+use Rattle.rtcp_wire.specs.Grammar.{Joins, IsSpelling, body_of, padding_of, size_of}
+use Rattle.rtcp_wire.specs.Parts.{TakesPrefix}
+use Rattle.rtcp_wire.specs.Placed.{PlacesOwnApp, SaysApp, StandsIn}
+use Rattle.rtcp_wire.specs.Values.{AppValue, RtcpPacket, app}
+use Rattle.rtcp_wire.specs.declared.placed.PlacedApp.{PlacedApp}
+use Rattle.rtcp_wire.specs.declared.placed.Span.{Span}
+use Rattle.rtcp_wire.proofs.PacketPlaces.{ArePassed}
+use Rattle.rtcp_wire.proofs.Places.{stands_within, taken_stands}
+use Rattle.rtcp_wire.proofs.Prefixes.{length_parts}
+use Rattle.rtcp_wire.proofs.RtpLists.{cut_at}
+
+-- the packet that says it
+abbrev packet_of : AppValue → RtcpPacket
+packet_of part = app part.subtype part.ssrc part.name part.content
+
+-- A packet that has a part is the one that says it.
+own_packet : (packet : RtcpPacket) (part : AppValue) (i : ℕ) → slice_get (packet_apps packet) i ≡ Some part →
+    packet ≡ packet_of part
+own_packet (app subtype source name content) part zero at =
+    let same : record { ssrc = source; subtype = subtype; name = name; content = content } ≡ part = cc in
+    ap packet_of same
+own_packet (app subtype source name content) part (suc i) at = absurd cc
+own_packet packet part i at = absurd cc
+
+-- in the packet's own octets, after its header, its SSRC and its name
+data_stand : (part : AppValue) (own : List ℕ) → IsSpelling (packet_of part) own → StandsIn 12 part.content own
+data_stand part own h =
+    let said = h.body.2 in
+    let inner : StandsIn 8 part.content (body_of own) = record {
+      before = said.id ++ part.name;
+      after = [];
+      parts = said.parts ∙ sym (append_assoc said.id part.name part.content)
+          ∙ ap (λ (t : List ℕ). (said.id ++ part.name) ++ t) (sym (append-nil part.content));
+      counted = omega (arith, length-append said.id part.name, said.source.0, said.name_size);
+    } in
+    stands_within 8 4 12 part.content (body_of own) own inner
+    (taken_stands 4 (size_of own - 4 - padding_of own) own (omega (arith, h.size))) refl
+
+-- At a packet of an application: what was passed before it, and its octets.
+pub app_placed : (packet : RtcpPacket) (datagram rest others : List ℕ) (left : ℕ) (part : AppValue) (found : PlacedApp)
+    (content : Span) → ArePassed datagram rest → TakesPrefix rest others (IsSpelling packet)
+    → slice_get (packet_apps packet) left ≡ Some part → SaysApp part found → content.size ≡ found.content.size
+    → content.place ≡ found.content.place + (length datagram - length rest + 4)
+    → PlacesOwnApp datagram part (record
+    { ssrc = found.ssrc; subtype = found.subtype; name = found.name; content = content })
+app_placed packet datagram rest others left part found content passed one at says size place =
+    let before : List ℕ = passed.1.0 in
+    let own : List ℕ = one.0 in
+    let spelled : IsSpelling (packet_of part) own = subst (λ (p : RtcpPacket). IsSpelling p own)
+    (own_packet packet part left at) one.2 in
+    let stands : StandsIn (length before) own datagram = record {
+      before = before;
+      after = others;
+      parts = passed.1.1 ∙ ap (λ (t : List ℕ). before ++ t) one.1;
+      counted = refl;
+    } in
+    let place_is : content.place ≡ 12 + length before =
+    omega (arith, says.4, place, length_parts datagram before rest passed.1.1) in
+    record {
+      places = record {
+        ssrc = says.0;
+        subtype = says.1;
+        name = says.2;
+        size = size ∙ says.3;
+        data_stand = stands_within 12 (length before) content.place part.content own datagram
+            (data_stand part own spelled) stands place_is;
+        before = length before;
+        octets = own;
+        packet = spelled;
+        packet_stands = stands;
+        place = omega (arith, place_is);
+      };
+      packets = passed.0;
+      joined = subst (Joins IsSpelling passed.0)
+          (sym (cut_at datagram before rest (length before) passed.1.1 refl).0) passed.1.2;
+    }

@@ -1,0 +1,24 @@
+use Rattle.std.proofs.Common.{Err, ap, subst}
+use Rattle.rtcp_wire.specs.Contents.{all_apps}
+use Rattle.rtcp_wire.specs.Placed.{GivesAt, PlacesOwnApp}
+use Rattle.rtcp_wire.proofs.LawLemmas.{walks_read_encodings}
+use Rattle.rtcp_wire.proofs.ReadingWalks.{accepted_as_read}
+use Rattle.rtcp_wire.proofs.placed.app_at.Goals as goal
+
+pub app_in_packets-requires : goal.app_in_packets-requires
+app_in_packets-requires c = (accepted_as_read c.args.datagram.now (_, c.in-Ok.ensures.accepted)).joined
+
+pub returns-in-Ok-clause-gives : goal.returns-in-Ok-clause-gives
+returns-in-Ok-clause-gives c = λ packets accepted.
+    subst (λ packets. GivesAt (PlacesOwnApp c.args.datagram.now) (all_apps packets) c.args.index
+    c.app_in_packets.result) (walks_read_encodings c.args.datagram.now packets accepted)
+    c.app_in_packets.ensures
+
+pub returns-in-Ok-clause-finds : goal.returns-in-Ok-clause-finds
+returns-in-Ok-clause-finds c = λ fault first. absurd (cc (c.in-Ok.ensures.finds fault first))
+
+pub returns-in-Err-clause-gives : goal.returns-in-Err-clause-gives
+returns-in-Err-clause-gives c = λ packets accepted. c.in-Err.ensures.reads packets accepted
+
+pub returns-in-Err-clause-finds : goal.returns-in-Err-clause-finds
+returns-in-Err-clause-finds c = λ fault first. ap Err (cc (c.in-Err.ensures.finds fault first))
