@@ -7,6 +7,7 @@ mod about;
 mod changes;
 mod damage;
 mod facts;
+mod placed;
 mod rtp;
 mod samples;
 mod types;
