@@ -3,7 +3,7 @@ use Rattle.std.proofs.Common.{flat_map, ◌≡◌, ◌≢◌, ℕ, ◌+◌, ◌-
 use Rattle.std.proofs.lemmas.List.Sums.{sum_by-append}
 use Rattle.byteorder.specs.Endian.{big_number}
 use Rattle.rtcp_wire.specs.Contents.{items_by, chunk_items}
-use Rattle.rtcp_wire.specs.Placed.{IsRest, StandsIn, PlacesItem}
+use Rattle.rtcp_wire.specs.Placed.{StandsIn, PlacesItem}
 use Rattle.rtcp_wire.specs.declared.placed.PlacedItem.{PlacedItem}
 use Rattle.rtcp_wire.specs.Values.{ItemValue}
 use Rattle.rtcp_wire.specs.Validity.{HasItems, HasChunks}
@@ -11,7 +11,7 @@ use Rattle.rtcp_wire.specs.Walks.{items_after, items_size, chunk_size, chunks_in
 use Rattle.rtcp_wire.proofs.ChunkSteps.{first_size, chunk_step, chunks_step}
 use Rattle.rtcp_wire.proofs.Finding.{Passing, found_first, pass_first}
 use Rattle.rtcp_wire.proofs.ItemSteps.{item_step, after_item}
-use Rattle.rtcp_wire.proofs.Places.{rest_of_drop, rest_of_rest, rest_stands, taken_stands, stands_within}
+use Rattle.rtcp_wire.proofs.Places.{IsRest, rest_of_drop, rest_of_rest, rest_stands, taken_stands, stands_within}
 
 -- At an item of a chunk: the octets from it on, its text, and the octets after it.
 module _ (id index now : ℕ) (octets rest text others : List ℕ)

@@ -1,10 +1,14 @@
 -- Where parts stand in a whole.
 use Rattle.std.proofs.Common.{◌≡◌, ℕ, ◌+◌, ◌-◌, ◌≤◌, List, [], ◌++◌, length, take, drop, sym, ap, ◌∙◌, append_assoc, append-nil, arith}
 use Rattle.std.proofs.lemmas.List.{length-append, take-append-drop, length-take-le}
-use Rattle.rtcp_wire.specs.Placed.{IsRest, StandsIn}
+use Rattle.rtcp_wire.specs.Placed.{StandsIn}
 use Rattle.rtcp_wire.proofs.Prefixes.{length_parts}
 
 -- ---- Rests
+
+-- The rest of octets: all of them after some.
+abbrev pub IsRest : List ℕ → List ℕ → Type 0
+IsRest rest octets = (before : List ℕ) × (octets ≡ before ++ rest)
 
 pub rest_of_drop : (n : ℕ) (octets : List ℕ) → IsRest (drop n octets) octets
 rest_of_drop n octets = (take n octets, sym (take-append-drop n octets))

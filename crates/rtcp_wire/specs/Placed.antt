@@ -66,10 +66,6 @@ IsFound {A = A} Shows values index (Ok given) =
     (value : A) × (slice_get values index ≡ Some value) × Shows value given
 IsFound Shows values index (Err left) = length values + left ≡ index
 
--- The rest of octets: all of them after some.
-abbrev pub IsRest : List ℕ → List ℕ → Type 0
-IsRest rest octets = (before : List ℕ) × (octets ≡ before ++ rest)
-
 -- ---- Reasons
 
 -- where a text stands, after so many octets, if there is one

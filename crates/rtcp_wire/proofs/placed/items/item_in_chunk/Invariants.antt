@@ -1,9 +1,9 @@
 use Rattle.std.proofs.Common.{length}
 use Rattle.rtcp_wire.specs.Contents.{items_by}
-use Rattle.rtcp_wire.specs.Placed.{IsRest}
 use Rattle.rtcp_wire.specs.Validity.{HasItems}
 use Rattle.rtcp_wire.specs.Walks.{items_after}
 use Rattle.rtcp_wire.proofs.Finding.{Passing}
+use Rattle.rtcp_wire.proofs.Places.{IsRest}
 use Rattle.rtcp_wire.proofs.placed.items.item_in_chunk.Given as goal
 
 -- the items from here on are those after what was passed

@@ -1,9 +1,9 @@
 use Rattle.std.proofs.Common.{flat_map}
 use Rattle.rtcp_wire.specs.Contents.{chunk_items}
-use Rattle.rtcp_wire.specs.Placed.{IsRest}
 use Rattle.rtcp_wire.specs.Validity.{HasChunks}
 use Rattle.rtcp_wire.specs.Walks.{chunks_in}
 use Rattle.rtcp_wire.proofs.Finding.{Passing}
+use Rattle.rtcp_wire.proofs.Places.{IsRest}
 use Rattle.rtcp_wire.proofs.placed.items.item_in_chunks.Given as goal
 
 -- the items of the chunks from here on are those after what was passed
