@@ -8,7 +8,7 @@ use Rattle.rtcp_wire.specs.Placed.{PlacesOwnApp, SaysApp, StandsIn}
 use Rattle.rtcp_wire.specs.Values.{AppValue, RtcpPacket, app}
 use Rattle.rtcp_wire.specs.declared.placed.PlacedApp.{PlacedApp}
 use Rattle.rtcp_wire.specs.declared.placed.Span.{Span}
-use Rattle.rtcp_wire.proofs.PacketPlaces.{ArePassed}
+use Rattle.rtcp_wire.proofs.PacketPlaces.{AtPacket}
 use Rattle.rtcp_wire.proofs.Places.{stands_within, taken_stands}
 use Rattle.rtcp_wire.proofs.Prefixes.{length_parts}
 use Rattle.rtcp_wire.proofs.RtpLists.{cut_at}
@@ -41,25 +41,26 @@ data_stand part own h =
     (taken_stands 4 (size_of own - 4 - padding_of own) own (omega (arith, h.size))) refl
 
 -- At a packet of an application: what was passed before it, and its octets.
-pub app_placed : (packet : RtcpPacket) (datagram rest others : List ℕ) (left : ℕ) (part : AppValue) (found : PlacedApp)
-    (content : Span) → ArePassed datagram rest → TakesPrefix rest others (IsSpelling packet)
-    → slice_get (packet_apps packet) left ≡ Some part → SaysApp part found → content.size ≡ found.content.size
+pub app_placed : {packet : RtcpPacket} {datagram rest : List ℕ} {index left : ℕ} (others : List ℕ) (part : AppValue)
+    (found : PlacedApp) (content : Span) → AtPacket packet_apps datagram rest index left
+    → TakesPrefix rest others (IsSpelling packet) → slice_get (packet_apps packet) left ≡ Some part
+    → SaysApp part found → content.size ≡ found.content.size
     → content.place ≡ found.content.place + (length datagram - length rest + 4)
     → PlacesOwnApp datagram part (record
     { ssrc = found.ssrc; subtype = found.subtype; name = found.name; content = content })
-app_placed packet datagram rest others left part found content passed one at says size place =
-    let before : List ℕ = passed.1.0 in
+app_placed {packet} {datagram} {rest} {index} {left} others part found content here one at says size place =
+    let before : List ℕ = here.before.0 in
     let own : List ℕ = one.0 in
     let spelled : IsSpelling (packet_of part) own = subst (λ (p : RtcpPacket). IsSpelling p own)
     (own_packet packet part left at) one.2 in
     let stands : StandsIn (length before) own datagram = record {
       before = before;
       after = others;
-      parts = passed.1.1 ∙ ap (λ (t : List ℕ). before ++ t) one.1;
+      parts = here.before.1 ∙ ap (λ (t : List ℕ). before ++ t) one.1;
       counted = refl;
     } in
     let place_is : content.place ≡ 12 + length before =
-    omega (arith, says.4, place, length_parts datagram before rest passed.1.1) in
+    omega (arith, says.4, place, length_parts datagram before rest here.before.1) in
     record {
       places = record {
         ssrc = says.0;
@@ -74,7 +75,7 @@ app_placed packet datagram rest others left part found content passed one at say
         packet_stands = stands;
         place = omega (arith, place_is);
       };
-      packets = passed.0;
-      joined = subst (Joins IsSpelling passed.0)
-          (sym (cut_at datagram before rest (length before) passed.1.1 refl).0) passed.1.2;
+      packets = here.passed;
+      joined = subst (Joins IsSpelling here.passed)
+          (sym (cut_at datagram before rest (length before) here.before.1 refl).0) here.before.2;
     }
