@@ -1,25 +1,11 @@
 -- A walk that begins over an accepted datagram tells of all its parts.
-use Rattle.std.proofs.Common.{◌≡◌, ℕ, zero, suc, ◌+◌, inl, List, [], ◌∷◌, Some, None, drop, flat_map, slice_get, refl, sym, ap, subst, ◌∙◌}
-use Rattle.std.proofs.lemmas.List.{drop_more}
-use Rattle.std.proofs.lemmas.Option.{get_or_from_slice_get, slice_get_within}
+use Rattle.std.proofs.Common.{◌≡◌, ℕ, ◌+◌, inl, List, [], ◌∷◌, Some, None, drop, flat_map, slice_get, refl, sym, subst}
 use Rattle.rtcp_wire.specs.Grammar.{IsAccepted}
 use Rattle.rtcp_wire.specs.Values.{RtcpPacket}
 use Rattle.rtcp_parts.specs.declared.cursor.Cursor.{Cursor}
 use Rattle.rtcp_parts.specs.Cursors.{HasPassed}
+use Rattle.rtcp_parts.proofs.Calls.{rest_from, rest_none}
 use Rattle.jalwedd_host.specs.Walks.{AreTold, Continues, ShowEach, TellsAll, begins}
-
--- the rest of a list from an index on
-rest_from : {A : Type 0} (xs : List A) (index : ℕ) (x : A) → slice_get xs index ≡ Some x
-    → drop index xs ≡ x ∷ drop (index + 1) xs
-rest_from {A = A} xs index x at =
-    drop_more xs index x (slice_get_within xs index x at)
-    ∙ ap (λ (v : A). v ∷ drop (index + 1) xs) (get_or_from_slice_get xs index x x at)
-
-rest_none : {A : Type 0} (xs : List A) (index : ℕ) → slice_get xs index ≡ None → drop index xs ≡ []
-rest_none [] zero at = refl
-rest_none [] (suc index) at = refl
-rest_none (x ∷ xs) zero at = absurd (cc at)
-rest_none (x ∷ xs) (suc index) at = rest_none xs index at
 
 module _ {Part Place : Type 0} {parts_of : RtcpPacket → List Part} {IsLeft : List ℕ → Cursor → List Part → Type 0}
     {Shows : Place → Part → Type 0} (datagram : List ℕ) (packets : List RtcpPacket)

@@ -7,13 +7,14 @@ use Rattle.rtcp_wire.specs.Grammar.{IsBody, Joins, IsBlock, IsReportEnd, IsSpell
 use Rattle.rtcp_wire.specs.Views.{block_value}
 use Rattle.rtcp_wire.specs.declared.block.Block.{Block}
 use Rattle.rtcp_wire.specs.Values.{ReportBlock, RtcpPacket, SenderValue, sr, rr, sdes, bye, app, other}
+use Rattle.rtcp_wire.proofs.Prefixes.{length_parts}
 use Rattle.rtcp_parts.specs.declared.cursor.Cursor.{Cursor}
 use Rattle.rtcp_parts.specs.declared.packet.Packet.{Packet}
 use Rattle.rtcp_parts.specs.declared.packet.Wanted.{Wanted}
 use Rattle.rtcp_parts.specs.Cursors.{Leaves, LeavesBlocks, LeavesHere, ShowsReported, blocks_place, rest_of}
 use Rattle.rtcp_parts.specs.Walks.{IsAtBlocks, IsPlaced, IsUnwanted}
 use Rattle.rtcp_parts.proofs.Entering.{left_inside}
-use Rattle.rtcp_parts.proofs.OctetParts.{length_parts, word_first}
+use Rattle.rtcp_parts.proofs.OctetParts.{word_first}
 use Rattle.rtcp_parts.proofs.Rests.{rest_further}
 
 -- both reports with at least one block

@@ -73,13 +73,13 @@ some_octets [] packets h = elim h.begins.0 [
 some_octets (octet ∷ octets) packets h = omega arith
 
 -- the rest of a list from an index on
-rest_from : {A : Type 0} (xs : List A) (index : ℕ) (x : A) → slice_get xs index ≡ Some x
+pub rest_from : {A : Type 0} (xs : List A) (index : ℕ) (x : A) → slice_get xs index ≡ Some x
     → drop index xs ≡ x ∷ drop (index + 1) xs
 rest_from {A = A} xs index x at =
     drop_more xs index x (slice_get_within xs index x at)
     ∙ ap (λ (v : A). v ∷ drop (index + 1) xs) (get_or_from_slice_get xs index x x at)
 
-rest_none : {A : Type 0} (xs : List A) (index : ℕ) → slice_get xs index ≡ None → drop index xs ≡ []
+pub rest_none : {A : Type 0} (xs : List A) (index : ℕ) → slice_get xs index ≡ None → drop index xs ≡ []
 rest_none [] zero at = refl
 rest_none [] (suc index) at = refl
 rest_none (x ∷ xs) zero at = absurd (cc at)

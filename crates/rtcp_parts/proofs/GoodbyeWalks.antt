@@ -7,13 +7,15 @@ use Rattle.rtcp_wire.specs.Grammar.{Joins, IsBody, IsId, IsReasonPart, IsSpellin
 use Rattle.rtcp_wire.specs.Placed.{MaySpan, StandsIn, span_at}
 use Rattle.rtcp_wire.specs.Values.{RtcpPacket, sr, rr, sdes, bye, app, other}
 use Rattle.rtcp_wire.specs.declared.placed.Span.{Span}
+use Rattle.rtcp_wire.proofs.Places.{stands_within}
+use Rattle.rtcp_wire.proofs.Prefixes.{length_parts}
 use Rattle.rtcp_parts.specs.declared.cursor.Cursor.{Cursor}
 use Rattle.rtcp_parts.specs.declared.packet.Packet.{Packet}
 use Rattle.rtcp_parts.specs.declared.packet.Wanted.{Wanted}
 use Rattle.rtcp_parts.specs.Cursors.{Leaves, LeavesGoodbyes, LeavesHere, is_within, rest_of}
 use Rattle.rtcp_parts.specs.Walks.{IsPlaced, IsUnwanted}
 use Rattle.rtcp_parts.proofs.Entering.{left_inside}
-use Rattle.rtcp_parts.proofs.OctetParts.{length_parts, stands_within, word_first}
+use Rattle.rtcp_parts.proofs.OctetParts.{word_first}
 use Rattle.rtcp_parts.proofs.Rests.{rest_further, rest_size, rest_stands}
 
 -- ---- Goodbyes
@@ -148,7 +150,7 @@ pub reason_stands : (before : ℕ) (reason : Option (List ℕ)) (ends datagram :
 reason_stands before None ends datagram h stands = tt {0}
 reason_stands before (Some text) ends datagram h stands = (
   stands_within 1 before (before + 1) text ends datagram
-      (record { before = length text ∷ []; after = h.free; parts = h.parts; counted = refl }) stands refl,
+      (record { before = length text ∷ []; after = h.free; parts = h.parts; counted = refl }) stands (omega arith),
   refl,
 )
 

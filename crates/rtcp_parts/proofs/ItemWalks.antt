@@ -9,6 +9,8 @@ use Rattle.rtcp_wire.specs.Grammar.{Joins, IsBody, IsChunk, IsItem, IsSpelling}
 use Rattle.rtcp_wire.specs.Placed.{PlacesItem, StandsIn}
 use Rattle.rtcp_wire.specs.declared.placed.PlacedItem.{PlacedItem}
 use Rattle.rtcp_wire.specs.Values.{ChunkValue, ItemValue, RtcpPacket, sr, rr, sdes, bye, app, other}
+use Rattle.rtcp_wire.proofs.Places.{stands_within}
+use Rattle.rtcp_wire.proofs.Prefixes.{length_parts}
 use Rattle.rtcp_parts.specs.declared.cursor.Cursor.{Cursor}
 use Rattle.rtcp_parts.specs.declared.packet.Packet.{Packet}
 use Rattle.rtcp_parts.specs.declared.packet.Wanted.{Wanted}
@@ -16,7 +18,7 @@ use Rattle.rtcp_parts.specs.Cursors.{Leaves, LeavesHere, LeavesItems, ended_at, 
 use Rattle.rtcp_parts.specs.Walks.{AreUnwanted, ComesNext, Enters, GoesOn, HasNoItem, IsPlaced, IsUnwanted, IsWanted, Opens, PassesOn, TakesHere, TakesNext, place_from}
 use Rattle.rtcp_parts.proofs.Calls.{ended_within, is_within_by, place_within, within_is}
 use Rattle.rtcp_parts.proofs.Entering.{leaves_packet, left_inside, none_among, nothing_left}
-use Rattle.rtcp_parts.proofs.OctetParts.{length_parts, stands_within, word_first}
+use Rattle.rtcp_parts.proofs.OctetParts.{word_first}
 use Rattle.rtcp_parts.proofs.Rests.{rest_further, rest_size, rest_stands}
 
 -- ---- An item
@@ -124,7 +126,7 @@ module _ (datagram : List ℕ) (was : Cursor) (parts : List (ℕ × ItemValue)) 
           kind_is ∙ ap (λ (t : List ℕ). get_or t 0 0) first.stand,
           (
             stands_within 2 was.place (was.place + 2) first.item.text (rest_of datagram was) datagram in_rest
-                (rest_stands datagram was within) refl,
+                (rest_stands datagram was within) (omega arith),
             size,
           ),
         ),

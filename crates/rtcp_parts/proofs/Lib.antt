@@ -1,6 +1,6 @@
 mod OctetParts
 mod Packets
-mod Calls
+pub mod Calls
 mod Entering
 mod Rests
 mod BlockWalks

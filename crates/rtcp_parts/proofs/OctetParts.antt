@@ -1,28 +1,9 @@
 -- Parts of parts of octets.
-use Rattle.std.proofs.Common.{◌≡◌, ℕ, ◌+◌, ◌-◌, ◌≤◌, List, ◌++◌, length, take, drop, sym, ap, ◌∙◌, append_assoc, arith}
-use Rattle.std.proofs.lemmas.List.{drop-drop, drop-take, get_or_append_left, length-append, length-drop, length-take, length-take-le, take-append-drop, take_min, take-take}
+use Rattle.std.proofs.Common.{◌≡◌, ℕ, ◌+◌, ◌-◌, ◌≤◌, List, ◌++◌, length, take, drop, sym, ap, ◌∙◌, arith}
+use Rattle.std.proofs.lemmas.List.{drop-drop, drop-take, get_or_append_left, length-drop, length-take, length-take-le, take-append-drop, take_min, take-take}
 use Rattle.byteorder.specs.Endian.{big_number}
 use Rattle.rtcp_wire.specs.Grammar.{body_of, padding_of, size_of}
 use Rattle.rtcp_wire.specs.Placed.{StandsIn}
-
--- the length of a whole, by its parts
-pub length_parts : (b a c : List ℕ) → b ≡ a ++ c → length b ≡ length a + length c
-length_parts b a c e = ap length e ∙ length-append a c
-
--- A part of a part stands in the whole.
-pub stands_within : (p q place : ℕ) (part middle whole : List ℕ) → StandsIn p part middle → StandsIn q middle whole →
-    place ≡ q + p → StandsIn place part whole
-stands_within p q place part middle whole h k is =
-    let inner : middle ++ k.after ≡ h.before ++ (part ++ (h.after ++ k.after)) =
-    ap (λ (t : List ℕ). t ++ k.after) h.parts ∙ append_assoc h.before (part ++ h.after) k.after
-    ∙ ap (λ (t : List ℕ). h.before ++ t) (append_assoc part h.after k.after) in
-    record {
-      before = k.before ++ h.before;
-      after = h.after ++ k.after;
-      parts = k.parts ∙ ap (λ (t : List ℕ). k.before ++ t) inner
-          ∙ sym (append_assoc k.before h.before (part ++ (h.after ++ k.after)));
-      counted = omega (arith, length-append k.before h.before, h.counted, k.counted, is);
-    }
 
 -- So many octets, after some, of octets that stand in others.
 pub part_of_part : (octets : List ℕ) (at size before count : ℕ) → before + count ≤ size →

@@ -1,13 +1,14 @@
 -- Packets that have one part at most: sender reports, and packets of applications.
-use Rattle.std.proofs.Common.{◌≡◌, ℕ, ◌+◌, ◌≤◌, inl, inr, true, List, [], ◌∷◌, ◌++◌, Some, None, length, drop, take, flat_map, refl, sym, ap, subst, ◌∙◌, append-nil, append_assoc, arith}
+use Rattle.std.proofs.Common.{◌≡◌, ℕ, ◌≤◌, inl, inr, true, List, [], ◌∷◌, ◌++◌, Some, None, length, drop, take, flat_map, refl, sym, ap, subst, ◌∙◌, arith}
 use Rattle.std.proofs.lemmas.Bool.Decides.{nat_tests}
-use Rattle.std.proofs.lemmas.List.{drop-take, drop_at, length-append, length-take-le, take-append-drop, take_at}
+use Rattle.std.proofs.lemmas.List.{drop_at, length-append, take_at}
 use Rattle.byteorder.specs.Endian.{big_number}
 use Rattle.rtcp_wire.specs.Contents.{packet_apps, packet_senders}
 use Rattle.rtcp_wire.specs.Grammar.{IsApplication, IsBody, Joins, IsSpelling, sender_in}
-use Rattle.rtcp_wire.specs.Placed.{PlacesApp, StandsIn}
+use Rattle.rtcp_wire.specs.Placed.{PlacesApp}
 use Rattle.rtcp_wire.specs.Values.{AppValue, RtcpPacket, SenderValue, sr, rr, sdes, bye, app, other}
 use Rattle.rtcp_wire.specs.declared.placed.PlacedApp.{PlacedApp}
+use Rattle.rtcp_wire.proofs.AppPlaces.{app_places}
 use Rattle.rtcp_parts.specs.declared.cursor.Cursor.{Cursor}
 use Rattle.rtcp_parts.specs.declared.packet.Packet.{Packet}
 use Rattle.rtcp_parts.specs.declared.packet.Wanted.{Wanted}
@@ -17,7 +18,7 @@ use Rattle.rtcp_parts.specs.Senders.{ShowsSender}
 use Rattle.rtcp_parts.specs.Walks.{ComesNext, IsPlaced, IsUnwanted, SaysApp, TakesNext}
 use Rattle.rtcp_parts.proofs.Calls.{ended_within, is_within_by, within_is}
 use Rattle.rtcp_parts.proofs.Entering.{NextOn, after_unwanted, next_on, nothing_left}
-use Rattle.rtcp_parts.proofs.OctetParts.{stands_within, word_first}
+use Rattle.rtcp_parts.proofs.OctetParts.{word_first}
 
 -- ---- A walk that is in no packet
 
@@ -179,37 +180,13 @@ app_room value count body h =
       said.name_size,
     )
 
--- what is placed in a datagram stands there
-placed_stands : (datagram body : List ℕ) (place : ℕ) → body ≡ drop place (take (place + length body) datagram)
-    → place ≤ length datagram → StandsIn place body datagram
-placed_stands datagram body place is room = record {
-  before = take place datagram;
-  after = drop (length body) (drop place datagram);
-  parts = sym (take-append-drop place datagram) ∙ ap (λ (t : List ℕ). take place datagram ++ t)
-      (sym (take-append-drop (length body) (drop place datagram))
-      ∙ ap (λ (t : List ℕ). t ++ drop (length body) (drop place datagram))
-      (sym (is ∙ drop-take place (length body) datagram)));
-  counted = length-take-le place datagram room;
-}
-
--- Its data stand after its SSRC and its name.
-data_stand : (ssrc : ℕ) (name content body : List ℕ) → IsApplication ssrc name content body → StandsIn 8 content body
-data_stand ssrc name content body says = record {
-  before = says.id ++ name;
-  after = [];
-  parts = says.parts ∙ sym (append_assoc says.id name content)
-      ∙ ap (λ (t : List ℕ). (says.id ++ name) ++ t) (sym (append-nil content));
-  counted = omega (arith, length-append says.id name, says.source.0, says.name_size);
-}
-
 -- The packet of an application has its only part, and says where its data stand.
-pub app_next : (datagram : List ℕ) (packets : List RtcpPacket) (packet : Packet) (from : ℕ) (given : PlacedApp)
-    (next : ComesNext applications datagram packets packet) → packet.kind ≡ 204 → IsPlaced datagram from packet
-    → SaysApp packet given
+pub app_next : (datagram : List ℕ) (packets : List RtcpPacket) (packet : Packet) (given : PlacedApp)
+    (next : ComesNext applications datagram packets packet) → packet.kind ≡ 204 → SaysApp packet given
     → (part : AppValue) × (others : List RtcpPacket)
     × (flat_map packet_apps packets ≡ part ∷ flat_map packet_apps others) × PlacesApp datagram part given
     × Joins IsSpelling others (drop packet.next datagram)
-app_next datagram packets packet from given next kind placed says =
+app_next datagram packets packet given next kind says =
     let body : List ℕ = packet.body.now in
     let is = defined next.value packet.kind packet.count body next.first.body kind in
     let part : AppValue = is.part in
@@ -222,18 +199,17 @@ app_next datagram packets packet from given next kind placed says =
     ∙ take_at part.name part.content 4 is.says.name_size in
     let ssrc : big_number 4 body ≡ part.ssrc =
     ap (big_number 4) is.says.parts
-    ∙ word_first is.says.id (part.name ++ part.content) (omega (arith, is.says.source.0)) ∙ sym is.says.source.1 in
-    let stand = placed_stands datagram body packet.place placed.body (omega (arith, placed.ends, placed.within)) in (
+    ∙ word_first is.says.id (part.name ++ part.content) (omega (arith, is.says.source.0)) ∙ sym is.says.source.1 in (
       part,
       next.others,
       ap (flat_map packet_apps) next.parts
           ∙ after_unwanted applications no_app_in next.skipped (next.value ∷ next.others) next.unwanted
           ∙ ap (λ (p : RtcpPacket). packet_apps p ++ flat_map packet_apps next.others) is.packet,
-      record {
-        ssrc = says.ssrc ∙ ssrc;
-        subtype = says.subtype ∙ sym is.subtype;
-        name = says.name ∙ named;
-        size =
+      app_places part given next.first.before next.first.octets datagram
+          (subst (λ (p : RtcpPacket). IsSpelling p next.first.octets) is.packet next.first.spelled) next.first.stands (
+            says.ssrc ∙ ssrc,
+            says.subtype ∙ sym is.subtype,
+            says.name ∙ named,
             omega (
               arith,
               says.size,
@@ -242,15 +218,8 @@ app_next datagram packets packet from given next kind placed says =
               length-append part.name part.content,
               is.says.source.0,
               is.says.name_size,
-            );
-        data_stand =
-            stands_within 8 packet.place given.content.place part.content body datagram
-            (data_stand part.ssrc part.name part.content body is.says) stand says.place;
-        before = next.first.before;
-        octets = next.first.octets;
-        packet = subst (λ (p : RtcpPacket). IsSpelling p next.first.octets) is.packet next.first.spelled;
-        packet_stands = next.first.stands;
-        place = omega (arith, says.place, next.first.place);
-      },
+            ),
+            omega (arith, says.place, next.first.place),
+          ),
       next.first.after,
     )

@@ -105,9 +105,4 @@ read_apps : all_apps (packets_in (report ++ application)) ≡
 read_apps = refl
 
 data_place : StandsIn 20 (1 ∷ 2 ∷ 3 ∷ 4 ∷ []) (report ++ application)
-data_place = record {
-  before = report ++ take 12 application;
-  after = [];
-  parts = refl;
-  counted = refl;
-}
+data_place = record { before = report ++ take 12 application; after = []; parts = refl; counted = refl }

@@ -1,6 +1,6 @@
 mod FirstFound
 mod Joining
-mod Prefixes
+pub mod Prefixes
 mod Fixed
 mod ChunkPrefixes
 mod Bodies
@@ -35,11 +35,11 @@ mod ChunkSteps
 mod PacketSteps
 mod WalkRows
 mod Finding
-mod Places
+pub mod Places
 mod ItemPlaces
 mod PacketPlaces
 mod GoodbyePlaces
-mod AppPlaces
+pub mod AppPlaces
 mod ContentRows
 mod BlockLists
 mod Octets

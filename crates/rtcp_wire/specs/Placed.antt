@@ -85,11 +85,11 @@ MayMove octets (Some span) = span.place + octets < 2 ^ 64
 
 -- ---- Packets of applications
 
--- what one says, whose data stand in its body after its SSRC and its name
-abbrev pub SaysApp : AppValue → PlacedApp → Type 0
-SaysApp part placed =
+-- what one says, whose data stand after so many octets
+abbrev pub SaysApp : ℕ → AppValue → PlacedApp → Type 0
+SaysApp place part placed =
     (placed.ssrc ≡ part.ssrc)
     × (placed.subtype ≡ part.subtype)
     × (placed.name ≡ part.name)
     × (placed.content.size ≡ length part.content)
-    × (placed.content.place ≡ 8)
+    × (placed.content.place ≡ place)

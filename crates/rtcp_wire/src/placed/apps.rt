@@ -41,7 +41,7 @@ pub(super) fn app_in_packets(datagram: &[u8], index: usize) -> Option<PlacedApp>
 /// A packet, where it is an application's and the index is 0, or how many more are to be passed after it.
 fn app_in_packet(packet: &FirstPacket<'_>, index: usize) -> Result<PlacedApp, usize>
     requires { IsSomeBody packet.now.kind packet.now.count packet.now.body.now }
-    ensures { IsFound SaysApp
+    ensures { IsFound (SaysApp 8)
         (packet_apps (body_says packet.now.kind packet.now.count packet.now.body.now)) index result }
 {
     if packet.kind != APPLICATION {

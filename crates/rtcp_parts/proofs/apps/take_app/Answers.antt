@@ -26,5 +26,5 @@ returns-clause-takes c =
     let placed = c.in_ok-packet.ensures.placed in
     takes_one c.args.datagram.now c.args.cursor.now c.ended-2.result c.requires c.in_ok-packet.packet
     c.in_ok-app.app placed.0 c.ended-2.ensures
-    (λ packets h. app_next c.args.datagram.now packets c.in_ok-packet.packet c.args.cursor.now.next c.in_ok-app.app
-    (c.in_ok-packet.ensures.next packets h) (omega (arith, placed.1.0, placed.1.1)) placed.0 c.in_ok-app.ensures.1)
+    (λ packets h. app_next c.args.datagram.now packets c.in_ok-packet.packet c.in_ok-app.app
+    (c.in_ok-packet.ensures.next packets h) (omega (arith, placed.1.0, placed.1.1)) c.in_ok-app.ensures.1)

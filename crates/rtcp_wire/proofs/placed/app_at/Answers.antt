@@ -17,8 +17,5 @@ returns-in-Ok-clause-gives c = λ packets accepted.
 pub returns-in-Ok-clause-finds : goal.returns-in-Ok-clause-finds
 returns-in-Ok-clause-finds c = λ fault first. absurd (cc (c.in-Ok.ensures.finds fault first))
 
-pub returns-in-Err-clause-gives : goal.returns-in-Err-clause-gives
-returns-in-Err-clause-gives c = λ packets accepted. c.in-Err.ensures.reads packets accepted
-
 pub returns-in-Err-clause-finds : goal.returns-in-Err-clause-finds
 returns-in-Err-clause-finds c = λ fault first. ap Err (cc (c.in-Err.ensures.finds fault first))
