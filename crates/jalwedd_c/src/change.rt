@@ -1,7 +1,7 @@
 //! What changed between two listings of the sources of a session.
 
 ghost use Rattle.std.specs.Prelude.{◌≡◌, Some, None, true, false};
-ghost use Rattle.rtcp_engine.specs.declared.differences.change.Change.{Change as ChangeValue};
+ghost use Rattle.rtcp_listing.specs.declared.change.Change.{Change as ChangeValue};
 ghost use Rattle.jalwedd_host.specs.Changes.{ShowsChange, both_rise, change_from};
 
 use jalwedd_host::change::{RoleChange, first_from};

@@ -2,7 +2,7 @@
 use Rattle.std.proofs.Common.{◌≡◌, ◌<◌, ◌==◌, ◌+◌, ◌-◌, ◌^◌, ℕ, not, Bool, true, false, Option, Some, None, is_some, IfSome, refl, ap, arith}
 use Rattle.std.proofs.lemmas.Bool.Decides.{nat_tests}
 use Rattle.rtcp_members.specs.Told.{StateValue}
-use Rattle.rtcp_engine.specs.Differences.{listed_of, role_of}
+use Rattle.rtcp_listing.specs.Differences.{listed_of, role_of}
 use Rattle.jalwedd_host.specs.declared.source.Source.{Source}
 use Rattle.jalwedd_host.specs.Answers.{moment_shown, one_if}
 use Rattle.jalwedd_host.specs.Changes.{listed_by}

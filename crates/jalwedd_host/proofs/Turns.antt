@@ -2,8 +2,8 @@
 use Rattle.std.proofs.Common.{◌≡◌, ◌≤◌, ◌&&◌, ℕ, suc, zero, not, nat_le, nat_lt, Bool, true, false, cond, List, [], ◌∷◌, Option, Some, slice_get, refl, sym, ap, ◌∙◌, arith}
 use Rattle.std.proofs.lemmas.Bool.Decides.{nat_tests}
 use Rattle.std.specs.List.{find}
-use Rattle.rtcp_engine.specs.declared.differences.change.Change.{Change}
-use Rattle.rtcp_engine.specs.Differences.{changes_rise_from}
+use Rattle.rtcp_listing.specs.declared.change.Change.{Change}
+use Rattle.rtcp_listing.specs.Differences.{changes_rise_from}
 use Rattle.jalwedd_host.proofs.Options.{some_same}
 
 abbrev pub first_from : ℕ → List Change → Option Change

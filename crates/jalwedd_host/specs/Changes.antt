@@ -1,10 +1,10 @@
 -- How the changes between two listings are told to a host in C.
 use Rattle.std.specs.Prelude.{ℕ, ◌≡◌, ◌==◌, ◌-◌, ◌^◌, ◌&&◌, not, nat_le, Bool, List, map, Option}
 use Rattle.std.specs.List.{find}
-use Rattle.rtcp_engine.specs.Differences.{ListedValue, role_of, rises_from, changes}
-use Rattle.rtcp_engine.specs.declared.differences.change.Role.{Role}
-use Rattle.rtcp_engine.specs.declared.differences.change.Role.TheVariants.{Away, Member, Sender}
-use Rattle.rtcp_engine.specs.declared.differences.change.Change.{Change}
+use Rattle.rtcp_listing.specs.Differences.{ListedValue, role_of, rises_from, changes}
+use Rattle.rtcp_listing.specs.declared.change.Role.{Role}
+use Rattle.rtcp_listing.specs.declared.change.Role.TheVariants.{Away, Member, Sender}
+use Rattle.rtcp_listing.specs.declared.change.Change.{Change}
 use Rattle.jalwedd_host.specs.declared.change.RoleChange.{RoleChange}
 use Rattle.jalwedd_host.specs.declared.source.Source.{Source}
 use Rattle.jalwedd_host.specs.Answers.{one_if}

@@ -8,9 +8,6 @@ mod ChangeRows
 mod Changing
 mod NewIdentifiers
 mod Counting
-mod DifferenceLaws
-mod DifferenceRows
-mod Differing
 mod StepLemmas
 mod Following
 mod ForgettingRows

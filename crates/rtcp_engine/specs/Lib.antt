@@ -26,4 +26,3 @@ pub mod States
 pub mod Sayings
 pub mod Promises
 pub mod Codes
-pub mod Differences

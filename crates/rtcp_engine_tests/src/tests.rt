@@ -9,7 +9,6 @@ use std::test::*;
 mod changes;
 mod configs;
 mod damage;
-mod differences;
 mod floods;
 mod heap;
 mod host;

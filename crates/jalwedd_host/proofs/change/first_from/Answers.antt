@@ -3,7 +3,7 @@ use Rattle.std.proofs.Common.{rules, sym, ◌∙◌, nat_le}
 use borrow.Author.Tests.{tests}
 use Rattle.std.proofs.lemmas.Iterator.Search.{find_from_yields_List}
 use Rattle.std.proofs.lemmas.Iterator.Consumers.{YieldsList-from_first}
-use Rattle.rtcp_engine.specs.declared.differences.change.Change.{Change}
+use Rattle.rtcp_listing.specs.declared.change.Change.{Change}
 use Rattle.std.proofs.lemmas.Iterator.Adapters.{option_map_id}
 use Rattle.jalwedd_host.proofs.change.first_from.Goals as goal
 

@@ -1,0 +1,3 @@
+mod DifferenceLaws
+mod DifferenceRows
+mod Differing
