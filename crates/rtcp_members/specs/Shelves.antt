@@ -12,12 +12,12 @@ use Rattle.rtcp_members.specs.declared.entry.Entry.{Entry}
 use Rattle.rtcp_members.specs.declared.counts.Counts.{Counts}
 use Rattle.rtcp_members.specs.declared.table.Applied.{Applied}
 use Rattle.rtcp_members.specs.Pending.{reported_entry}
-use Rattle.rtcp_members.specs.Standing.{AreCounts, IsOneMore}
+use Rattle.rtcp_members.specs.Standing.{AreCounts}
 use Rattle.rtcp_members.specs.Tables.{counted_of, entry_after, entry_with_fact, new_entry, place_of}
 use Rattle.rtcp_members.specs.contracts.cells.Cell.{the_row}
 use Rattle.rtcp_members.specs.Entries.{EntryValue}
 use Rattle.rtcp_members.specs.ListViews.{entry_value}
-use Rattle.rtcp_members.specs.Heaps.{IsIndexed}
+use Rattle.rtcp_members.specs.Heaps.{in_order, IsIndexed}
 use denote.RawPtr.{Ptr}
 
 -- The entries in order, how many there is room for, and the block of memory that they lie in, where they lie in one
@@ -27,9 +27,14 @@ pub record ShelfValue : Type 0 where
   pub room : ℕ
   pub block : Option Ptr
 
--- What holds of a shelf: the first slots of its cells are those of its entries, by rising SSRC.
-pub record IsShelf (cells : List Cell) (used room : ℕ) : Type 0 where
+-- Cells of which the first slots are those in use, by rising SSRC, and whose entries are counted.
+pub record IsCounted (cells : List Cell) (used : ℕ) (counts : Counts) : Type 0 where
   pub index : IsIndexed cells used
+  pub counted : AreCounts counts (in_order cells used)
+
+-- What holds of a shelf.
+pub record IsShelf (cells : List Cell) (used room : ℕ) (counts : Counts) : Type 0 where
+  pub kept : IsCounted cells used counts
   pub few : room ≤ 1024
 
 -- The entry of a rank becomes another one of the same source, of which the value is changed so.
@@ -39,23 +44,20 @@ pub record IsChanged (change : EntryValue → EntryValue) (entries next : List E
   pub ssrc : (d : Entry) → entry.ssrc ≡ (slice_index_or entries at d).ssrc
   pub value : (d : Entry) → entry_value entry ≡ change (entry_value (slice_index_or entries at d))
 
--- What a fact makes of the entry of a rank, which is counted anew, and what is returned of it.
-pub record TakesFact (fact : Fact) (moment : ℕ) (entries next : List Entry) (at : ℕ) (counts : Counts)
-    (applied : Applied) : Type 0 where
+-- What a fact makes of the entry of a rank, and what is returned of it.
+pub record TakesFact (fact : Fact) (moment : ℕ) (entries next : List Entry) (at : ℕ) (applied : Applied) :
+    Type 0 where
   pub changed : IsChanged (entry_with_fact fact moment) entries next at
-  pub recounted : AreCounts counts next
   pub place : (d : Entry) (room : Bool) →
       applied.place ≡ place_of fact (Some (entry_value (slice_index_or entries at d))) room
   pub counted : (d : Entry) → applied.counted ≡ counted_of fact (Some (entry_value (slice_index_or entries at d)))
 
--- An entry for the source of a fact is put into a gap, as the fact makes it, and counted.
-pub record Joins (fact : Fact) (moment : ℕ) (entries next : List Entry) (gap : ℕ)
-    (counts recounted : Counts) : Type 0 where
+-- An entry for the source of a fact is put into a gap, as the fact makes it.
+pub record Joins (fact : Fact) (moment : ℕ) (entries next : List Entry) (gap : ℕ) : Type 0 where
   pub entry : Entry
   pub ssrc : entry.ssrc ≡ subject fact
   pub value : entry_value entry ≡ entry_after fact moment new_entry
   pub items : next ≡ insert entries gap entry
-  pub counted : IsOneMore entry counts recounted
 
 -- A block is made of the source of a rank.
 pub record MakesBlock (moment : ℕ) (entries next : List Entry) (at : ℕ) (value : ReportBlock) : Type 0 where

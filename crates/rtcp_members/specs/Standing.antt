@@ -72,10 +72,9 @@ pub record IsMeasured (counts : Counts) (bounds : Bounds) (entries : List Entry)
   pub counted : AreCounts counts entries
   pub stand : AllStandBy bounds entries
 
--- What holds of a sorted table: its list and counts, the room that it has for its capacity, and its bounds.
-pub record IsKept (capacity room : ℕ) (counts : Counts) (bounds : Bounds) (entries : List Entry) : Type 0 where
+-- What holds of a sorted table: its list, the room that it has for its capacity, and its bounds.
+pub record IsKept (capacity room : ℕ) (bounds : Bounds) (entries : List Entry) : Type 0 where
   pub sorted : IsSortedTable capacity entries
-  pub counted : AreCounts counts entries
   pub roomy : capacity ≤ room
   pub standing : AllStandBy bounds entries
 

@@ -3,15 +3,18 @@
 
 ghost use Rattle.std.specs.Prelude.{◌≡◌, ◌+◌, ◌≤◌, ◌<◌, ◌^◌, Bool, length, IsTrue, Some};
 ghost use Rattle.rtcp_wire.specs.Facts.{is_media};
+ghost use Rattle.rtcp_wire.specs.Views.{block_value};
+ghost use Rattle.rtcp_wire.specs.Writing.{IsWritableBlock};
+ghost use Rattle.rtcp_source.specs.Blocks.{block_for};
 ghost use Rattle.rtcp_members.specs.Entries.{is_member, is_sender};
-ghost use Rattle.rtcp_members.specs.Pending.{is_due};
+ghost use Rattle.rtcp_members.specs.Pending.{is_due, reported_entry};
 ghost use Rattle.rtcp_members.specs.ListViews.{entry_value, lapsed, tally_of, weight_of};
 ghost use Rattle.rtcp_members.specs.Standing.{AreRecounted, IsAmong, IsOneMore};
 ghost use Rattle.rtcp_members.specs.Tables.{IsFew, counted_of, entry_with_fact, place_of};
 
 use crate::entry::Entry;
 use crate::table::Applied;
-use rtcp_wire::Fact;
+use rtcp_wire::{Block, Fact};
 
 /// How many members, senders and sources with news there are: of a table, 1,024 at most.
 #[derive(Clone, Copy)]
@@ -88,6 +91,21 @@ impl Counts {
         let applied = entry.apply(fact, t);
         self.add(entry);
         applied
+    }
+
+    /// The block of an entry that is counted, of which one is due, and after it none.
+    #[inline(always)]
+    pub(crate) fn report(&mut self, entry: &mut Entry, t: u64) -> Block
+        requires due { IsTrue (is_due (entry_value entry.old)) }
+        requires among { IsAmong entry.old self.old }
+        ensures block { Some (block_value result) ≡ block_for entry.old.ssrc t entry.old.source }
+        ensures ssrc { entry.new.ssrc ≡ entry.old.ssrc }
+        ensures value { entry_value entry.new ≡ reported_entry (entry_value entry.old) }
+        ensures writable { IsWritableBlock (block_value result) }
+        ensures recounted { AreRecounted entry.old entry.new self.old self.new }
+    {
+        self.due -= 1;
+        entry.report(t)
     }
 
     /// Ends the sending of an entry that is counted, if its last counted packet lies before `idle`.

@@ -1,16 +1,16 @@
-//! Entries by rising SSRC, that stay where they are put, with an index of them.
+//! Entries by rising SSRC, that stay where they are put, with an index and running counts of them.
 
 ghost use Rattle.std.specs.Prelude.{◌≡◌, ℕ, [], ◌<◌, ◌≤◌, ◌-◌, ◌*◌, length, slice_index_or, IfSome, IsTrue, is_some};
-ghost use Rattle.std.specs.List.{insert, remove};
-ghost use Rattle.rtcp_wire.specs.Facts.{is_media};
+ghost use Rattle.std.specs.List.{remove};
+ghost use Rattle.rtcp_wire.specs.Facts.{is_media, subject};
 ghost use Rattle.rtcp_wire.specs.Views.{block_value};
 ghost use Rattle.rtcp_members.specs.declared.entry.Entry.{Entry};
 ghost use Rattle.rtcp_members.specs.Heaps.{IsIndexed, IsHeap, IsPut, in_order, entries_in, slots_in, spared_slots};
 ghost use Rattle.rtcp_members.specs.ListViews.{checked, entry_value, mark_in, row_of, state_value, IsRankOf};
 ghost use Rattle.rtcp_members.specs.Pending.{is_due};
-ghost use Rattle.rtcp_members.specs.Shelves.{MakesBlock, TakesFact};
+ghost use Rattle.rtcp_members.specs.Shelves.{IsCounted, Joins, MakesBlock, TakesFact};
 ghost use Rattle.rtcp_members.specs.SortedViews.{IsGapFor, Locates};
-ghost use Rattle.rtcp_members.specs.Standing.{AreCounts, IsMeasured, RulesOut};
+ghost use Rattle.rtcp_members.specs.Standing.{AllStandBy, AreCounts, IsMeasured, RulesOut};
 ghost use Rattle.rtcp_members.specs.Tables.{IsFew};
 ghost use Rattle.rtcp_members.specs.Told.{state_of};
 ghost use Rattle.rtcp_members.specs.Traces.{horizons_at};
@@ -28,11 +28,12 @@ use std::marker::Model;
 
 /// Entries by rising SSRC. Each lies in one cell from when it is put in until it is dropped, and slots say where, by
 /// rank: those of the entries in use, and then those of cells that are free. A search reads slots alone, and an
-/// insert moves slots and no entry. No call takes memory.
+/// insert moves slots and no entry. Whatever changes an entry counts it anew. No call takes memory.
 #[derive(Drop)]
 pub struct Shelf<B: Blocks> {
     cells: B,
     used: usize,
+    counts: Counts,
 }
 
 impl<B: Blocks> Model for Shelf<B> {
@@ -44,7 +45,7 @@ impl<B: Blocks> Model for Shelf<B> {
     ghost view = { λ s.
         record { items = in_order (B.cells s.cells) s.used; room = B.room s.cells; block = B.block s.cells } };
 
-    ghost invariant = { λ s. IsShelf (B.cells s.cells) s.used (B.room s.cells) };
+    ghost invariant = { λ s. IsShelf (B.cells s.cells) s.used (B.room s.cells) s.counts };
 }
 
 impl<B: Blocks> Shelf<B> {
@@ -55,7 +56,11 @@ impl<B: Blocks> Shelf<B> {
         ensures vacant { result.items ≡ [] }
         ensures room { result.room ≡ B.room cells }
     {
-        Shelf { cells, used: 0 }
+        Shelf {
+            cells,
+            used: 0,
+            counts: Counts::none(),
+        }
     }
 
     #[inline(always)]
@@ -63,6 +68,14 @@ impl<B: Blocks> Shelf<B> {
         ensures { result ≡ length self.now.items }
     {
         self.used
+    }
+
+    /// How many of its entries are members and senders, and of how many a block is due.
+    #[inline(always)]
+    pub(crate) fn counts(&self) -> Counts
+        ensures { AreCounts result self.now.items }
+    {
+        self.counts
     }
 
     /// The SSRC of a rank.
@@ -123,18 +136,17 @@ impl<B: Blocks> Shelf<B> {
         entry_at(self.cells.as_slice(), self.used, at).state()
     }
 
-    /// A fact comes to the source of a rank, which is counted anew.
+    /// A fact comes to the source of a rank.
     #[inline(always)]
-    pub(crate) fn apply(&mut self, counts: &mut Counts, at: usize, fact: Fact, t: u64) -> Applied
+    pub(crate) fn apply(&mut self, at: usize, fact: Fact, t: u64) -> Applied
         requires stands { at < length self.old.items }
-        requires counted { AreCounts counts.old self.old.items }
         requires few { (d : Entry) → IsTrue (is_media fact) →
             IsFew (entry_value (slice_index_or self.old.items at d)) }
-        ensures taken { TakesFact fact t self.old.items self.new.items at counts.new result }
+        ensures taken { TakesFact fact t self.old.items self.new.items at result }
         ensures room { self.new.room ≡ self.old.room }
         ensures in_place { self.new.block ≡ self.old.block }
     {
-        let used = self.used;
+        let (used, counts) = (self.used, &mut self.counts);
         apply_at(self.cells.as_mut_slice(), used, counts, at, fact, t)
     }
 
@@ -146,19 +158,23 @@ impl<B: Blocks> Shelf<B> {
         ensures room { self.new.room ≡ self.old.room }
         ensures in_place { self.new.block ≡ self.old.block }
     {
-        let used = self.used;
-        report_at(self.cells.as_mut_slice(), used, at, t)
+        let (used, counts) = (self.used, &mut self.counts);
+        report_at(self.cells.as_mut_slice(), used, counts, at, t)
     }
 
-    /// Puts an entry into the gap for its source.
+    /// Puts an entry for the source of a fact into the gap for it.
     // The slots after those in use stay where they are, except the one that the new slot replaces.
-    pub(crate) fn insert(&mut self, gap: usize, entry: Entry)
-        requires gap { IsGapFor entry.ssrc self.old.items gap }
+    #[inline(never)]
+    pub(crate) fn join(&mut self, gap: usize, fact: Fact, t: u64)
+        requires gap { IsGapFor (subject fact) self.old.items gap }
         requires room { length self.old.items < self.old.room }
-        ensures items { self.new.items ≡ insert self.old.items gap entry }
+        ensures joined { Joins fact t self.old.items self.new.items gap }
         ensures room { self.new.room ≡ self.old.room }
         ensures in_place { self.new.block ≡ self.old.block }
     {
+        let mut entry = Entry::new(fact.ssrc());
+        let _ = entry.take_fact(fact, t);
+        self.counts.add(&entry);
         let ssrc = entry.ssrc;
         let until = self.used / 2 + 1;
         let place = lay(&mut self.cells, self.used, 2 * until, entry);
@@ -177,16 +193,14 @@ impl<B: Blocks> Shelf<B> {
             .is_some()
     }
 
-    /// Drops the entry of a rank, which is counted no more, and leaves its cell free.
-    pub(crate) fn remove(&mut self, counts: &mut Counts, at: usize)
-        requires stands { at < length self.old.items }
-        requires counted { AreCounts counts.old self.old.items }
+    /// Drops the entry of a rank, and leaves its cell free.
+    pub(crate) fn remove(&mut self, at: usize)
+        requires { at < length self.old.items }
         ensures items { self.new.items ≡ remove self.old.items at }
-        ensures counted { AreCounts counts.new self.new.items }
         ensures room { self.new.room ≡ self.old.room }
         ensures in_place { self.new.block ≡ self.old.block }
     {
-        let used = self.used;
+        let (used, counts) = (self.used, &mut self.counts);
         remove_at(self.cells.as_mut_slice(), used, counts, at);
         self.used -= 1;
     }
@@ -199,32 +213,20 @@ impl<B: Blocks> Shelf<B> {
         bounds_if_left(self.cells.as_slice(), self.used, silent, idle, gone)
     }
 
-    /// Drops the entries that do not outlast a check, and ends the sending of the idle ones. It is given the counts of
-    /// all, and returns the counts and the bounds of those that stay.
-    pub(crate) fn drop_silent(
-        &mut self,
-        counts: Counts,
-        silent: u64,
-        idle: u64,
-        gone: u64,
-    ) -> (Counts, Bounds)
-        requires { AreCounts counts self.old.items }
+    /// Drops the entries that do not outlast a check, and ends the sending of the idle ones. Returns the bounds of those
+    /// that stay.
+    pub(crate) fn drop_silent(&mut self, silent: u64, idle: u64, gone: u64) -> Bounds
         ensures items { self.new.items ≡ checked (horizons_at silent idle gone) self.old.items }
         ensures room { self.new.room ≡ self.old.room }
         ensures in_place { self.new.block ≡ self.old.block }
-        ensures measured { IsMeasured result.0 result.1 self.new.items }
+        ensures stand { AllStandBy result self.new.items }
     {
-        let used = self.used;
-        let (kept, counts, bounds) = drop_silent(
-            self.cells.as_mut_slice(),
-            used,
-            counts,
-            silent,
-            idle,
-            gone,
-        );
+        let (used, counts) = (self.used, self.counts);
+        let cells = self.cells.as_mut_slice();
+        let (kept, counts, bounds) = drop_silent(cells, used, counts, silent, idle, gone);
         self.used = kept;
-        (counts, bounds)
+        self.counts = counts;
+        bounds
     }
 }
 
@@ -260,43 +262,40 @@ fn apply_at(
     fact: Fact,
     t: u64,
 ) -> Applied
-    requires indexed { IsIndexed cells.old used }
+    requires kept { IsCounted cells.old used counts.old }
     requires stands { at < used }
-    requires counted { AreCounts counts.old (in_order cells.old used) }
     requires few { (d : Entry) → IsTrue (is_media fact) →
         IsFew (entry_value (slice_index_or (in_order cells.old used) at d)) }
-    ensures indexed { IsIndexed cells.new used }
+    ensures kept { IsCounted cells.new used counts.new }
     ensures as_many { length cells.new ≡ length cells.old }
-    ensures taken { TakesFact fact t (in_order cells.old used) (in_order cells.new used) at counts.new result }
+    ensures taken { TakesFact fact t (in_order cells.old used) (in_order cells.new used) at result }
 {
     let place = slot_at(cells, at).place;
     let cell = &mut cells[place as usize];
     counts.apply(&mut cell.entry, fact, t)
 }
 
-/// The block of the source of a rank, where one is due.
-fn report_at(cells: &mut [Cell], used: usize, at: usize, t: u64) -> Block
-    requires indexed { IsIndexed cells.old used }
+/// The block of the source of a rank, where one is due: then it is counted anew.
+fn report_at(cells: &mut [Cell], used: usize, counts: &mut Counts, at: usize, t: u64) -> Block
+    requires kept { IsCounted cells.old used counts.old }
     requires stands { at < used }
     requires due { (d : Entry) → IsTrue (is_due (entry_value (slice_index_or (in_order cells.old used) at d))) }
-    ensures indexed { IsIndexed cells.new used }
+    ensures kept { IsCounted cells.new used counts.new }
     ensures as_many { length cells.new ≡ length cells.old }
     ensures made { MakesBlock t (in_order cells.old used) (in_order cells.new used) at (block_value result) }
 {
     let place = slot_at(cells, at).place;
     let cell = &mut cells[place as usize];
-    cell.entry.report(t)
+    counts.report(&mut cell.entry, t)
 }
 
 /// Drops the entry of a rank, which is counted no more: one rank fewer is in use then.
 fn remove_at(cells: &mut [Cell], used: usize, counts: &mut Counts, at: usize)
-    requires indexed { IsIndexed cells.old used }
+    requires kept { IsCounted cells.old used counts.old }
     requires stands { at < used }
-    requires counted { AreCounts counts.old (in_order cells.old used) }
-    ensures indexed { IsIndexed cells.new (used - 1) }
+    ensures kept { IsCounted cells.new (used - 1) counts.new }
     ensures as_many { length cells.new ≡ length cells.old }
     ensures items { in_order cells.new (used - 1) ≡ remove (in_order cells.old used) at }
-    ensures counted { AreCounts counts.new (in_order cells.new (used - 1)) }
 {
     let place = slot_at(cells, at).place;
     let cell = &mut cells[place as usize];
@@ -347,8 +346,7 @@ fn drop_silent(
     idle: u64,
     gone: u64,
 ) -> (usize, Counts, Bounds)
-    requires indexed { IsIndexed cells.old used }
-    requires counted { AreCounts counts (in_order cells.old used) }
+    requires { IsCounted cells.old used counts }
     ensures indexed { IsIndexed cells.new result.0 }
     ensures as_many { length cells.new ≡ length cells.old }
     ensures items { in_order cells.new result.0 ≡ checked (horizons_at silent idle gone) (in_order cells.old used) }

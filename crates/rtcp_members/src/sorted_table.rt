@@ -3,22 +3,19 @@
 ghost use Rattle.std.specs.Prelude.{◌≡◌, ℕ, [], ◌<◌, ◌≤◌, ◌^◌, List, length, filter, take, drop, not, IfSome, IfOk, option_map};
 ghost use Rattle.std.specs.FinMap as finite;
 ghost use Rattle.rtcp_wire.specs.Facts.{subject};
-ghost use Rattle.rtcp_members.specs.Shelves.{Joins};
 ghost use Rattle.rtcp_members.specs.Traces.{horizons_at};
 ghost use Rattle.rtcp_members.specs.Told.{first_state};
 ghost use Rattle.rtcp_members.specs.Entries.{is_such};
 ghost use Rattle.rtcp_members.specs.ListViews.{state_value, rows_of, map_of, table_of, tally_of, IsRankOf};
 ghost use Rattle.rtcp_members.specs.SortedViews.{CutsAbove, IsRising, IsSortedTable, IsGapFor, Locates};
 ghost use Rattle.rtcp_members.specs.declared.bounds.Bounds.{Bounds as BoundsOf};
-ghost use Rattle.rtcp_members.specs.Standing.{AllStandBy, AreCounts, IsUpTo};
+ghost use Rattle.rtcp_members.specs.Standing.{AllStandBy, IsUpTo};
 ghost use Rattle.rtcp_members.specs.Pending.{is_due, is_above, first_ssrc};
 ghost use Rattle.rtcp_members.specs.Tables.{no_members, placed, after_fact, after_check, after_forgetting, is_unmarked, dropped_entries, dropped_senders};
 
 use crate::blocks::Blocks;
 use crate::bounds::Bounds;
 use crate::cells::Cell;
-use crate::counts::Counts;
-use crate::entry::Entry;
 use crate::shelf::Shelf;
 use crate::state::SourceState;
 use crate::table::{Applied, Dropped, InlineTable, MAX_CAPACITY, MemberTable, Place};
@@ -40,7 +37,6 @@ pub struct Sorted<B: Blocks> {
     /// Where the source of the last fact, block or telling stands, or would.
     last_rank: u16,
     entries: Shelf<B>,
-    counts: Counts,
     /// Whether walks to a source pay.
     walks: Walks,
     /// The source of the last fact: the next one is often of the same. Where it is not, what stands at the last
@@ -62,7 +58,7 @@ impl<B: Blocks> Model for Sorted<B> {
 
     ghost view = { λ t. table_of t.capacity t.entries.items };
 
-    ghost invariant = { λ t. IsKept t.capacity t.entries.room t.counts t.bounds t.entries.items };
+    ghost invariant = { λ t. IsKept t.capacity t.entries.room t.bounds t.entries.items };
 }
 
 /// A sorted table with room for 1,024 entries in itself, whatever its capacity: some 147 KB.
@@ -108,7 +104,6 @@ impl<B: Blocks> Sorted<B> {
             capacity: capacity as u16,
             last_rank: 0,
             entries: Shelf::over(cells),
-            counts: Counts::none(),
             walks: Walks::none(),
             last_ssrc: 0,
             bounds: Bounds::none(),
@@ -129,12 +124,10 @@ impl<B: Blocks> Sorted<B> {
                 senders: 0,
             };
         }
-        let (entries, senders) = (self.entries.len(), self.counts.senders);
-        let (counts, bounds) = self.entries.drop_silent(self.counts, silent, idle, gone);
-        self.counts = counts;
-        self.bounds = bounds;
+        let (entries, senders) = (self.entries.len(), self.entries.counts().senders);
+        self.bounds = self.entries.drop_silent(silent, idle, gone);
         let removed = (entries - self.entries.len()) as u32;
-        let ended = senders - counts.senders;
+        let ended = senders - self.entries.counts().senders;
         Dropped {
             entries: removed,
             senders: u32::from(ended),
@@ -159,14 +152,12 @@ impl<B: Blocks> MemberTable for Sorted<B> {
         match search(&self.entries, &mut self.walks, hint, ssrc) {
             Ok(at) => {
                 self.last_rank = at as u16;
-                let (entries, counts) = (&mut self.entries, &mut self.counts);
-                entries.apply(counts, at, fact, t)
+                self.entries.apply(at, fact, t)
             }
             Err(gap) => {
                 self.last_rank = gap as u16;
-                let (entries, counts) = (&mut self.entries, &mut self.counts);
                 let capacity = u32::from(self.capacity);
-                let place = admit(entries, counts, gap, capacity, fact, t);
+                let place = admit(&mut self.entries, capacity, gap, fact, t);
                 Applied {
                     place,
                     counted: false,
@@ -194,10 +185,7 @@ impl<B: Blocks> MemberTable for Sorted<B> {
     fn forget(&mut self, ssrc: u32) -> bool {
         let last_rank = usize::from(self.last_rank);
         match search(&self.entries, &mut self.walks, last_rank, ssrc) {
-            Ok(at) => {
-                let (entries, counts) = (&mut self.entries, &mut self.counts);
-                forget_at(entries, counts, at, ssrc)
-            }
+            Ok(at) => forget_at(&mut self.entries, at, ssrc),
             Err(_) => false,
         }
     }
@@ -212,15 +200,15 @@ impl<B: Blocks> MemberTable for Sorted<B> {
     }
 
     fn members(&self) -> u32 {
-        u32::from(self.counts.members)
+        u32::from(self.entries.counts().members)
     }
 
     fn senders(&self) -> u32 {
-        u32::from(self.counts.senders)
+        u32::from(self.entries.counts().senders)
     }
 
     fn next_with_news(&self, after: Option<u32>) -> Option<u32> {
-        if self.counts.due == 0 {
+        if self.entries.counts().due == 0 {
             return None;
         }
         let (entries, last_rank) = (&self.entries, usize::from(self.last_rank));
@@ -235,7 +223,6 @@ impl<B: Blocks> MemberTable for Sorted<B> {
         let last_rank = usize::from(self.last_rank);
         let at = search_behind(&self.entries, &mut self.walks, last_rank, ssrc).unwrap();
         self.last_rank = at as u16;
-        self.counts.due -= 1;
         self.entries.report(at, t)
     }
 
@@ -367,20 +354,11 @@ fn search_behind<B: Blocks>(
 /// A fact comes whose source has no entry. Where it is added, its entry is put into the gap.
 // Inlined, with what adds it apart: nothing is made ready for a fact that a full table turns away.
 #[inline(always)]
-fn admit<B: Blocks>(
-    entries: &mut Shelf<B>,
-    counts: &mut Counts,
-    gap: usize,
-    capacity: u32,
-    fact: Fact,
-    t: u64,
-) -> Place
+fn admit<B: Blocks>(entries: &mut Shelf<B>, capacity: u32, gap: usize, fact: Fact, t: u64) -> Place
     requires sorted { IsSortedTable capacity entries.old.items }
-    requires counted { AreCounts counts.old entries.old.items }
     requires room { capacity ≤ entries.old.room }
     requires gap { IsGapFor (subject fact) entries.old.items gap }
     ensures sorted { IsSortedTable capacity entries.new.items }
-    ensures counted { AreCounts counts.new entries.new.items }
     ensures room { capacity ≤ entries.new.room }
     ensures in_place { entries.new.block ≡ entries.old.block }
     ensures place { result ≡ placed (table_of capacity entries.old.items) fact }
@@ -395,35 +373,16 @@ fn admit<B: Blocks>(
     if entries.len() >= capacity as usize {
         return Place::NoRoom;
     }
-    join(entries, counts, gap, fact, t);
+    entries.join(gap, fact, t);
     Place::Added
 }
 
-/// Puts an entry for the source of a fact into the gap for it, and counts it.
-#[inline(never)]
-fn join<B: Blocks>(entries: &mut Shelf<B>, counts: &mut Counts, gap: usize, fact: Fact, t: u64)
-    requires gap { IsGapFor (subject fact) entries.old.items gap }
-    requires room { length entries.old.items < entries.old.room }
-    requires counted { AreCounts counts.old entries.old.items }
-    requires few { length entries.old.items < 1024 }
-    ensures joined { Joins fact t entries.old.items entries.new.items gap counts.old counts.new }
-    ensures room { entries.new.room ≡ entries.old.room }
-    ensures in_place { entries.new.block ≡ entries.old.block }
-{
-    let mut entry = Entry::new(fact.ssrc());
-    let _ = entry.take_fact(fact, t);
-    counts.add(&entry);
-    entries.insert(gap, entry);
-}
-
 /// Drops the entry of a source, which stands at `at`, unless the source said goodbye. Returns whether it dropped it.
-fn forget_at<B: Blocks>(entries: &mut Shelf<B>, counts: &mut Counts, at: usize, ssrc: u32) -> bool
+fn forget_at<B: Blocks>(entries: &mut Shelf<B>, at: usize, ssrc: u32) -> bool
     requires rank { IsRankOf ssrc entries.old.items at }
     requires rising { IsRising entries.old.items }
-    requires counted { AreCounts counts.old entries.old.items }
     ensures sorted { (capacity : ℕ) → IsSortedTable capacity entries.old.items →
         IsSortedTable capacity entries.new.items }
-    ensures counted { AreCounts counts.new entries.new.items }
     ensures stand { (bounds : BoundsOf) → AllStandBy bounds entries.old.items →
         AllStandBy bounds entries.new.items }
     ensures room { entries.new.room ≡ entries.old.room }
@@ -435,7 +394,7 @@ fn forget_at<B: Blocks>(entries: &mut Shelf<B>, counts: &mut Counts, at: usize, 
     if entries.is_marked_at(at) {
         return false;
     }
-    entries.remove(counts, at);
+    entries.remove(at);
     true
 }
 

@@ -13,13 +13,13 @@ use Rattle.rtcp_members.proofs.shelf.apply_at.Goals.{After-index-cells-place}
 seen : (c : After-index-cells-place) → IsAtRank c.args.cells.now c.args.used c.args.at c.slot_at-place.result
     (slice_index_or c.args.cells.now c.slot_at-place.result.place c.index-cells-place.result)
 seen c = at_rank c.args.cells.now c.args.used c.args.at c.slot_at-place.result c.index-cells-place.result
-    c.requires.indexed.heap c.requires.stands c.slot_at-place.ensures
+    c.requires.kept.index.heap c.requires.stands c.slot_at-place.ensures
 
 pub apply-requires : goal.apply-requires
 apply-requires c =
     let so = seen (goal.at.apply-requires c).After-index-cells-place in
     let most = few_counted so in
-    let counted = c.requires.counted in
+    let counted = c.requires.kept.counted in
     record {
       few = λ is_media. subst (λ (e : Entry). IsFew (entry_value e)) (sym (read_ranked so no_entry))
           (c.requires.few no_entry is_media);
@@ -31,10 +31,15 @@ apply-requires c =
       );
     }
 
-pub returns-clause-indexed : goal.returns-clause-indexed
-returns-clause-indexed c =
-    let so = seen (goal.at.returns-clause-indexed c).After-index-cells-place in
-    still_indexed so c.apply.new.entry c.apply.ensures.ssrc c.requires.indexed.rising
+pub returns-clause-kept : goal.returns-clause-kept
+returns-clause-kept c =
+    let so = seen (goal.at.returns-clause-kept c).After-index-cells-place in
+    let made = c.apply.ensures in
+    record {
+      index = still_indexed so c.apply.new.entry made.ssrc c.requires.kept.index.rising;
+      counted = recounted_ranked so c.apply.new.entry made.ssrc c.args.counts.now c.apply.new.self
+          c.requires.kept.counted made.recounted;
+    }
 
 pub returns-clause-taken : goal.returns-clause-taken
 returns-clause-taken c =
@@ -43,8 +48,6 @@ returns-clause-taken c =
     record {
       changed = changed_ranked so c.apply.new.entry made.ssrc (entry_with_fact c.args.fact c.args.t)
           made.value;
-      recounted = recounted_ranked so c.apply.new.entry made.ssrc c.args.counts.now c.apply.new.self
-          c.requires.counted made.recounted;
       place = λ d room. made.place room
           ∙ ap (λ (e : Entry). place_of c.args.fact (Some (entry_value e)) room) (read_ranked so d);
       counted = λ d. made.counted

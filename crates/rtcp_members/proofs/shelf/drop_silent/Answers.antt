@@ -76,7 +76,7 @@ returns-clause-indexed c =
       rising = rising_checked (horizons_at c.args.silent c.args.idle c.args.gone)
           (in_order c.args.cells.now c.args.used) (in_order c.ranks.cells c.ranks.kept)
           (sym (first_ranked c.ranks.cells c.args.used c.ranks.kept so.heap fewer) ∙ all_dropped so.dropping (omega
-          (arith, c.ranks-test.false, length_ranked c.ranks.cells c.args.used so.heap))) c.requires.indexed.rising;
+          (arith, c.ranks-test.false, length_ranked c.ranks.cells c.args.used so.heap))) c.requires.index.rising;
     }
 
 pub returns-clause-items : goal.returns-clause-items

@@ -12,11 +12,11 @@ use Rattle.rtcp_members.proofs.shelf.remove_at.Goals.{After-index-cells-place}
 seen : (c : After-index-cells-place) → IsAtRank c.args.cells.now c.args.used c.args.at c.slot_at-place.result
     (slice_index_or c.args.cells.now c.slot_at-place.result.place c.index-cells-place.result)
 seen c = at_rank c.args.cells.now c.args.used c.args.at c.slot_at-place.result c.index-cells-place.result
-    c.requires.indexed.heap c.requires.stands c.slot_at-place.ensures
+    c.requires.kept.index.heap c.requires.stands c.slot_at-place.ensures
 
 pub remove-requires : goal.remove-requires
 remove-requires c =
-    among_ranked (seen (goal.at.remove-requires c).After-index-cells-place) c.args.counts.now c.requires.counted
+    among_ranked (seen (goal.at.remove-requires c).After-index-cells-place) c.args.counts.now c.requires.kept.counted
 
 pub move_behind-requires-clause-heap : goal.move_behind-requires-clause-heap
 move_behind-requires-clause-heap c =
@@ -30,18 +30,16 @@ returns-clause-items c =
     ∙ ap (λ xs. remove xs c.args.at) (written_ranked so c.retire.new.self c.retire.ensures.ssrc)
     ∙ leaves_written (in_order c.args.cells.now c.args.used) c.args.at c.retire.new.self
 
-pub returns-clause-indexed : goal.returns-clause-indexed
-returns-clause-indexed c =
-    let so = seen (goal.at.returns-clause-indexed c).After-index-cells-place in
+pub returns-clause-kept : goal.returns-clause-kept
+returns-clause-kept c =
+    let items = in_order c.args.cells.now c.args.used in
+    let so = seen (goal.at.returns-clause-kept c).After-index-cells-place in
+    let is = sym (returns-clause-items c) in
     record {
-      heap = c.move_behind.ensures.heap;
-      rising = subst IsRising (sym (returns-clause-items c))
-          (rising_removed (in_order c.args.cells.now c.args.used) c.args.at (stands so) c.requires.indexed.rising);
+      index = record {
+        heap = c.move_behind.ensures.heap;
+        rising = subst IsRising is (rising_removed items c.args.at (stands so) c.requires.kept.index.rising);
+      };
+      counted = subst (AreCounts c.remove.new.self) is (counted_removed c.args.counts.now c.remove.new.self items
+          c.args.at _ (stands so) (read_ranked so _) c.requires.kept.counted c.remove.ensures);
     }
-
-pub returns-clause-counted : goal.returns-clause-counted
-returns-clause-counted c =
-    let so = seen (goal.at.returns-clause-counted c).After-index-cells-place in
-    subst (AreCounts c.remove.new.self) (sym (returns-clause-items c))
-    (counted_removed c.args.counts.now c.remove.new.self (in_order c.args.cells.now c.args.used) c.args.at _ (stands so)
-    (read_ranked so _) c.requires.counted c.remove.ensures)

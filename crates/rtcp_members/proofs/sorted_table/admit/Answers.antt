@@ -4,7 +4,7 @@ use Rattle.rtcp_wire.specs.Facts.{subject}
 use Rattle.rtcp_members.proofs.Rising.{rising_apart}
 use Rattle.rtcp_members.proofs.Searching.{none_in_gap}
 use Rattle.rtcp_members.proofs.Admitting.{ignored, no_room}
-use Rattle.rtcp_members.proofs.Inserting.{inserted, sorted_insert, counted_insert}
+use Rattle.rtcp_members.proofs.Inserting.{inserted, sorted_insert}
 use Rattle.rtcp_members.proofs.sorted_table.admit.Goals as goal
 
 pub returns-then-is_goodbye-clause-place : goal.returns-then-is_goodbye-clause-place
@@ -30,12 +30,6 @@ returns-then-len-capacity-clause-table g c =
     (rising_apart c.args.entries.now.items c.requires.sorted.rising)
     (none_in_gap (subject c.args.fact) c.args.entries.now.items c.args.gap c.requires.gap) (search rules)
     (omega (arith, c.len.ensures, c.if-len-capacity.true))).1
-
-pub returns-clause-counted : goal.returns-clause-counted
-returns-clause-counted g c =
-    rw c.join.ensures.joined.items
-    (counted_insert c.args.counts.now c.join.new.counts c.args.entries.now.items c.args.gap c.join.ensures.joined.entry
-    c.requires.counted c.join.ensures.joined.counted)
 
 pub returns-clause-sorted : goal.returns-clause-sorted
 returns-clause-sorted g c =

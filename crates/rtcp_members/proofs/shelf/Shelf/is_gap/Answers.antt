@@ -19,7 +19,7 @@ its : (g : Over) (c : Joined-else-rank-gt0 g) (slot : Slot) (at : ℕ) → at < 
     → slot.ssrc ≡ key_at (in_order (g.B.Blocks.cells c.self.inside.cells) c.self.inside.used) at
 its g c slot at early read =
     ap (λ (s : Slot). s.ssrc) (read ∙ ap (λ xs. slice_index_or (pairs_in xs) at no_slot) c.as_slice-cells.ensures.cells)
-    ∙ ssrc_ranked (g.B.Blocks.cells c.self.inside.cells) c.self.inside.used c.self.invariant.index.heap at early
+    ∙ ssrc_ranked (g.B.Blocks.cells c.self.inside.cells) c.self.inside.used c.self.invariant.kept.index.heap at early
     no_entry
 
 -- A source would stand there where what comes there is greater: that before was seen to be lesser.
@@ -29,7 +29,7 @@ gap : (g : Over) (c : Joined-else-rank-gt0 g) → (c.args.rank < c.self.inside.u
 gap g c next =
     let cells : List Cell = g.B.Blocks.cells c.self.inside.cells in
     let used : ℕ = c.self.inside.used in
-    let index = c.self.invariant.index in
+    let index = c.self.invariant.kept.index in
     let as_long = length_ranked cells used index.heap in
     let last : 0 < c.args.rank → key_at (in_order cells used) (c.args.rank - 1) < c.args.ssrc =
     elim c.else-rank-gt0.branch [

@@ -14,7 +14,7 @@ pub returns : goal.returns
 returns g c =
     let cells : List Cell = g.B.Blocks.cells c.self.inside.cells in
     let used : ℕ = c.self.inside.used in
-    let index = c.self.invariant.index in
+    let index = c.self.invariant.kept.index in
     let items = ap (λ (v : ShelfValue). v.items) c.self.view_is in
     let within : c.args.at < length (in_order cells used) = omega
     (arith, c.requires, ap (λ (xs : List Entry). length xs) items) in

@@ -1,5 +1,4 @@
--- A check that changes nothing leaves all but the bounds. Else what the list is after it, the table is, and the counts
--- are counted anew.
+-- A check that changes nothing leaves all but the bounds. Else what the list is after it, the table is.
 use Rattle.std.proofs.Common.{◌-◌, ◌∙◌, arith}
 use Rattle.rtcp_members.specs.Traces.{horizons_at}
 use Rattle.rtcp_members.proofs.Tallies.{fewer_checked, fewer_senders_checked, table_checked, dropped_checked}
@@ -11,7 +10,7 @@ use Rattle.rtcp_members.proofs.sorted_table.Sorted.sweep.Goals as goal
 pub invariant_of-self : goal.invariant_of-self
 invariant_of-self g c =
     let so = c.self.invariant in
-    record { sorted = so.sorted; counted = so.counted; roomy = so.roomy; standing = c.in-Some.ensures.stand }
+    record { sorted = so.sorted; roomy = so.roomy; standing = c.in-Some.ensures.stand }
 
 pub returns-in-Some : goal.returns-in-Some
 returns-in-Some g c =
@@ -27,7 +26,7 @@ overflow_sub-removed g c =
     omega (
       arith,
       fewer_checked (horizons_at c.args.silent c.args.idle c.args.gone) c.self.inside.entries.items
-          c.drop_silent.new.self.items c.drop_silent.ensures.items,
+          c.drop_silent-self-inside.new.self.items c.drop_silent-self-inside.ensures.items,
       c.len.ensures,
       c.len-entries.ensures,
     )
@@ -37,27 +36,27 @@ overflow_sub-ended g c =
     omega (
       arith,
       fewer_senders_checked (horizons_at c.args.silent c.args.idle c.args.gone) c.self.inside.entries.items
-          c.drop_silent.new.self.items c.drop_silent.ensures.items,
-      c.drop_silent.ensures.measured.counted.senders,
-      c.self.invariant.counted.senders,
+          c.drop_silent-self-inside.new.self.items c.drop_silent-self-inside.ensures.items,
+      c.counts-2.ensures.senders,
+      c.counts.ensures.senders,
     )
 
 pub invariant_of-self-2 : goal.invariant_of-self-2
 invariant_of-self-2 g c =
     record {
       sorted = sorted_checked (horizons_at c.args.silent c.args.idle c.args.gone) c.self.inside.entries.items
-          c.drop_silent.new.self.items c.drop_silent.ensures.items c.self.inside.capacity c.self.invariant.sorted;
-      counted = c.drop_silent.ensures.measured.counted;
-      roomy = omega (arith, c.self.invariant.roomy, c.drop_silent.ensures.room);
-      standing = c.drop_silent.ensures.measured.stand;
+          c.drop_silent-self-inside.new.self.items c.drop_silent-self-inside.ensures.items c.self.inside.capacity
+          c.self.invariant.sorted;
+      roomy = omega (arith, c.self.invariant.roomy, c.drop_silent-self-inside.ensures.room);
+      standing = c.drop_silent-self-inside.ensures.stand;
     }
 
 pub returns : goal.returns
 returns g c =
     let horizons = horizons_at c.args.silent c.args.idle c.args.gone in
     let items = c.self.inside.entries.items in
-    let next = c.drop_silent.new.self.items in
-    let is = c.drop_silent.ensures.items in
+    let next = c.drop_silent-self-inside.new.self.items in
+    let is = c.drop_silent-self-inside.ensures.items in
     let capacity = c.self.inside.capacity in
     let so = c.self.invariant in
     let listed = listed_of capacity items so.sorted in
@@ -66,6 +65,6 @@ returns g c =
           ∙ dropped_checked horizons items next is capacity c.args.self.now c.self.view_is listed;
       senders = c.from.ensures
           ∙ senders_dropped horizons items next is capacity c.args.self.now c.self.view_is so.sorted
-          c.self.inside.counts c.drop_silent.result.0 so.counted c.drop_silent.ensures.measured.counted;
+          c.counts.result c.counts-2.result c.counts.ensures c.counts-2.ensures;
       content = table_checked horizons items next is capacity c.args.self.now c.self.view_is listed;
     }

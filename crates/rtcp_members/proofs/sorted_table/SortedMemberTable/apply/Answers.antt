@@ -46,7 +46,6 @@ invariant_of-self g c =
       sorted = sorted_edited (subject c.args.fact) items next c.in-Ok.at
           (entry_with_fact c.args.fact c.args.t) stands made c.self.inside.capacity
           c.self.invariant.sorted;
-      counted = c.apply.ensures.taken.recounted;
       roomy = omega (arith, c.self.invariant.roomy, c.apply.ensures.room);
       standing = stand_with_fact c.args.fact c.args.t items next c.in-Ok.at stands made
           c.lower.new.self c.lower.ensures.up_to (all_lower c.lower.new.self c.self.inside.bounds
@@ -69,7 +68,6 @@ invariant_of-self-in-Err g c =
     record {
       sorted = subst (λ (n : ℕ). IsSortedTable n c.admit-place.new.entries.items) c.from-capacity.ensures
           c.admit-place.ensures.sorted;
-      counted = c.admit-place.ensures.counted;
       roomy = omega (arith, c.from-capacity.ensures, c.admit-place.ensures.room);
       standing = c.admit-place.ensures.stand c.lower.new.self c.lower.ensures.up_to stood;
     }

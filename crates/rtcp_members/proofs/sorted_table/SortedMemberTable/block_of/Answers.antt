@@ -9,7 +9,7 @@ use Rattle.rtcp_members.specs.Pending.{is_due_at, after_block, block_at, reporte
 use Rattle.rtcp_members.specs.SortedViews.{Locates}
 use Rattle.rtcp_members.specs.Tables.{TableValue}
 use Rattle.rtcp_members.proofs.Edits.{sorted_edited, stand_edited}
-use Rattle.rtcp_members.proofs.Placing.{due_counts, due_there, counts_reported}
+use Rattle.rtcp_members.proofs.Placing.{due_there}
 use Rattle.rtcp_members.proofs.Reporting.{block_reported, table_reported}
 use Rattle.rtcp_members.proofs.Rising.{rising_apart}
 use Rattle.rtcp_members.proofs.Searching.{due_is_found}
@@ -27,13 +27,6 @@ is_due_there g c = subst (λ (table : TableValue). IsTrue (is_due_at c.args.ssrc
 pub unwrap-at-requires : goal.unwrap-at-requires
 unwrap-at-requires g c = due_is_found c.args.ssrc c.self.inside.capacity c.self.inside.entries.items
     c.args.self.now c.search_behind.result c.self.view_is c.requires c.search_behind.ensures
-
-pub overflow_sub-self : goal.overflow_sub-self
-overflow_sub-self g c =
-    let items : List Entry = c.self.inside.entries.items in
-    let place = stands g (goal.at.overflow_sub-self g c).After-unwrap-at in
-    let due = is_due_there g (goal.at.overflow_sub-self g c).After-unwrap-at in
-    omega (arith, c.self.invariant.counted.due, due_counts c.args.ssrc items c.unwrap-at.result place due)
 
 pub report-requires : goal.report-requires
 report-requires g c =
@@ -67,14 +60,11 @@ invariant_of-self g c =
     let items : List Entry = c.self.inside.entries.items in
     let at = c.unwrap-at.result in
     let place = stands g (goal.at.invariant_of-self g c).After-unwrap-at in
-    let due = is_due_there g (goal.at.invariant_of-self g c).After-unwrap-at in
     let so = c.self.invariant in
     let made = c.report.ensures.made.changed in
     let next : List Entry = c.report.new.self.items in
-    let counts = counts_reported c.args.ssrc items at place due next made c.self.inside.counts so.counted in
     record {
       sorted = sorted_edited c.args.ssrc items next at reported_entry place made c.self.inside.capacity so.sorted;
-      counted = record { members = counts.0; senders = counts.1; due = omega (arith, counts.2) };
       roomy = omega (arith, so.roomy, c.report.ensures.room);
       standing = stand_edited c.args.ssrc items next at reported_entry place made c.self.inside.bounds
           (λ value stands. stands) so.standing;

@@ -11,7 +11,6 @@ invariant_of-self g c =
     let so = c.self.invariant in
     record {
       sorted = c.forget_at.ensures.sorted c.self.inside.capacity so.sorted;
-      counted = c.forget_at.ensures.counted;
       roomy = omega (arith, so.roomy, c.forget_at.ensures.room);
       standing = c.forget_at.ensures.stand c.self.inside.bounds so.standing;
     }

@@ -9,4 +9,4 @@ pub returns : goal.returns
 returns g c =
     counted_at is_member c.self.inside.capacity c.self.inside.entries.items c.args.self.now
     c.from.result (rising_apart c.self.inside.entries.items c.self.invariant.sorted.rising) c.self.view_is
-    (c.from.ensures ∙ c.self.invariant.counted.members)
+    (c.from.ensures ∙ c.counts.ensures.members)

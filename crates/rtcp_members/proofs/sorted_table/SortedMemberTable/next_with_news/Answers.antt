@@ -32,7 +32,7 @@ returns-in-None g c =
     c.first_above-first.result c.args.self.now c.self.view_is c.self.invariant.sorted.rising
     c.first_above-first.ensures None c.first_due-in-None.result (cc) (search rules)
 
-pub returns-then-self-eq0 : goal.returns-then-self-eq0
-returns-then-self-eq0 g c =
+pub returns-then-counts-eq0 : goal.returns-then-counts-eq0
+returns-then-counts-eq0 g c =
     none_pending c.args.after c.self.inside.capacity c.self.inside.entries.items c.args.self.now
-    c.self.view_is c.self.invariant.sorted.rising (sym c.self.invariant.counted.due ∙ c.if-self-eq0.true)
+    c.self.view_is c.self.invariant.sorted.rising (sym c.counts.ensures.due ∙ c.if-counts-eq0.true)
