@@ -30,19 +30,20 @@ impl Bounds {
     }
 
     /// Lowers them to what a fact at the moment `t` can make of an entry.
+    // By a branch, and no minimum that is written back: moments rise, so this almost never lowers anything.
     #[inline(always)]
     pub(crate) fn lower(&mut self, fact: Fact, t: u64)
         ensures no_later { IsNoLater self.new self.old }
         ensures up_to { IsUpTo self.new fact t }
     {
         match fact {
-            Fact::Gone(_) => self.gone = self.gone.min(t),
+            Fact::Gone(_) => lower_to(&mut self.gone, t),
             Fact::Media(_, _, _, _, _) => {
-                self.silent = self.silent.min(t);
-                self.idle = self.idle.min(t);
+                lower_to(&mut self.silent, t);
+                lower_to(&mut self.idle, t);
             }
             Fact::Heard(_) | Fact::Named(_) | Fact::Told(_, _, _) => {
-                self.silent = self.silent.min(t);
+                lower_to(&mut self.silent, t);
             }
         }
     }
@@ -76,5 +77,16 @@ impl Bounds {
                 }
             }
         }
+    }
+}
+
+/// Lowers a bound to a moment.
+#[inline(always)]
+fn lower_to(bound: &mut u64, t: u64)
+    ensures no_later { bound.new ≤ bound.old }
+    ensures up_to { bound.new ≤ t }
+{
+    if t < *bound {
+        *bound = t;
     }
 }

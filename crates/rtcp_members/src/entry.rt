@@ -123,7 +123,7 @@ impl Entry {
 
     /// Takes an RTP packet of the source at the moment `t`, where the entry has no mark. Returns whether it was
     /// counted.
-    #[inline(never)]
+    #[inline(always)]
     fn take_packet(&mut self, seq: u16, timestamp: u32, octets: u64, rate: u32, t: u64) -> bool
         requires { self.old.source.packets < 2 ^ 40 }
         ensures counted { (ssrc : ℕ) → result ≡ counts (Media ssrc seq timestamp octets rate) self.old.source }

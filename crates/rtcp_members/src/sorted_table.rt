@@ -249,7 +249,8 @@ impl<B: Blocks> MemberTable for Sorted<B> {
 
 /// The rank of the entry of a source, or else the gap where it would stand. The ranks where it likely stands are tried
 /// first: the last one, and those that a walk from the likely rank comes to, if walks pay.
-#[inline(never)]
+// Inlined, with the rest apart: a source that sends one packet after the other is not searched for.
+#[inline(always)]
 fn search<B: Blocks>(
     entries: &Shelf<B>,
     walks: &mut Walks,
@@ -261,6 +262,18 @@ fn search<B: Blocks>(
     if last_rank < entries.len() && entries.ssrc_at(last_rank) == ssrc {
         return Ok(last_rank);
     }
+    search_elsewhere(entries, walks, ssrc)
+}
+
+/// `search` without a look at the last rank.
+#[inline(never)]
+fn search_elsewhere<B: Blocks>(
+    entries: &Shelf<B>,
+    walks: &mut Walks,
+    ssrc: u32,
+) -> Result<usize, usize>
+    ensures { Locates ssrc entries.now.items result }
+{
     if walks.pay() {
         if let Some(found) = search_near(entries, ssrc) {
             walks.ease();
