@@ -75,10 +75,9 @@ impl<'a, R: Rng> Reader<'a, R> {
         let answer = self.participant.leave(now, w);
         self.watch
             .note(self.place, &Event::Leave { now, w }, &answer);
-        if self.compound(rt, answer)? {
-            self.turns(rt, turns)?;
-        }
-        Ok(())
+        let was_taken = self.compound(rt, answer)?;
+        assert!(rt; was_taken, "a leave is refused");
+        self.turns(rt, turns)
     }
 
     /// Turns are made, until the participant has left.
@@ -95,7 +94,8 @@ impl<'a, R: Rng> Reader<'a, R> {
             let answer = self.participant.tick(now, w1, w2);
             self.watch
                 .note(self.place, &Event::Tick { now, w1, w2 }, &answer);
-            let _ = self.compound(rt, answer)?;
+            let was_taken = self.compound(rt, answer)?;
+            assert!(rt; was_taken, "a tick is refused");
         }
         Ok(())
     }
