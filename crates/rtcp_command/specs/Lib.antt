@@ -2,7 +2,6 @@ pub mod EndText
 pub mod Options
 pub mod Endpoints
 pub mod Listening
-pub mod Recordings
 pub mod ReplayCommand
 pub mod Orders
 pub mod Status

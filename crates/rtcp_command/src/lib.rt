@@ -31,8 +31,8 @@ pub mod listen;
 mod options;
 pub mod order;
 mod orders;
-pub mod recorded;
 pub mod replay_command;
+pub mod session_recorder;
 
 pub use fault::RunFault;
 pub use orders::{Order, OrderFault, TextOrder};

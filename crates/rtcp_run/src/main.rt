@@ -13,13 +13,15 @@ use rand_core::{Rng, SeedableRng};
 use rand_pcg::Pcg32;
 use rtcp_command::ends::end_line;
 use rtcp_command::order::refuse;
-use rtcp_command::recorded::Recorded;
 use rtcp_command::replay_command::replay_line;
+use rtcp_command::session_recorder::SessionRecorder;
 pub use rtcp_command::{Order, OrderFault, RunFault, TextOrder, command, laws, listen, order};
 use rtcp_engine::{Config, Participant};
 use rtcp_members::HeapTable;
-pub use rtcp_serve::{Cause, End, Link, LinkFault, Port, Received, serve, serve_laws};
-use rtcp_show::{Shown, Watcher};
+pub use rtcp_serve::{
+    Cause, End, Link, LinkFault, Observed, Observer, Port, Received, serve, serve_laws,
+};
+use rtcp_show::Watcher;
 use rtcp_text::record::Recorder;
 pub use rtcp_text::{Counted, LineFault, ReplayFault, TextFault, check, replay};
 use rtcp_udp::{BindFault, UdpLink};
@@ -131,12 +133,14 @@ fn run_listen(rt: &HostRuntime, session: Session) -> Result<End, RunFault>
     let capacity = session.config.capacity;
     let table = HeapTable::with_room(alloc, capacity).map_err(|_| RunFault::Memory)?;
     let recorder = match &session.recording {
-        Some(file) => Some(begin_record(rt, &session.config, word, file)?),
+        Some(file) => Some(SessionRecorder {
+            recorder: begin_record(rt, &session.config, word, file)?,
+            faults: rt.stderr(),
+        }),
         None => None,
     };
     let watcher = if session.show {
-        let watcher = Watcher::new(alloc, &session.config, word, session.peer, rt.stderr());
-        Some(watcher.map_err(|_| RunFault::Memory)?)
+        Some(Watcher::new(alloc, session.config.ntp_base, session.peer, rt.stderr()))
     } else {
         None
     };
@@ -144,8 +148,8 @@ fn run_listen(rt: &HostRuntime, session: Session) -> Result<End, RunFault>
     let link = UdpLink::bind(rt, alloc, session.rtp, session.rtcp, session.peer).map_err(
         run_fault,
     )?;
-    let link = Recorded::new(Shown::new(link, watcher), recorder, rt.stderr());
-    let end = serve_on(link, participant, rng, session.turns);
+    let observer = (recorder, watcher);
+    let end = serve_on(Observed { link, observer }, participant, rng, session.turns);
     write_end(rt, &end)?;
     Ok(end)
 }

@@ -9,14 +9,16 @@
 //! assert_eq!(rt; end.cause, Cause::Done);
 //! ```
 //!
-//! A host implements [`Link`], and may watch its session by [`Link::told`]. `specs/` defines what contracts see of a
-//! link (`Links`) and the state of a session after its calls (`Serving`, `Sessions`); `serve_laws` states in plain
-//! words what follows.
+//! A host implements [`Link`]. What watches a session is an [`Observer`], which an [`Observed`] link tells of it.
+//! `specs/` defines what contracts see of a link (`Links`) and the state of a session after its calls (`Serving`,
+//! `Sessions`); `serve_laws` states in plain words what follows.
 #![tactic(auto)]
 
 mod link;
+mod observer;
 pub mod serve_laws;
 mod serving;
 
 pub use link::{Link, LinkFault, Port, Received};
+pub use observer::{Observed, Observer};
 pub use serving::{Cause, End, serve};

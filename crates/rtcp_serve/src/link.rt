@@ -4,7 +4,8 @@ ghost use Rattle.std.specs.Prelude.{◌≡◌, ◌<◌, ◌-◌, ◌^◌, [], �
 ghost use Rattle.rtcp_engine.specs.Views.{answer_value, event_value};
 ghost use Rattle.rtcp_serve.specs.Links.{LinkValue, WereCalled, GrowsBy, IsWithin, clock_read, port_heard, compound_sent, heard_in, telling};
 
-use rtcp_engine::{Answer, Event};
+use rtcp_engine::{Answer, Event, Participant};
+use rtcp_members::MemberTable;
 use thiserror::Error;
 
 /// One of the two ports of a session (RFC 3550, 11).
@@ -63,9 +64,15 @@ pub trait Link {
             (value self.old) (value self.new) }
         ensures told { (value self.new).told ≡ (value self.old).told };
 
-    /// Is called after each event that the participant was told, refused or not, with its answer, and before the
-    /// compound of the answer is sent, if it has one. A link that nobody watches does nothing here.
-    fn told(&mut self, event: &Event<'_>, answer: &Answer)
+    /// Is called after each event that the participant was told, refused or not, with its answer and the participant as
+    /// it is then, and before the compound of the answer is sent, if it has one. A link that does not watch its session
+    /// does nothing here.
+    fn told<T: MemberTable>(
+        &mut self,
+        event: &Event<'_>,
+        answer: &Answer,
+        participant: &Participant<T>,
+    )
         ensures told { GrowsBy (telling (event_value event.now) (answer_value answer.now) ∷ [])
             (value self.old).told (value self.new).told }
         ensures log { (value self.new).log ≡ (value self.old).log }

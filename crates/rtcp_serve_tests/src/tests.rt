@@ -12,6 +12,7 @@ mod example;
 mod log;
 mod logs;
 mod memory_link;
+mod observers;
 mod reader;
 mod rows;
 mod session;

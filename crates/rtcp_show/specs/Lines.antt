@@ -1,5 +1,7 @@
 -- The lines of an event and its answer, as `rtcp listen --show` writes them.
 use Rattle.std.specs.Prelude.{◌≡◌, ℕ, List, [], ◌∷◌, ◌++◌, Option, Some, None, Ok, Err, codes}
+use Rattle.rtcp_wire.specs.Grammar.{IsAccepted}
+use Rattle.rtcp_wire.specs.Values.{RtcpPacket}
 use Rattle.rtcp_engine.specs.Acts.{EventValue, rtcp_arrived, rtp_arrived, packet_sent, time_passed, leave_asked, settings_given, forget_asked}
 use Rattle.rtcp_engine.specs.Steps.{OutValue, AnswerValue}
 use Rattle.rtcp_engine.specs.declared.refusal.Refusal.{Refusal}
@@ -19,6 +21,11 @@ abbrev pub refused_text : Refusal → List ℕ
 refused_text refusal = codes "refused " ++ refusal_text refusal ++ 10 ∷ []
 
 -- ---- What came
+
+-- the packets that the datagram of an event reads as
+abbrev pub ReadsAs : EventValue → List RtcpPacket → Type 0
+ReadsAs (rtcp_arrived moment peer word octets) packets = IsAccepted octets packets
+ReadsAs event packets = ⊥
 
 -- An RTCP datagram has the text of `check` where it was taken.
 abbrev pub ShowsRtcp : (moment peer : ℕ) → (octets : List ℕ) → AnswerValue → List ℕ → Type 0

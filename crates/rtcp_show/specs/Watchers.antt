@@ -1,19 +1,13 @@
--- What a clause reads of a watcher, and of a link that it watches.
+-- What a clause reads of a watcher.
 use Rattle.std.specs.Prelude.{◌≡◌, ◌⊎◌, ℕ, List, [], ◌∷◌, ◌++◌, Option}
 use Rattle.rtcp_members.specs.Told.{StateValue}
 use Rattle.rtcp_engine.specs.Histories.{History, life_at, setup_at}
 use Rattle.rtcp_engine.specs.Lives.{WalksInLife, members_in_life, senders_in_life}
-use Rattle.rtcp_engine.specs.States.{ParticipantValue}
-use Rattle.rtcp_show.specs.declared.shown.Shown.{Shown}
 use Rattle.rtcp_show.specs.declared.watcher.Terms.{Terms}
 use Rattle.rtcp_show.specs.declared.watcher.Watcher.{Watcher}
 use Rattle.rtcp_show.specs.Notes.{NoteValue}
 use Rattle.rtcp_show.specs.Numbers.{moment_text}
 use Rattle.rtcp_show.specs.Rows.{sources_text}
-
--- the participant that is told what the one of the session is told
-abbrev pub watched_by : {W : Type 0} → Watcher W → ParticipantValue
-watched_by watcher = watcher.participant
 
 -- what a watcher knows of the session from its start
 abbrev pub terms_of : {W : Type 0} → Watcher W → Terms
@@ -25,11 +19,6 @@ writer_of watcher = watcher.writer
 -- what the writer holds, where that is known
 abbrev pub held_by : {W : Type 0} → (W → Option (List ℕ)) → Watcher W → Option (List ℕ)
 held_by contents watcher = contents (writer_of watcher)
-
--- Notes, texts and the second alone change, and the writer.
-pub record KeepsSession {W : Type 0} (before after : Watcher W) : Type 0 where
-  pub participant : watched_by after ≡ watched_by before
-  pub terms : terms_of after ≡ terms_of before
 
 -- Who is there after a history, at a moment and after a space (32), with notes of them.
 pub record ShowsSources (moment : ℕ) (history : History) (text : List ℕ) : Type 0 where
@@ -43,7 +32,3 @@ pub record ShowsSources (moment : ℕ) (history : History) (text : List ℕ) : T
 -- nothing, or who is there
 abbrev pub ShowsThose : (moment : ℕ) → History → List ℕ → Type 0
 ShowsThose moment history text = (text ≡ []) ⊎ ShowsSources moment history text
-
--- the link inside
-abbrev pub link_of : {L W : Type 0} → Shown L W → L
-link_of shown = shown.link

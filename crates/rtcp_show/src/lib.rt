@@ -1,6 +1,5 @@
-//! A session, shown while it runs: [`Shown`] is a link that writes a line for each RTCP datagram that comes in and each
-//! compound that goes out, and once a second who is there and how their packets come, as `rtcp listen --show` does. Its
-//! session is that of the link inside.
+//! A session, shown while it runs: a [`Watcher`] observes one, and writes a line for each RTCP datagram that comes in and
+//! each compound that goes out, and once a second who is there and how their packets come, as `rtcp listen --show` does.
 //!
 //! ```
 //! let mut text = Vec::new(alloc);
@@ -11,16 +10,13 @@
 //! `specs/` defines the texts: those of an event and its answer (`Lines`), and the row of a source (`Rows`).
 #![tactic(auto)]
 
-mod copies;
 mod lines;
 mod notes;
 mod numbers;
 mod rows;
-mod shown;
 mod watcher;
 
 pub use lines::push_lines;
 pub use notes::Note;
 pub use rows::push_row;
-pub use shown::Shown;
 pub use watcher::Watcher;

@@ -1,13 +1,16 @@
 //! The lines of an event and its answer.
 
-ghost use Rattle.std.specs.Prelude.{◌≡◌, ◌++◌, List, ℕ, OnOk, option_map};
+ghost use Rattle.std.specs.Prelude.{◌≡◌, ◌++◌, List, ℕ, IfSome, OnOk, option_map};
+ghost use Rattle.rtcp_wire.specs.Grammar.{IsAccepted};
 ghost use Rattle.rtcp_engine.specs.Views.{answer_value, event_value, out_value, step_value};
-ghost use Rattle.rtcp_show.specs.Lines.{ShowsAnswer, ShowsBoth, ShowsEvent, ShowsOut, ShowsRtcp, changed_text, moment_of_event as moment_in, passing_text, refused_text, rtp_text, told_text};
+ghost use Rattle.rtcp_text.specs.Check.{IsAnswer};
+ghost use Rattle.rtcp_show.specs.Lines.{ReadsAs, ShowsAnswer, ShowsBoth, ShowsEvent, ShowsOut, ShowsRtcp, changed_text, moment_of_event as moment_in, passing_text, refused_text, rtp_text, told_text};
 
 use crate::numbers::{push_moment, push_peer};
 use rtcp_engine::{Answer, Event, Out, Refusal};
 use rtcp_text::text::digits::push_word;
-use rtcp_text::text::{push_answer, push_checked};
+use rtcp_text::text::{push_accepted, push_answer, push_checked};
+use rtcp_wire::Compound;
 use std::alloc::AllocError;
 
 /// Appends the lines of an event and its answer. `to` is the number of the peer to which compounds go.
@@ -32,8 +35,33 @@ pub fn push_lines(
     ensures { OnOk result ((text : List ℕ) × ShowsBoth to (event_value event.now) (answer_value answer.now) text
         × (out.new.items ≡ out.old.items ++ text)) }
 {
-    push_event(out, event, answer)?;
+    push_read_lines(out, to, event, answer, &None)
+}
+
+/// The same, with the compound of the datagram where it is read already.
+pub(crate) fn push_read_lines(
+    out: &mut Vec<u8>,
+    to: u64,
+    event: &Event<'_>,
+    answer: &Answer,
+    compound: &Option<Compound<'_>>,
+) -> Result<(), AllocError>
+    requires { IfSome compound.now (ReadsAs (event_value event.now)) }
+    ensures { OnOk result ((text : List ℕ) × ShowsBoth to (event_value event.now) (answer_value answer.now) text
+        × (out.new.items ≡ out.old.items ++ text)) }
+{
+    push_event(out, event, answer, compound)?;
     push_answered(out, moment_of(event), to, answer)
+}
+
+/// The compound of an event, where it brought a datagram that was taken.
+pub(crate) fn compound_of<'a>(event: &Event<'a>, answer: &Answer) -> Option<Compound<'a>>
+    ensures { IfSome result (ReadsAs (event_value event.now)) }
+{
+    match (event, answer) {
+        (Event::ArriveRtcp { bytes, .. }, Ok(_)) => Compound::read(bytes).ok(),
+        _ => None,
+    }
 }
 
 /// The moment of an event.
@@ -52,7 +80,13 @@ pub(crate) fn moment_of(event: &Event<'_>) -> u64
 }
 
 /// Appends what is shown of an event.
-fn push_event(out: &mut Vec<u8>, event: &Event<'_>, answer: &Answer) -> Result<(), AllocError>
+fn push_event(
+    out: &mut Vec<u8>,
+    event: &Event<'_>,
+    answer: &Answer,
+    compound: &Option<Compound<'_>>,
+) -> Result<(), AllocError>
+    requires { IfSome compound.now (ReadsAs (event_value event.now)) }
     ensures { OnOk result ((text : List ℕ) × ShowsEvent (event_value event.now) (answer_value answer.now) text
         × (out.new.items ≡ out.old.items ++ text)) }
 {
@@ -62,7 +96,7 @@ fn push_event(out: &mut Vec<u8>, event: &Event<'_>, answer: &Answer) -> Result<(
             peer,
             bytes,
             ..
-        } => push_rtcp(out, *now, *peer, bytes, answer),
+        } => push_rtcp(out, *now, *peer, bytes, answer, compound),
         Event::ArriveRtp { now, peer, .. } => push_rtp(out, *now, *peer, answer),
         Event::SentRtp { now, .. }
         | Event::Tick { now, .. }
@@ -79,14 +113,31 @@ fn push_rtcp(
     peer: u64,
     bytes: &[u8],
     answer: &Answer,
+    compound: &Option<Compound<'_>>,
 ) -> Result<(), AllocError>
+    requires { IfSome compound.now (IsAccepted bytes.now) }
     ensures { OnOk result ((text : List ℕ) × ShowsRtcp now peer bytes.now (answer_value answer.now) text
         × (out.new.items ≡ out.old.items ++ text)) }
 {
     push_passing(out, now, b" in ", peer)?;
     match answer {
-        Ok(_) => push_checked(out, bytes),
+        Ok(_) => push_datagram(out, bytes, compound),
         Err(refusal) => push_refused(out, refusal),
+    }
+}
+
+/// Appends the text of `check` of a datagram, by its compound where it is read already.
+fn push_datagram(
+    out: &mut Vec<u8>,
+    bytes: &[u8],
+    compound: &Option<Compound<'_>>,
+) -> Result<(), AllocError>
+    requires { IfSome compound.now (IsAccepted bytes.now) }
+    ensures { OnOk result ((text : List ℕ) × IsAnswer bytes.now text × (out.new.items ≡ out.old.items ++ text)) }
+{
+    match compound {
+        Some(compound) => push_accepted(out, compound),
+        None => push_checked(out, bytes),
     }
 }
 

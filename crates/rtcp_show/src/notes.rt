@@ -7,8 +7,10 @@ ghost use Rattle.rtcp_show.specs.Notes.{note_value, noted_in, nothing};
 ghost use Rattle.rtcp_show.specs.declared.notes.Note.{Note as Noted};
 
 use arrayvec::ArrayVec;
+use rtcp_clock::round_trip;
 use rtcp_engine::Participant;
 use rtcp_members::MemberTable;
+use rtcp_wire::{CNAME, Chunk, Compound, PacketView, SourceDescription};
 use std::alloc::{AllocError, Global};
 use std::collections::BTreeMap;
 
@@ -57,8 +59,58 @@ impl Notes {
         self.by_ssrc.get(&ssrc)
     }
 
+    /// Keeps what a compound says of sources that the participant tells of: so what is kept is bounded as its table is.
+    /// It arrived at this moment, by the middle 32 bits of an NTP timestamp.
+    pub(crate) fn note<T: MemberTable>(
+        &mut self,
+        arrived: u32,
+        compound: &Compound<'_>,
+        participant: &Participant<T>,
+    ) {
+        self.note_trips(arrived, compound, participant);
+        for packet in compound.packets() {
+            if let PacketView::Sdes(description) = packet {
+                self.note_chunks(&description, participant);
+            }
+        }
+    }
+
+    /// Keeps the round trips by the blocks about the participant that name one of its sender reports.
+    fn note_trips<T: MemberTable>(
+        &mut self,
+        arrived: u32,
+        compound: &Compound<'_>,
+        participant: &Participant<T>,
+    ) {
+        for (reporter, block) in compound.about(participant.ssrc()) {
+            if block.lsr != 0 && is_listed(reporter, participant) {
+                self.set_trip(reporter, round_trip(arrived, block.lsr, block.dlsr));
+            }
+        }
+    }
+
+    fn note_chunks<T: MemberTable>(
+        &mut self,
+        description: &SourceDescription<'_>,
+        participant: &Participant<T>,
+    ) {
+        for chunk in description.chunks() {
+            if is_listed(chunk.id(), participant) {
+                self.note_cname(&chunk);
+            }
+        }
+    }
+
+    fn note_cname(&mut self, chunk: &Chunk<'_>) {
+        for item in chunk.items() {
+            if item.kind == CNAME {
+                self.set_cname(chunk.id(), item.text);
+            }
+        }
+    }
+
     /// Keeps the CNAME of a source. Where memory is refused it is lost, and what was known of the source with it.
-    pub(crate) fn set_cname(&mut self, ssrc: u32, text: &[u8]) {
+    fn set_cname(&mut self, ssrc: u32, text: &[u8]) {
         let mut cname = ArrayVec::new();
         if cname.try_extend_from_slice(text).is_ok() {
             let mut note = self.take(ssrc);
@@ -68,7 +120,7 @@ impl Notes {
     }
 
     /// Keeps the round trip of a source. Where memory is refused it is lost, and what was known of the source with it.
-    pub(crate) fn set_trip(&mut self, ssrc: u32, trip: u32) {
+    fn set_trip(&mut self, ssrc: u32, trip: u32) {
         let mut note = self.take(ssrc);
         note.trip = Some(trip);
         let _ = self.by_ssrc.insert(ssrc, note);
@@ -98,5 +150,13 @@ impl Notes {
         }
         self.by_ssrc = kept;
         Ok(())
+    }
+}
+
+/// Whether the participant tells of a source.
+fn is_listed<T: MemberTable>(ssrc: u32, participant: &Participant<T>) -> bool {
+    match participant.source_above(ssrc.checked_sub(1)) {
+        Some(state) => state.ssrc == ssrc,
+        None => false,
     }
 }

@@ -6,7 +6,8 @@ ghost use Rattle.rtcp_serve.specs.Links.{IsWithin, WereCalled, clock_read};
 
 use mio::net::UdpSocket;
 use mio::{Events, Interest, Poll, Token};
-use rtcp_engine::{Answer, Event};
+use rtcp_engine::{Answer, Event, Participant};
+use rtcp_members::MemberTable;
 use rtcp_serve::{Link, LinkFault, Port, Received};
 use std::alloc::Global;
 use std::io::{self, ErrorKind};
@@ -148,7 +149,12 @@ impl<'r, R: Net + Clock> Link for UdpLink<'r, R> {
         Err(LinkFault)
     }
 
-    fn told(&mut self, _event: &Event<'_>, _answer: &Answer) {}
+    fn told<T: MemberTable>(
+        &mut self,
+        _event: &Event<'_>,
+        _answer: &Answer,
+        _participant: &Participant<T>,
+    ) {}
 }
 
 /// A socket at an address, for whose datagrams `poll` waits.

@@ -60,7 +60,7 @@ fn hear<L: Link, T: MemberTable, R: Rng>(
             let event = arrival_event(port, tally.moment, peer, drawn, octets);
             let answer = arrive(port, participant, tally.moment, peer, drawn, octets);
             tally.arrival(&answer);
-            tell(link, tally, &event, answer)
+            tell(link, tally, &event, answer, participant)
         }
         Received::Nothing => {
             tally.silence();
@@ -113,11 +113,12 @@ fn arrival_event(port: Port, now: u64, peer: u64, w: u32, bytes: &[u8]) -> Event
 /// # Errors
 ///
 /// [`Cause::Limit`] where the participant met a limit.
-fn tell<L: Link>(
+fn tell<L: Link, T: MemberTable>(
     link: &mut L,
     tally: &mut Tally,
     event: &Event<'_>,
     answer: Answer,
+    participant: &Participant<T>,
 ) -> Result<(), Cause>
     requires room { HasRoom 1 tally.old (L.value link.old) }
     ensures leads { (reader : Reader) (total : ℕ) (next refused : Stage) (kept : ParticipantValue) (words : Stream)
@@ -129,7 +130,7 @@ fn tell<L: Link>(
     ensures room { (more : ℕ) → HasRoom (more + 1) tally.old (L.value link.old) →
         HasRoom more tally.new (L.value link.new) }
 {
-    link.told(event, &answer);
+    link.told(event, &answer, participant);
     hand_over(link, tally, answer)
 }
 
@@ -186,7 +187,7 @@ fn tick<L: Link, T: MemberTable, R: Rng>(
         w1: first,
         w2: second,
     };
-    tell(link, tally, &event, answer)
+    tell(link, tally, &event, answer, participant)
 }
 
 /// Makes a turn: listens to both ports, and asks the participant what is due.
@@ -293,7 +294,7 @@ fn leave<L: Link, T: MemberTable, R: Rng>(
         now: tally.moment,
         w: word,
     };
-    tell(link, tally, &event, answer)?;
+    tell(link, tally, &event, answer, participant)?;
     if was_taken {
         make_turns(link, participant, rng, tally, turns, buf)
     } else {

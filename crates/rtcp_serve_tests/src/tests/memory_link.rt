@@ -6,7 +6,8 @@ ghost use Rattle.rtcp_serve.specs.Links.{LinkValue, IsWithin};
 use super::log::{Log, Told};
 use super::session::named;
 use super::watch::{Watch, Watched};
-use rtcp_engine::{Answer, Event};
+use rtcp_engine::{Answer, Event, Participant};
+use rtcp_members::MemberTable;
 use rtcp_serve::{Link, LinkFault, Port, Received};
 use std::alloc::{AllocError, Global};
 
@@ -124,7 +125,12 @@ impl Link for MemoryLink {
         Ok(())
     }
 
-    fn told(&mut self, event: &Event<'_>, answer: &Answer) {
+    fn told<T: MemberTable>(
+        &mut self,
+        event: &Event<'_>,
+        answer: &Answer,
+        _participant: &Participant<T>,
+    ) {
         self.watch.note(self.log.calls.len(), event, answer);
     }
 }

@@ -24,10 +24,7 @@ impl<W: Write + Drop> Watched<W> {
     fn new(alloc: Global, writer: W) -> Result<Watched<W>, Fail> {
         let to = SocketAddrV4::new(Ipv4Addr::LOCALHOST, 5_007);
         let config = config();
-        if let Some(_) = config.error() {
-            return Err("the configuration is refused")?;
-        }
-        let watcher = Watcher::new(alloc, &config, 0, to, writer)?;
+        let watcher = Watcher::new(alloc, config.ntp_base, to, writer);
         let Ok(participant) = Participant::new(config, 0) else {
             return Err("the configuration is refused")?;
         };
@@ -39,7 +36,11 @@ impl<W: Write + Drop> Watched<W> {
     }
 
     fn watch(&mut self, event: &Event<'_>, answer: &Answer) {
-        if self.watcher.watch(event, answer).is_err() {
+        if self
+            .watcher
+            .watch(event, answer, &self.participant)
+            .is_err()
+        {
             self.unwritten = self.unwritten.saturating_add(1);
         }
     }

@@ -10,11 +10,11 @@ returns-in-Ok c =
     let octets = c.args.bytes.now in
     let before = c.args.out.now.items in
     let middle = c.push_passing.new.out.items in
-    let after = c.push_checked.new.out.items in
+    let after = c.push_datagram.new.out.items in
     let head = passing_text c.args.now (codes " in ") c.args.peer in
     let IsText : List ℕ → Type 0 = λ text. (checked : List ℕ) × IsAnswer octets checked × (text ≡ head ++ checked) in
     let first : middle ≡ before ++ head = c.in_ok-push_passing.ensures in
     let step : (text : List ℕ) × IsAnswer octets text × (after ≡ middle ++ text)
     → (whole : List ℕ) × IsText whole × (after ≡ before ++ whole) =
     λ given. passed before middle after head (IsAnswer octets) first given in
-    rw c.in-Ok.is (on_ok_weaker c.push_checked.result step c.push_checked.ensures)
+    rw c.in-Ok.is (on_ok_weaker c.push_datagram.result step c.push_datagram.ensures)

@@ -10,7 +10,7 @@ pub returns-in-Ok-clause-written : goal.returns-in-Ok-clause-written
 returns-in-Ok-clause-written g c =
     let held = held_by g.W.Write.contents c.args.self.now in
     let holds = held_by g.W.Write.contents c.write.new.self in
-    let text = c.push_lines.new.out.items in
+    let text = c.push_read_lines.new.out.items in
     let Says : List ℕ → Type 0 =
     ShowsBoth (terms_of c.args.self.now).to (event_value c.args.event.now) (answer_value c.args.answer.now) in
     let given : (lines : List ℕ) × Says lines × (text ≡ c.clear.new.self.items ++ lines) = c.in-Ok.ensures in

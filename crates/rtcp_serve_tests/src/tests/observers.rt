@@ -1,0 +1,60 @@
+//! Observers of a session.
+
+use super::memory_link::{Coming, MemoryLink};
+use super::reader::reads;
+use super::session::{participant, served};
+use super::*;
+use rtcp_engine::Event;
+use rtcp_members::MemberTable;
+use rtcp_serve::{Observed, Observer};
+
+/// Counts what it is told, and how often the participant had as many members as the answer says.
+#[derive(Drop)]
+struct Counts {
+    told: usize,
+    agreed: usize,
+}
+
+impl Observer for Counts {
+    fn told<T: MemberTable>(
+        &mut self,
+        _event: &Event<'_>,
+        answer: &Answer,
+        participant: &Participant<T>,
+    ) {
+        self.told = self.told.saturating_add(1);
+        if let Ok(step) = answer {
+            if step.members == participant.members() {
+                self.agreed = self.agreed.saturating_add(1);
+            }
+        }
+    }
+}
+
+/// A participant that gains two members, refuses a datagram and leaves. Both observers and the link inside are told.
+#[test]
+fn observers_see_the_participant(rt: HostRuntime) -> Result<(), Fail> {
+    let coming = [
+        Coming::Named(7),
+        Coming::Nothing,
+        Coming::Datagram(1, &[]),
+        Coming::Nothing,
+        Coming::Named(8),
+    ];
+    let (first, second) = (Counts { told: 0, agreed: 0 }, Counts { told: 0, agreed: 0 });
+    let mut link = Observed {
+        link: MemoryLink::new(rt.alloc(), &[0], &coming, &[], 40)?,
+        observer: ((first, Some(second)), None::<Counts>),
+    };
+    let (end, _) = served(&mut link, &mut participant(&rt), 3);
+    assert_eq!(rt; (end.cause, end.received, end.refused), (Cause::Done, 3, 1));
+    // Three datagrams, three ticks and the leave.
+    let (first, second) = link.observer.0;
+    assert_eq!(rt; (first.told, first.agreed), (7, 6));
+    let second = second.map(|counts| (counts.told, counts.agreed));
+    assert_eq!(rt; second, Some((7, 6)));
+    assert_eq!(rt; link.link.watch.tellings.len(), 7);
+    let cause = reads(&rt, rt.alloc(), &link.link, participant(&rt), 3);
+    assert_eq!(rt; cause, Cause::Done);
+    Ok(())
+}
