@@ -5,7 +5,7 @@ use Rattle.std.specs.Str.{bytes_eq}
 use Rattle.rtcp_engine.specs.Setups.{Setup}
 use Rattle.rtcp_engine.specs.Views.{setup_of}
 use Rattle.rtcp_command.specs.declared.options.LinkOptions.{LinkOptions}
-use Rattle.rtcp_command.specs.declared.options.Session.{Session}
+use Rattle.rtcp_command.specs.declared.orders.ListenOrder.{ListenOrder}
 use Rattle.rtcp_command.specs.declared.orders.Order.{Order}
 use Rattle.rtcp_command.specs.declared.orders.Order.TheVariants.{Text, Listen}
 use Rattle.rtcp_command.specs.declared.orders.OrderFault.{OrderFault}
@@ -89,31 +89,22 @@ listen_in texts link = do
 
 -- ---- Orders
 
--- the session that was read, with the file that it is recorded in
-abbrev pub listening_of : Session → Option (List ℕ) → Listening
-listening_of session recording = record {
-  setup = setup_of session.config;
-  rtp = endpoint_of session.rtp;
-  rtcp = endpoint_of session.rtcp;
-  peer = endpoint_of session.peer;
-  seed = session.seed;
-  turns = session.turns;
+-- the session of an order, with the file that it is recorded in
+abbrev pub listening_of : ListenOrder → Option (List ℕ) → Listening
+listening_of order recording = record {
+  setup = setup_of order.config;
+  rtp = endpoint_of order.rtp;
+  rtcp = endpoint_of order.rtcp;
+  peer = endpoint_of order.peer;
+  seed = order.seed;
+  turns = order.turns;
   recording = recording;
-  show = session.show;
+  show = order.show;
 }
 
 -- The options come to this order.
 abbrev pub IsListening : Order → Result Listening (List ℕ) → Type 0
-IsListening (Listen config rtp rtcp peer seed turns recording show) expected = expected ≡ Ok (record {
-  setup = setup_of config;
-  rtp = endpoint_of rtp;
-  rtcp = endpoint_of rtcp;
-  peer = endpoint_of peer;
-  seed = seed;
-  turns = turns;
-  recording = option_map string_bytes recording;
-  show = show;
-})
+IsListening (Listen order) expected = expected ≡ Ok (listening_of order (option_map string_bytes order.recording))
 IsListening (Text order) expected = ⊥
 
 -- What the options come to is this order, or this fault. Memory is asked for only where there is to be a record.
@@ -126,5 +117,5 @@ IsListenOrder (Err Memory) expected =
 
 -- A session that is asked for has 1 to 1,000,000 turns.
 abbrev pub HasTurns : Order → Type 0
-HasTurns (Listen config rtp rtcp peer seed turns recording show) = (1 ≤ turns) × (turns ≤ 1000000)
+HasTurns (Listen order) = (1 ≤ order.turns) × (order.turns ≤ 1000000)
 HasTurns (Text order) = Unit {0}

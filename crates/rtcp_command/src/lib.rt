@@ -35,4 +35,4 @@ pub mod replay_command;
 pub mod session_recorder;
 
 pub use fault::RunFault;
-pub use orders::{Order, OrderFault, TextOrder};
+pub use orders::{ListenOrder, Order, OrderFault, TextOrder};

@@ -8,7 +8,7 @@ ghost use Rattle.rtcp_command.specs.Options.{bandwidth_in, clock_given, clocks_g
 ghost use Rattle.rtcp_text.specs.Numerals.{hex_text_in};
 
 use crate::endpoint::read_endpoint;
-use crate::orders::{Order, OrderFault};
+use crate::orders::{ListenOrder, Order, OrderFault};
 use arrayvec::ArrayVec;
 use rtcp_engine::{Clock, Config, Item, rtcp_bw_of, shares_of};
 use rtcp_text::numerals::{read_decimal, read_hex_text, read_long, read_short_decimal, read_word};
@@ -100,41 +100,23 @@ pub(crate) fn read_listen(
     ensures read { IsListenOrder result (listen_in (texts_of options.entry) (link_texts_of link.entry)) }
     ensures turns { IfOk result HasTurns }
 {
-    let session = read_session(options, link).map_err(OrderFault::Option)?;
-    let recording = read_path(alloc, link.recording).map_err(|_| OrderFault::Memory)?;
-    Ok(Order::Listen {
-        config: session.config,
-        rtp: session.rtp,
-        rtcp: session.rtcp,
-        peer: session.peer,
-        seed: session.seed,
-        turns: session.turns,
-        recording,
-        show: session.show,
-    })
+    let mut order = read_session(options, link).map_err(OrderFault::Option)?;
+    order.recording = read_path(alloc, link.recording).map_err(|_| OrderFault::Memory)?;
+    Ok(Order::Listen(order))
 }
 
-/// A session over UDP, as its options say it.
-#[derive(Drop)]
-struct Session {
-    config: Config,
-    rtp: SocketAddrV4,
-    rtcp: SocketAddrV4,
-    peer: SocketAddrV4,
-    seed: u64,
-    turns: u32,
-    show: bool,
-}
-
-/// The session over UDP that the options of `listen` say.
+/// The same, without the file that the session is recorded in.
 ///
 /// # Errors
 ///
 /// The name of the first option that is refused, without its dashes.
-fn read_session(options: Options<'_, '_>, link: LinkOptions<'_>) -> Result<Session, &'static str>
-    ensures read { IfOk result (λ session. listen_in (texts_of options.entry) (link_texts_of link.entry)
-        ≡ Ok (listening_of session (text_given link.entry.recording))) }
-    ensures turns { IfOk result (λ session. (1 ≤ session.turns) × (session.turns ≤ 1000000)) }
+fn read_session(
+    options: Options<'_, '_>,
+    link: LinkOptions<'_>,
+) -> Result<ListenOrder, &'static str>
+    ensures read { IfOk result (λ order. listen_in (texts_of options.entry) (link_texts_of link.entry)
+        ≡ Ok (listening_of order (text_given link.entry.recording))) }
+    ensures turns { IfOk result (λ order. (1 ≤ order.turns) × (order.turns ≤ 1000000)) }
     ensures refused { IfErr result (λ name.
         listen_in (texts_of options.entry) (link_texts_of link.entry) ≡ Err name.now) }
 {
@@ -144,13 +126,14 @@ fn read_session(options: Options<'_, '_>, link: LinkOptions<'_>) -> Result<Sessi
     let peer = read_endpoint(link.peer).ok_or("peer")?;
     let seed = read_decimal(link.seed.as_bytes()).ok_or("seed")?;
     let turns = read_turns(link.turns).ok_or("turns")?;
-    Ok(Session {
+    Ok(ListenOrder {
         config,
         rtp,
         rtcp,
         peer,
         seed,
         turns,
+        recording: None,
         show: link.show == "true",
     })
 }

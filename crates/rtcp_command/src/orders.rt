@@ -9,24 +9,7 @@ pub enum Order {
     /// A run over text.
     Text(TextOrder),
     /// A session over UDP.
-    Listen {
-        /// How the participant is configured. Nothing of it was tested against the ranges of a configuration.
-        config: Config,
-        /// Where RTP comes in.
-        rtp: SocketAddrV4,
-        /// Where RTCP comes in.
-        rtcp: SocketAddrV4,
-        /// Where RTCP goes.
-        peer: SocketAddrV4,
-        /// The seed of the random words.
-        seed: u64,
-        /// How many turns are made before the participant leaves, 1 to 1,000,000.
-        turns: u32,
-        /// The file that the session is recorded in, if it is to be.
-        recording: Option<String>,
-        /// Whether the session is shown while it runs.
-        show: bool,
-    },
+    Listen(ListenOrder),
 }
 
 /// A run from standard input to standard output.
@@ -46,6 +29,27 @@ pub enum TextOrder {
         /// The most lines that are answered, at least 1.
         lines: u32,
     },
+}
+
+/// A session over UDP.
+#[derive(Debug, Drop)]
+pub struct ListenOrder {
+    /// How the participant is configured. Nothing of it was tested against the ranges of a configuration.
+    pub config: Config,
+    /// Where RTP comes in.
+    pub rtp: SocketAddrV4,
+    /// Where RTCP comes in.
+    pub rtcp: SocketAddrV4,
+    /// Where RTCP goes.
+    pub peer: SocketAddrV4,
+    /// The seed of the random words.
+    pub seed: u64,
+    /// How many turns are made before the participant leaves, 1 to 1,000,000.
+    pub turns: u32,
+    /// The file that the session is recorded in, if it is to be.
+    pub recording: Option<String>,
+    /// Whether the session is shown while it runs.
+    pub show: bool,
 }
 
 /// Why a command line gives no order.

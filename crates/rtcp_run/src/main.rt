@@ -15,7 +15,9 @@ use rtcp_command::ends::end_line;
 use rtcp_command::order::refuse;
 use rtcp_command::replay_command::replay_line;
 use rtcp_command::session_recorder::SessionRecorder;
-pub use rtcp_command::{Order, OrderFault, RunFault, TextOrder, command, laws, listen, order};
+pub use rtcp_command::{
+    ListenOrder, Order, OrderFault, RunFault, TextOrder, command, laws, listen, order,
+};
 use rtcp_engine::{Config, Participant};
 use rtcp_members::HeapTable;
 pub use rtcp_serve::{
@@ -28,37 +30,12 @@ use rtcp_udp::{BindFault, UdpLink};
 use std::env;
 use std::fs::{self, File};
 use std::io::{BufWriter, Write};
-use std::net::SocketAddrV4;
 use std::process::ExitCode;
 
 fn main(rt: HostRuntime) -> ExitCode {
     let status = match asked(&rt) {
         Ok(Order::Text(order)) => run_text(&rt, order),
-        Ok(
-            Order::Listen {
-                config,
-                rtp,
-                rtcp,
-                peer,
-                seed,
-                turns,
-                recording,
-                show,
-            },
-        ) => {
-            let session = Session {
-                config,
-                rtp,
-                rtcp,
-                peer,
-                seed,
-                turns,
-                recording,
-                show,
-            };
-            let outcome = run_listen(&rt, session);
-            listen::conclude(&outcome, &mut rt.stderr())
-        }
+        Ok(Order::Listen(order)) => listen::conclude(&run_listen(&rt, order), &mut rt.stderr()),
         Err(fault) => refuse(&fault, &mut rt.stderr()),
     };
     ExitCode::from(status)
@@ -102,54 +79,39 @@ fn run_text(rt: &HostRuntime, order: TextOrder) -> u8 {
     command::command(alloc, order, rt.stdin(), writer, &mut faults)
 }
 
-/// A session over UDP, as the command line asks for it.
-#[derive(Drop)]
-struct Session {
-    config: Config,
-    rtp: SocketAddrV4,
-    rtcp: SocketAddrV4,
-    peer: SocketAddrV4,
-    seed: u64,
-    turns: u32,
-    recording: Option<String>,
-    show: bool,
-}
-
 /// Runs a session over UDP, between the ports of RTP and of RTCP and a peer, and writes its end to standard
 /// output. It is recorded if a file is named for that, and shown on standard error if that is asked for.
 ///
 /// # Errors
 ///
 /// Each of [`RunFault`]. A refused configuration is found before the file is created, and that before a port is bound.
-fn run_listen(rt: &HostRuntime, session: Session) -> Result<End, RunFault>
-    requires { (1 ≤ session.turns) × (session.turns ≤ 1000000) }
+fn run_listen(rt: &HostRuntime, order: ListenOrder) -> Result<End, RunFault>
+    requires { (1 ≤ order.turns) × (order.turns ≤ 1000000) }
 {
     let alloc = rt.alloc();
-    let mut rng = Pcg32::seed_from_u64(session.seed);
+    let mut rng = Pcg32::seed_from_u64(order.seed);
     let word = rng.next_u32();
-    if let Some(error) = session.config.error() {
+    if let Some(error) = order.config.error() {
         return Err(RunFault::Config(error));
     }
-    let capacity = session.config.capacity;
+    let capacity = order.config.capacity;
     let table = HeapTable::with_room(alloc, capacity).map_err(|_| RunFault::Memory)?;
-    let recorder = match &session.recording {
+    let recorder = match &order.recording {
         Some(file) => Some(SessionRecorder {
-            recorder: begin_record(rt, &session.config, word, file)?,
+            recorder: begin_record(rt, &order.config, word, file)?,
             faults: rt.stderr(),
         }),
         None => None,
     };
-    let watcher = if session.show {
-        Some(Watcher::new(alloc, session.config.ntp_base, session.peer, rt.stderr()))
+    let watcher = if order.show {
+        Some(Watcher::new(alloc, order.config.ntp_base, order.peer, rt.stderr()))
     } else {
         None
     };
-    let participant = Participant::with_table(session.config, table, word);
-    let link = UdpLink::bind(rt, alloc, session.rtp, session.rtcp, session.peer).map_err(
-        run_fault,
-    )?;
+    let participant = Participant::with_table(order.config, table, word);
+    let link = UdpLink::bind(rt, alloc, order.rtp, order.rtcp, order.peer).map_err(run_fault)?;
     let observer = (recorder, watcher);
-    let end = serve_on(Observed { link, observer }, participant, rng, session.turns);
+    let end = serve_on(Observed { link, observer }, participant, rng, order.turns);
     write_end(rt, &end)?;
     Ok(end)
 }

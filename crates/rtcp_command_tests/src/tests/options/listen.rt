@@ -109,28 +109,16 @@ static ASKED: [Asked; 11] = [
 fn understood(rt: HostRuntime) -> Result<(), Fail> {
     for (row, asked) in ASKED.iter().enumerate() {
         let words = with(rt.alloc(), REQUIRED, asked.options)?;
-        let Ok(
-            Order::Listen {
-                config,
-                rtp,
-                rtcp,
-                peer,
-                seed,
-                turns,
-                recording,
-                show,
-            },
-        ) = order(rt.alloc(), &words)
-        else {
+        let Ok(Order::Listen(order)) = order(rt.alloc(), &words) else {
             return Err("it was refused")?;
         };
-        let found = (config.ssrc, ranges(&config));
+        let found = (order.config.ssrc, ranges(&order.config));
         assert_eq!(rt; found, (0xaa, [1_024, 1_472, 100, 300, 8_000]), "row {row}");
         let endpoints = [local(1, 5004), local(2, 5005), local(3, 5007)];
-        assert_eq!(rt; [rtp, rtcp, peer], endpoints, "row {row}");
-        let found = (seed, turns, show);
+        assert_eq!(rt; [order.rtp, order.rtcp, order.peer], endpoints, "row {row}");
+        let found = (order.seed, order.turns, order.show);
         assert_eq!(rt; found, (asked.seed, asked.turns, asked.show), "row {row}");
-        let file = recording.as_ref().map(|file| file.as_str());
+        let file = order.recording.as_ref().map(|file| file.as_str());
         assert_eq!(rt; file, asked.recording, "row {row}");
     }
     Ok(())
