@@ -209,6 +209,12 @@ waits_on {greatest} setup fall moment word outcome backoff fits h =
 
 -- ---- Acts
 
+-- A report is brought where it is due.
+is_sent : (due : Bool) (octets : List ℕ) →
+    is_some (option_map report_out (if due then Some octets else None)) ≡ due
+is_sent true octets = refl
+is_sent false octets = refl
+
 abbrev new_fall : Setup → Act → Life → (fall : ℕ) → ℕ
 new_fall setup act life fall = if is_fall setup act life then moment_of act else fall
 
@@ -238,8 +244,14 @@ while_present_waits setup fall greatest t (rtp_sent moment timestamp octets) out
     passes moment (is_fall setup (rtp_sent moment timestamp octets) (present outcome)) _ refl (omega arith) order h
 while_present_waits setup fall greatest t (ticked moment first_word second_word) outcome order words h =
     let now = checked setup moment outcome in
-    ticks_by moment first_word second_word now (has_come moment now) (has_passed setup moment first_word now) words.0
-    words.1 (tick_checks setup fall greatest t moment first_word second_word outcome order h)
+    let come = has_come moment now in
+    let passed = has_passed setup moment first_word now in
+    subst (λ (b : Bool). Waits setup (new_fall setup (ticked moment first_word second_word) (present outcome) fall)
+    (if b then interval_at setup (with_report setup moment now) else max (interval_at setup now) greatest) moment
+    (if come then (if passed then reported setup moment second_word now else put_off setup moment first_word now)
+    else now)) (sym (is_sent (come && passed) _))
+    (ticks_by moment first_word second_word now come passed words.0 words.1
+    (tick_checks setup fall greatest t moment first_word second_word outcome order h))
 while_present_waits setup fall greatest t (left moment word) outcome order words h =
     leaves_by moment word _ words order h
 while_present_waits setup fall greatest t (configured moment settings) outcome order words h =

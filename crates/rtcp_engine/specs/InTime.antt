@@ -6,7 +6,8 @@ use Rattle.rtcp_timer.specs.Loads.{interval_of}
 use Rattle.rtcp_engine.specs.Setups.{Setup}
 use Rattle.rtcp_engine.specs.Acts.{Act, rtcp, arrived, ticked, left, forgotten, moment_of}
 use Rattle.rtcp_engine.specs.Outcomes.{Outcome, interval_at, member_count, nothing_yet}
-use Rattle.rtcp_engine.specs.Ticks.{checked, is_report_due, with_report, without_source}
+use Rattle.rtcp_engine.specs.Lives.{out_by}
+use Rattle.rtcp_engine.specs.Ticks.{checked, with_report, without_source}
 use Rattle.rtcp_engine.specs.Arrivals.{with_reading}
 use Rattle.rtcp_engine.specs.Histories.{History, brought_by, life_at, session_at, session_for, session_of, setup_at}
 use Rattle.rtcp_engine.specs.Leaving.{Backoff, Life, present, backing_off, gone, leaving_interval, leaving_load}
@@ -43,7 +44,7 @@ last_fall setup word (act ∷ earlier) =
 abbrev pub greatest_while_present : Setup → Act → Outcome → (before : ℕ) → ℕ
 greatest_while_present setup (ticked moment first_word second_word) outcome before =
     let now = checked setup moment outcome in
-    if is_report_due setup moment first_word now
+    if is_some (out_by setup (ticked moment first_word second_word) (present outcome))
     then interval_at setup (with_report setup moment now)
     else max (interval_at setup now) before
 greatest_while_present setup (left moment word) outcome before = interval_of (leaving_load setup 1 [])
@@ -61,7 +62,9 @@ greatest_by setup act (backing_off outcome backoff) before = greatest_while_back
 greatest_by setup act (gone outcome) before = before
 
 -- The greatest of the deterministic intervals computed since the newest report: for the draw that followed it, and at
--- each tick since, after its check. Before the first report, since the start; after a leave, since that.
+-- each tick since, after its check. Before the first report, since the start; after a leave, since that. A report is
+-- one
+-- that an act brings (`out_by`).
 abbrev pub greatest_interval : Setup → (word : ℕ) → List Act → ℕ
 greatest_interval setup word [] = interval_at setup nothing_yet
 greatest_interval setup word (act ∷ earlier) =
