@@ -1,7 +1,7 @@
 -- How a source is told to a host in C.
 use Rattle.std.specs.Prelude.{ℕ, ◌≡◌, ◌+◌, ◌-◌, ◌^◌, min, pos, Option, Some, None, is_some, if◌then◌else◌, ◌==◌}
 use Rattle.rtcp_source.specs.declared.reception.Reception.{Reception}
-use Rattle.rtcp_source.specs.declared.reception.Told.{Told}
+use Rattle.rtcp_source.specs.declared.reception.LastReport.{LastReport}
 use Rattle.rtcp_source.specs.Summary.{ToldValue}
 use Rattle.rtcp_source.specs.LastBlocks.{LastBlockValue}
 use Rattle.rtcp_source.specs.Receptions.{ReceptionValue}
@@ -38,7 +38,7 @@ IsReceived shown reception =
     × (shown.jitter ≡ (reception_shown reception).jitter)
     × (shown.rate ≡ (reception_shown reception).rate)
 
-abbrev pub IsLastTold : (start : ℕ) → Told → Option ToldValue → Type 0
+abbrev pub IsLastTold : (start : ℕ) → LastReport → Option ToldValue → Type 0
 IsLastTold start shown told =
     (shown.ntp ≡ (told_shown start told).ntp)
     × (shown.rtp ≡ (told_shown start told).rtp)

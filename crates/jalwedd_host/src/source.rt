@@ -9,7 +9,7 @@ ghost use Rattle.jalwedd_host.specs.Sources.{IsBlockShown, IsReceived, IsLastTol
 
 use crate::step::{NEVER, on_clock};
 use rtcp_members::SourceState;
-use rtcp_source::{LastBlock, Reception, Told};
+use rtcp_source::{LastBlock, LastReport, Reception};
 
 /// What is known of a source.
 #[repr(C)]
@@ -122,16 +122,16 @@ fn received(reception: Option<Reception>) -> Reception
 }
 
 /// 2^64 - 1 and zeros where no sender report came.
-fn last_told(told: Option<Told>, start: u64) -> Told
+fn last_told(told: Option<LastReport>, start: u64) -> LastReport
     ensures { IfSome told (λ t. start + t.moment < 2 ^ 64 - 1) →
         IsLastTold start result (option_map told_value told) }
 {
     match told {
-        Some(told) => Told {
+        Some(told) => LastReport {
             moment: start.saturating_add(told.moment),
             ..told
         },
-        None => Told {
+        None => LastReport {
             ntp: 0,
             rtp: 0,
             moment: NEVER,

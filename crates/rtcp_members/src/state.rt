@@ -1,6 +1,6 @@
 //! What is told of a source on request.
 
-use rtcp_source::{LastBlock, Reception, Told};
+use rtcp_source::{LastBlock, LastReport, Reception};
 
 /// What is known of a source that is present: a member, one that is not yet valid, or one that left and is
 /// held for a while.
@@ -19,7 +19,7 @@ pub struct SourceState {
     /// How its packets are received, if one was counted.
     pub reception: Option<Reception>,
     /// Its last sender report.
-    pub told: Option<Told>,
+    pub told: Option<LastReport>,
     /// What the last report block said that was made of it.
     pub last_block: Option<LastBlock>,
 }

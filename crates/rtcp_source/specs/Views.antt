@@ -1,7 +1,7 @@
 -- The crate's types, as values of the definitions.
 use Rattle.std.specs.Prelude.{ℕ, ◌+◌, ◌==◌, if◌then◌else◌, Option, Some, None}
 use Rattle.rtcp_source.specs.declared.run.Run.{Run}
-use Rattle.rtcp_source.specs.declared.reception.Told.{Told}
+use Rattle.rtcp_source.specs.declared.reception.LastReport.{LastReport}
 use Rattle.rtcp_source.specs.declared.reception.LastBlock.{LastBlock}
 use Rattle.rtcp_source.specs.declared.reception.Reception.{Reception}
 use Rattle.rtcp_source.specs.LastBlocks.{LastBlockValue}
@@ -40,7 +40,7 @@ run_kept seq greatest received expected_before received_before transit rate jitt
       octets = octets;
     })
 
-abbrev pub told_value : Told → ToldValue
+abbrev pub told_value : LastReport → ToldValue
 told_value t = record { ntp = t.ntp; rtp = t.rtp; moment = t.moment }
 
 abbrev pub reception_value : Reception → ReceptionValue

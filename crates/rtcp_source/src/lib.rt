@@ -21,6 +21,6 @@ mod sequence;
 mod source;
 mod taken;
 
-pub use reception::{LastBlock, Reception, Told};
+pub use reception::{LastBlock, LastReport, Reception};
 pub use source::Source;
 pub use taken::Taken;

@@ -22,7 +22,7 @@ pub struct Reception {
 
 /// The last sender report of a source.
 #[derive(Clone, Copy, Debug, PartialEq, Eq)]
-pub struct Told {
+pub struct LastReport {
     /// Its NTP timestamp.
     pub ntp: u64,
     /// Its RTP timestamp: the same moment, in units of the source's RTP timestamps.

@@ -12,7 +12,7 @@ ghost use Rattle.rtcp_source.specs.Views.{run_value, told_value, reception_value
 ghost use Rattle.rtcp_source.specs.LastBlocks.{last_block};
 ghost use Rattle.rtcp_source.specs.Steps.{no_source, taken_by, after_packet, after_told, after_block_made};
 
-use crate::reception::{LastBlock, Reception, Told};
+use crate::reception::{LastBlock, LastReport, Reception};
 use crate::run::Run;
 use crate::sequence::{FIRST, judge};
 use crate::taken::Taken;
@@ -205,7 +205,7 @@ impl Source {
     }
 
     /// The last sender report of the source, if one came.
-    pub fn last_report(&self) -> Option<Told>
+    pub fn last_report(&self) -> Option<LastReport>
         ensures told { option_map told_value result ≡ self.now.told }
         ensures of_list { (given : List Given) → StandsAt self.now given →
             option_map told_value result ≡ last_told given }
@@ -213,7 +213,7 @@ impl Source {
         if !self.has_told {
             return None;
         }
-        Some(Told {
+        Some(LastReport {
             ntp: self.ntp,
             rtp: self.rtp,
             moment: self.told_at,

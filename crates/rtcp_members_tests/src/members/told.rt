@@ -2,7 +2,7 @@
 
 use super::session::{Call, Script, Seen};
 use super::*;
-use rtcp_source::{LastBlock, Reception, Told};
+use rtcp_source::{LastBlock, LastReport, Reception};
 use std::process::Abort;
 use std::test::*;
 
@@ -14,7 +14,7 @@ const THREE: SourceState = SourceState {
     left: None,
     heard: 8,
     reception: None,
-    told: Some(Told {
+    told: Some(LastReport {
         ntp: 0x0000_0001_8000_0000,
         rtp: 720,
         moment: 8,

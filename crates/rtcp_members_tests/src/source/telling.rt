@@ -1,7 +1,7 @@
 //! What is told of a source.
 
 use super::*;
-use rtcp_source::{LastBlock, Told};
+use rtcp_source::{LastBlock, LastReport};
 use std::test::*;
 
 /// The octets of the packets that are counted, from the first one on, or from the last restart.
@@ -52,14 +52,14 @@ fn timestamps_of_the_last_report(rt: HostRuntime) {
     let mut source = Source::new();
     assert!(rt; source.last_report().is_none());
     source.saw_sr(7, 8, 0);
-    let first = Told {
+    let first = LastReport {
         ntp: 7,
         rtp: 8,
         moment: 0,
     };
     assert!(rt; source.last_report() == Some(first));
     source.saw_sr(0x0000_b705_2000_0000, 0xffff_ffff, 1_000_000);
-    let second = Told {
+    let second = LastReport {
         ntp: 0x0000_b705_2000_0000,
         rtp: 0xffff_ffff,
         moment: 1_000_000,
