@@ -18,7 +18,7 @@ use Rattle.rtcp_engine.specs.Views.{answer_value}
 use Rattle.rtcp_engine.specs.Steps.{AnswerValue, OutValue}
 use Rattle.rtcp_serve.specs.declared.serving.tally.Tally.{Tally}
 use Rattle.rtcp_serve.specs.Tallies.{HasRoom, is_limit, with_arrival, with_datagram, with_moment, with_refused, with_send}
-use Rattle.rtcp_serve.specs.Serving.{Reader, Stage, resting, beginning, hearing, deciding, sending, ended, Standing, rested, going, ReadsClock, Hears, Sends, Fits, at_stage, with_turns, turn_by, turn_or, after_turns, gone_on, left_with, event_at, arrival_at, after_port, came_with, heard_at, after_clock, after_sending, after_call, after_calls, AllFit, stage_to_send, ticked_with, ticked_now, with_tally}
+use Rattle.rtcp_serve.specs.Serving.{Reader, Stage, resting, beginning, hearing, deciding, sending, ended, SessionState, rested, going, ReadsClock, Hears, Sends, Fits, at_stage, with_turns, turn_by, turn_or, after_turns, gone_on, left_with, event_at, arrival_at, after_port, came_with, heard_at, after_clock, after_sending, after_call, after_calls, AllFit, stage_to_send, ticked_with, ticked_now, with_tally}
 use Rattle.rtcp_serve.specs.Sessions.{Closes, EndsAs, EndsTurns, HasTurn, Holds, IsLeaveDue, Moves, Tells, Walks, led_to, next_at}
 
 -- ---- Logs
@@ -63,13 +63,13 @@ called_on calls more x y z first second = record {
 
 -- ---- Standings
 
-joined_calls : (reader : Reader) (total : ℕ) (s : Standing) (more calls : List Call)
+joined_calls : (reader : Reader) (total : ℕ) (s : SessionState) (more calls : List Call)
     → after_calls reader total s (more ++ calls) ≡ after_calls reader total (after_calls reader total s calls) more
 joined_calls reader total s [] calls = refl
 joined_calls reader total s (call ∷ more) calls = ap (λ t. after_call reader call (going total t))
     (joined_calls reader total s more calls)
 
-joined_fit : (reader : Reader) (total : ℕ) (s : Standing) (more calls : List Call) → AllFit reader total s calls
+joined_fit : (reader : Reader) (total : ℕ) (s : SessionState) (more calls : List Call) → AllFit reader total s calls
     → AllFit reader total (after_calls reader total s calls) more → AllFit reader total s (more ++ calls)
 joined_fit reader total s [] calls fit rest = fit
 joined_fit reader total s (call ∷ more) calls fit (rest, fits) = (
@@ -78,7 +78,7 @@ joined_fit reader total s (call ∷ more) calls fit (rest, fits) = (
 )
 
 -- What a link is told moves neither its log nor its counts.
-pub moves_still : (reader : Reader) (total : ℕ) (s : Standing) (x y : LinkValue) → y.log ≡ x.log
+pub moves_still : (reader : Reader) (total : ℕ) (s : SessionState) (x y : LinkValue) → y.log ≡ x.log
     → y.failed_receives ≡ x.failed_receives → y.failed_sends ≡ x.failed_sends → Moves reader total [] s s x y
 moves_still reader total s x y log receives sends = record {
   fit = tt {0};
@@ -90,7 +90,7 @@ moves_still reader total s x y log receives sends = record {
   };
 }
 
-moves_on : {reader : Reader} {total : ℕ} {calls more : List Call} {s t u : Standing} {x y z : LinkValue}
+moves_on : {reader : Reader} {total : ℕ} {calls more : List Call} {s t u : SessionState} {x y z : LinkValue}
     → Moves reader total calls s t x y → Moves reader total more t u y z → Moves reader total (more ++ calls) s u x z
 moves_on {reader = reader} {total = total} {calls = calls} {more = more} {s = s} {x = x} {y = y} {z = z} first second =
     record {
@@ -102,7 +102,7 @@ moves_on {reader = reader} {total = total} {calls = calls} {more = more} {s = s}
     }
 
 -- one call, where a session goes on from s as t
-moves_by : (reader : Reader) (total : ℕ) (call : Call) (s t : Standing) (x y : LinkValue) → going total s ≡ t →
+moves_by : (reader : Reader) (total : ℕ) (call : Call) (s t : SessionState) (x y : LinkValue) → going total s ≡ t →
     Fits call t.stage
     → WereCalled (call ∷ []) x y → Moves reader total (call ∷ []) s (after_call reader call t) x y
 moves_by reader total call s t x y goes fits called = record {
@@ -114,14 +114,14 @@ moves_by reader total call s t x y goes fits called = record {
 -- ---- Tellings
 
 -- nothing is told
-pub tells_none : (s t : Standing) (x y : LinkValue) → t.tellings ≡ s.tellings → y.told ≡ x.told → Tells s t x y
+pub tells_none : (s t : SessionState) (x y : LinkValue) → t.tellings ≡ s.tellings → y.told ≡ x.told → Tells s t x y
 tells_none s t x y same kept = record {
   grows = λ start grown. subst (GrowsBy t.tellings start) (sym kept)
       (subst (λ tellings. GrowsBy tellings start x.told) (sym same) grown);
 }
 
 -- one event is told
-pub tells_one : (one : Telling) (s t : Standing) (x y : LinkValue) → t.tellings ≡ one ∷ s.tellings
+pub tells_one : (one : Telling) (s t : SessionState) (x y : LinkValue) → t.tellings ≡ one ∷ s.tellings
     → GrowsBy (one ∷ []) x.told y.told → Tells s t x y
 tells_one one s t x y same grew = record {
   grows = λ start grown. subst (λ tellings. GrowsBy tellings start y.told) (sym same)
@@ -130,8 +130,8 @@ tells_one one s t x y same grew = record {
 
 -- ---- Parts of a session
 
-pub walks_nowhere : (reader : Reader) (total : ℕ) (s : Standing) (kept : ParticipantValue) (words : Stream)
-    (counted : Tally) (at : Standing → Type 0) (v : LinkValue) → Holds s kept words counted → at s
+pub walks_nowhere : (reader : Reader) (total : ℕ) (s : SessionState) (kept : ParticipantValue) (words : Stream)
+    (counted : Tally) (at : SessionState → Type 0) (v : LinkValue) → Holds s kept words counted → at s
     → Walks reader total s s v v kept words counted at s.turns s.leaving
 walks_nowhere reader total s kept words counted at v holds ends = record {
   calls = [];
@@ -144,9 +144,9 @@ walks_nowhere reader total s kept words counted at v holds ends = record {
   leaving = refl;
 }
 
-module _ {reader : Reader} {total : ℕ} {s u : Standing} {x y : LinkValue} {kept : ParticipantValue} {words : Stream}
-    {counted : Tally} {at : Standing → Type 0} {n : ℕ} {b : Bool} where
-  pub walks_to : (walk : Walks reader total s u x y kept words counted at n b) {to : Standing → Type 0}
+module _ {reader : Reader} {total : ℕ} {s u : SessionState} {x y : LinkValue} {kept : ParticipantValue} {words : Stream}
+    {counted : Tally} {at : SessionState → Type 0} {n : ℕ} {b : Bool} where
+  pub walks_to : (walk : Walks reader total s u x y kept words counted at n b) {to : SessionState → Type 0}
       → to walk.reached → Walks reader total s u x y kept words counted to n b
   walks_to walk ends = record {
     calls = walk.calls;
@@ -160,7 +160,7 @@ module _ {reader : Reader} {total : ℕ} {s u : Standing} {x y : LinkValue} {kep
   }
 
   -- calls and tellings before it
-  pub walks_after : {w : LinkValue} {v r : Standing} {calls : List Call} → Moves reader total calls v u w x
+  pub walks_after : {w : LinkValue} {v r : SessionState} {calls : List Call} → Moves reader total calls v u w x
       → Tells r s w x → Walks reader total s u x y kept words counted at n b
       → Walks reader total r v w y kept words counted at n b
   walks_after {calls = calls} moves tells walk = record {
@@ -179,8 +179,8 @@ module _ {reader : Reader} {total : ℕ} {s u : Standing} {x y : LinkValue} {kep
   walks_as {c = c} same stays walk = subst (λ m. Walks reader total s u x y kept words counted at m c) same
       (subst (Walks reader total s u x y kept words counted at n) stays walk)
 
-pub walks_on : {reader : Reader} {total : ℕ} {s u : Standing} {x y z : LinkValue} {kept kept' : ParticipantValue}
-    {words words' : Stream} {counted counted' : Tally} {at to : Standing → Type 0} {n m k : ℕ} {b : Bool}
+pub walks_on : {reader : Reader} {total : ℕ} {s u : SessionState} {x y z : LinkValue} {kept kept' : ParticipantValue}
+    {words words' : Stream} {counted counted' : Tally} {at to : SessionState → Type 0} {n m k : ℕ} {b : Bool}
     (first : Walks reader total s u x y kept words counted at n b)
     → Walks reader total first.reached first.reached y z kept' words' counted' to m first.reached.leaving → m ≡ k
     → Walks reader total s u x z kept' words' counted' to k b
@@ -200,11 +200,11 @@ abbrev pub IsUnderWay : Stage → Type 0
 IsUnderWay resting = ⊥
 IsUnderWay stage = Unit {0}
 
-goes_on : (next s : Standing) (stage : Stage) → IsUnderWay stage → rested next stage s ≡ s
+goes_on : (next s : SessionState) (stage : Stage) → IsUnderWay stage → rested next stage s ≡ s
 goes_on next s resting under_way = absurd under_way
 goes_on next s stage under_way = refl
 
-pub going_under_way : (total : ℕ) (s : Standing) (stage : Stage) → s.stage ≡ stage → IsUnderWay stage →
+pub going_under_way : (total : ℕ) (s : SessionState) (stage : Stage) → s.stage ≡ stage → IsUnderWay stage →
     going total s ≡ s
 going_under_way total s stage is under_way = goes_on _ s s.stage (subst IsUnderWay (sym is) under_way)
 
@@ -220,7 +220,7 @@ led_as next refused (Err refusal) = refl
 -- ---- Turns
 
 -- The participant is told an event, and answers it: where that leads, with these words and counts.
-abbrev pub told_as : EventValue → Act → AnswerValue → Stream → Tally → Stage → Standing → Standing
+abbrev pub told_as : EventValue → Act → AnswerValue → Stream → Tally → Stage → SessionState → SessionState
 told_as event act answer words tally stage s = record {
   history = followed_by s.history act;
   told = act ∷ s.told;
@@ -233,7 +233,7 @@ told_as event act answer words tally stage s = record {
 }
 
 -- The clock is read, and the participant told that time has passed.
-pub tick_told : (reader : Reader) (total moment : ℕ) (s : Standing) (before : ParticipantValue)
+pub tick_told : (reader : Reader) (total moment : ℕ) (s : SessionState) (before : ParticipantValue)
     (words mid rest : Stream) (first second : ℕ) (counted told : Tally) (answer : AnswerValue) (x y : LinkValue)
     → Holds s before words counted → s.stage ≡ deciding
     → WereCalled (clock_read moment ∷ []) x y → told ≡ with_moment moment counted → (first, mid) ≡ next_u32 words
@@ -247,7 +247,7 @@ tick_told reader total moment s before words mid rest first second counted told 
     let at = moves_by reader total (clock_read moment) s s x y (going_under_way total s deciding is (tt {0})) fits
     called in
     let drawn : next_u32 s.words ≡ (first, mid) = ap next_u32 (sym holds.words) ∙ sym one in
-    let u : Tally → Standing = λ tally. with_tally tally s in
+    let u : Tally → SessionState = λ tally. with_tally tally s in
     let ticks : told_as (time_passed told.moment first second) (ticked told.moment first second)
     (answer_of s.history (ticked told.moment first second)) rest told
     (stage_to_send resting resting (answer_of s.history (ticked told.moment first second))) s
@@ -258,24 +258,25 @@ tick_told reader total moment s before words mid rest first second counted told 
     (stage_to_send resting resting a) s) answers ∙ ticks ∙ ap (λ stage. after_clock moment stage s) (sym is) in
     subst (λ t. Moves reader total (clock_read moment ∷ []) s t x y) (sym there) at
 
-rests_at : (total : ℕ) (s : Standing) → s.stage ≡ resting →
+rests_at : (total : ℕ) (s : SessionState) → s.stage ≡ resting →
     going total s ≡ turn_by (next_at s) s.turns (after_turns total s) s
 rests_at total s rests = ap (λ stage. rested (turn_or (after_turns total s) s) stage s) rests
 
 -- where a turn begins
-turn_there : (left : ℕ) (next : Option ℕ) (otherwise s : Standing) → IsTrue (is_some next)
+turn_there : (left : ℕ) (next : Option ℕ) (otherwise s : SessionState) → IsTrue (is_some next)
     → turn_by next (suc left) otherwise s ≡ at_stage beginning (with_turns left s.leaving s)
 turn_there left None otherwise s there = absurd cc
 turn_there left (Some moment) otherwise s there = refl
 
-turn_begins : (total left : ℕ) (s : Standing) → HasTurn left s →
+turn_begins : (total left : ℕ) (s : SessionState) → HasTurn left s →
     going total s ≡ at_stage beginning (with_turns left s.leaving s)
 turn_begins total left s has = rests_at total s has.resting
     ∙ ap (λ turns. turn_by (next_at s) turns (after_turns total s) s) has.turns
     ∙ turn_there left (next_at s) (after_turns total s) s has.there
 
 -- A turn begins with the clock.
-pub turn_clocked : (reader : Reader) (total left moment : ℕ) (s : Standing) (kept : ParticipantValue) (words : Stream)
+pub turn_clocked : (reader : Reader) (total left moment : ℕ) (s : SessionState) (kept : ParticipantValue)
+    (words : Stream)
     (counted told : Tally) (x y : LinkValue)
     → Holds s kept words counted → HasTurn left s → WereCalled (clock_read moment ∷ []) x y → y.told ≡ x.told →
     told ≡ with_moment moment counted
@@ -292,7 +293,7 @@ turn_clocked reader total left moment s kept words counted told x y holds has ca
     }) refl)
 
 -- A datagram came, a word is drawn, and the participant is told.
-pub datagram_told : (reader : Reader) (total : ℕ) (port : Port) (peer : ℕ) (octets given : List ℕ) (s : Standing)
+pub datagram_told : (reader : Reader) (total : ℕ) (port : Port) (peer : ℕ) (octets given : List ℕ) (s : SessionState)
     (before : ParticipantValue) (words rest : Stream) (word : ℕ) (counted mid told : Tally) (event : EventValue)
     (answer : AnswerValue) (x y : LinkValue) → Holds s before words counted → s.stage ≡ hearing port
     → octets ≡ given → WereCalled (port_heard port 20000 (datagram peer given) ∷ []) x y → (word, rest) ≡ next_u32 words
@@ -306,9 +307,9 @@ datagram_told reader total port peer octets given s before words rest word count
     let next = after_port port in
     let event_by : Tally → EventValue = λ c. event_at port c.moment peer word octets in
     let act_by : Tally → Act = λ c. arrival_at reader port c.moment peer word octets in
-    let told_by : EventValue → Act → AnswerValue → Tally → Standing =
+    let told_by : EventValue → Act → AnswerValue → Tally → SessionState =
     λ e act a c. told_as e act a rest c (stage_to_send next next a) s in
-    let came : Tally → ℕ × Stream → Standing = λ c. λ p. came_with (λ w. event_at port c.moment peer w octets)
+    let came : Tally → ℕ × Stream → SessionState = λ c. λ p. came_with (λ w. event_at port c.moment peer w octets)
     (λ w. arrival_at reader port c.moment peer w octets) next p (with_tally c s) in
     let there = ap (λ e. told_by e (act_by mid) answer told) event_is
     ∙ ap (told_by (event_by mid) (act_by mid) answer) tells
@@ -323,7 +324,7 @@ datagram_told reader total port peer octets given s before words rest word count
 
 -- A compound is sent.
 pub sent_over : (reader : Reader) (total : ℕ) (next : Stage) (changed : Option ℕ) (out : OutValue) (octets : List ℕ)
-    (failed lost : Bool) (s : Standing) (kept : ParticipantValue) (words : Stream) (counted told : Tally)
+    (failed lost : Bool) (s : SessionState) (kept : ParticipantValue) (words : Stream) (counted told : Tally)
     (x y : LinkValue) → Holds s kept words counted → s.stage ≡ sending out changed next → octets ≡ out.octets
     → WereCalled (compound_sent octets failed ∷ []) x y → y.told ≡ x.told
     → told ≡ with_send out.kind changed lost counted → lost ≡ failed
@@ -347,13 +348,13 @@ none_left None is = refl
 none_left (Some moment) is = absurd cc
 
 -- one that is still there has made its turns
-pub turns_left : (s : Standing) → IsTrue (is_some (next_at s)) → (next_at s ≡ None) ⊎ (s.turns ≡ 0) → s.turns ≡ 0
+pub turns_left : (s : SessionState) → IsTrue (is_some (next_at s)) → (next_at s ≡ None) ⊎ (s.turns ≡ 0) → s.turns ≡ 0
 turns_left s there (inl none) = absurd cc
 turns_left s there (inr zero) = zero
 
 -- ---- What comes next
 
-goes_alike : (reader : Reader) (total : ℕ) (s u : Standing) (calls : List Call) → going total s ≡ going total u →
+goes_alike : (reader : Reader) (total : ℕ) (s u : SessionState) (calls : List Call) → going total s ≡ going total u →
     AllFit reader total u calls
     → AllFit reader total s calls × (going total (after_calls reader total s calls) ≡ going total
     (after_calls reader total u calls))
@@ -363,12 +364,13 @@ goes_alike reader total s u (call ∷ earlier) same (fit, fits) =
     ((fit', subst (λ t. Fits call t.stage) (sym same') fits), ap (λ t. going total (after_call reader call t)) same')
 
 -- From where a part of a session came to, the end comes next.
-abbrev pub IsClosed : (total : ℕ) (t : Standing) (to : Standing → Type 0) → Type 0
+abbrev pub IsClosed : (total : ℕ) (t : SessionState) (to : SessionState → Type 0) → Type 0
 IsClosed total t to = (stage : Stage) × (going total t ≡ at_stage stage t) × to (at_stage stage t)
 
 -- The last part of a session, from where it goes on as from an earlier standing.
-pub closes : {reader : Reader} {total : ℕ} {s u : Standing} {x y : LinkValue} {kept : ParticipantValue} {words : Stream}
-    {counted : Tally} {at to : Standing → Type 0} {n : ℕ} {b : Bool} → going total s ≡ going total u
+pub closes : {reader : Reader} {total : ℕ} {s u : SessionState} {x y : LinkValue} {kept : ParticipantValue}
+    {words : Stream}
+    {counted : Tally} {at to : SessionState → Type 0} {n : ℕ} {b : Bool} → going total s ≡ going total u
     → (walk : Walks reader total s u x y kept words counted at n b) → IsClosed total walk.reached to
     → Closes reader total s x y kept words counted to
 closes {reader = reader} {total = total} {s = s} {u = u} same walk (stage, goes, ends) =
@@ -390,8 +392,8 @@ closes {reader = reader} {total = total} {s = s} {u = u} same walk (stage, goes,
       ends = ends;
     }
 
-pub closes_on : {reader : Reader} {total : ℕ} {s : Standing} {x y z : LinkValue} {kept kept' : ParticipantValue}
-    {words words' : Stream} {counted counted' : Tally} {at to : Standing → Type 0} {n : ℕ} {b : Bool}
+pub closes_on : {reader : Reader} {total : ℕ} {s : SessionState} {x y z : LinkValue} {kept kept' : ParticipantValue}
+    {words words' : Stream} {counted counted' : Tally} {at to : SessionState → Type 0} {n : ℕ} {b : Bool}
     (first : Walks reader total s s x y kept words counted at n b)
     → Closes reader total first.reached y z kept' words' counted' to →
     Closes reader total s x z kept' words' counted' to
@@ -417,12 +419,12 @@ closes_on {reader = reader} {total = total} {s = s} {x = x} {y = y} {z = z} firs
 -- ---- The leave
 
 -- where no turn is left
-leave_there : (next : Option ℕ) (otherwise s : Standing) → IsTrue (is_some next) →
+leave_there : (next : Option ℕ) (otherwise s : SessionState) → IsTrue (is_some next) →
     turn_by next 0 otherwise s ≡ otherwise
 leave_there None otherwise s there = absurd cc
 leave_there (Some moment) otherwise s there = refl
 
-leave_comes : (total : ℕ) (s : Standing) → IsLeaveDue s →
+leave_comes : (total : ℕ) (s : SessionState) → IsLeaveDue s →
     going total s ≡ going total (left_with total (next_u32 s.words) s)
 leave_comes total s due = rests_at total s due.resting
     ∙ ap (λ turns. turn_by (next_at s) turns (after_turns total s) s) due.turns
@@ -431,15 +433,16 @@ leave_comes total s due = rests_at total s due.resting
     due.leaving
 
 -- A word is drawn, and the participant told to leave, which the link is told and what it hands out is sent.
-pub leave_told : (reader : Reader) (total : ℕ) (s : Standing) (before after : ParticipantValue) (words rest : Stream)
-    (word : ℕ) (counted told : Tally) (answer : AnswerValue) (at : Standing → Type 0) (x y : LinkValue)
+pub leave_told : (reader : Reader) (total : ℕ) (s : SessionState) (before after : ParticipantValue)
+    (words rest : Stream)
+    (word : ℕ) (counted told : Tally) (answer : AnswerValue) (at : SessionState → Type 0) (x y : LinkValue)
     → Holds s before words counted → IsLeaveDue s → (word, rest) ≡ next_u32 words
     → answer ≡ answer_of s.history (asked_to_leave counted.moment word)
     → StandsAt after (followed_by s.history (asked_to_leave counted.moment word))
-    → ((s t : Standing) → Holds t after rest counted → t.stage ≡ stage_to_send resting (ended Done) answer
+    → ((s t : SessionState) → Holds t after rest counted → t.stage ≡ stage_to_send resting (ended Done) answer
     → t.tellings ≡ telling (leave_asked counted.moment word) answer ∷ s.tellings
     → Walks reader total s t x y after rest told at t.turns t.leaving)
-    → (u : Standing) × (going total s ≡ going total u) × Walks reader total s u x y after rest told at total true
+    → (u : SessionState) × (going total s ≡ going total u) × Walks reader total s u x y after rest told at total true
 leave_told reader total s before after words rest word counted told answer at x y holds due drawn answers stands tells =
     let tally = holds.tally in
     let stream = holds.words in
@@ -454,17 +457,17 @@ leave_told reader total s before after words rest word counted told answer at x 
 -- ---- The end
 
 -- Where turns have ended, what comes next is the end, unless the leave is due.
-pub gone_ends : (total : ℕ) (s : Standing) → s.stage ≡ resting → next_at s ≡ None →
+pub gone_ends : (total : ℕ) (s : SessionState) → s.stage ≡ resting → next_at s ≡ None →
     going total s ≡ at_stage (ended Done) s
 gone_ends total s rests none = rests_at total s rests
     ∙ ap (λ next. turn_by next s.turns (after_turns total s) s) none
 
-last_ends : (next : Option ℕ) (otherwise s : Standing) → otherwise ≡ at_stage (ended Done) s
+last_ends : (next : Option ℕ) (otherwise s : SessionState) → otherwise ≡ at_stage (ended Done) s
     → turn_by next 0 otherwise s ≡ at_stage (ended Done) s
 last_ends None otherwise s same = refl
 last_ends (Some moment) otherwise s same = same
 
-turns_end : (total : ℕ) (s : Standing) → s.stage ≡ resting → (next_at s ≡ None) ⊎ (s.turns ≡ 0) → s.leaving ≡ true
+turns_end : (total : ℕ) (s : SessionState) → s.stage ≡ resting → (next_at s ≡ None) ⊎ (s.turns ≡ 0) → s.leaving ≡ true
     → going total s ≡ at_stage (ended Done) s
 turns_end total s rests (inl none) leaving = gone_ends total s rests none
 turns_end total s rests (inr none) leaving = rests_at total s rests
@@ -473,13 +476,13 @@ turns_end total s rests (inr none) leaving = rests_at total s rests
     gone_on (left_with total (next_u32 s.words) s)) leaving)
 
 -- A cause that ended it stays.
-pub closed_at : (total : ℕ) (t : Standing) {cause : Cause} → t.stage ≡ ended cause →
+pub closed_at : (total : ℕ) (t : SessionState) {cause : Cause} → t.stage ≡ ended cause →
     IsClosed total t (λ t. t.stage ≡ ended cause)
 closed_at total t {cause = cause} is =
     (ended cause, going_under_way total t (ended cause) is (tt {0}) ∙ ap (λ stage. at_stage stage t) is, refl)
 
 -- After the leave, the end of turns is that of the session.
-pub closed_after : {A : Type 0} (total : ℕ) (t : Standing) (result : Result A Cause) → EndsTurns result t →
+pub closed_after : {A : Type 0} (total : ℕ) (t : SessionState) (result : Result A Cause) → EndsTurns result t →
     t.leaving ≡ true → IsClosed total t (EndsAs result)
 closed_after total t (Ok done) (rests, over) leaving = (ended Done, turns_end total t rests over leaving, refl)
 closed_after total t (Err cause) is leaving = closed_at total t is

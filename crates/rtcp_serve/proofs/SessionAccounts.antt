@@ -13,7 +13,7 @@ use Rattle.rtcp_serve.specs.declared.serving.tally.Tally.{Tally}
 use Rattle.rtcp_serve.specs.Sessions.{Comes}
 use Rattle.rtcp_serve.specs.Tallies.{is_limit, with_arrival, with_datagram, with_refused}
 use Rattle.rtcp_serve.specs.Links.{Call, LinkValue, Heard, how_many, is_datagram, is_failed_receive, is_failed_send, is_sent, datagram, silence, failure, clock_read, port_heard, compound_sent, Telling}
-use Rattle.rtcp_serve.specs.Serving.{Reader, Stage, resting, beginning, hearing, deciding, sending, ended, Standing, at_stage, stage_to_send, stage_after_step, event_at, arrival_at, after_port, heard_at, told_act, turn_by, turn_or, after_turns, rested, gone_on, left_with, going, ReadsClock, Hears, Sends, Fits, after_clock, after_sending, after_call, after_calls, AllFit, at_the_start}
+use Rattle.rtcp_serve.specs.Serving.{Reader, Stage, resting, beginning, hearing, deciding, sending, ended, SessionState, at_stage, stage_to_send, stage_after_step, event_at, arrival_at, after_port, heard_at, told_act, turn_by, turn_or, after_turns, rested, gone_on, left_with, going, ReadsClock, Hears, Sends, Fits, after_clock, after_sending, after_call, after_calls, AllFit, at_the_start}
 use Rattle.rtcp_serve.specs.Handing.{act_in, acts_in, answers_given, answers_in, octets_of, handed_by, history_after, handed_out, given, given_in}
 
 -- ---- Compounds
@@ -34,14 +34,14 @@ pub record Accounts (reader : Reader) (start reached : History) (told : List Act
   pub answers : answers_in tellings ≡ answers_given start told
 
 -- where a session stands: its counts, words and turns are nothing to it
-abbrev pub AccountsAt : Reader → History → Standing → (sent : List (List ℕ)) → Type 0
+abbrev pub AccountsAt : Reader → History → SessionState → (sent : List (List ℕ)) → Type 0
 AccountsAt reader start s sent = Accounts reader start s.history s.told s.tellings s.stage sent
 
 -- no compound is pending at a stage
 abbrev pub HasNone : Stage → Type 0
 HasNone stage = pending stage ≡ []
 
-restaged : (reader : Reader) (start : History) (s : Standing) (stage : Stage) (sent : List (List ℕ)) →
+restaged : (reader : Reader) (start : History) (s : SessionState) (stage : Stage) (sent : List (List ℕ)) →
     AccountsAt reader start s sent → HasNone s.stage → HasNone stage → AccountsAt reader start (at_stage stage s) sent
 restaged reader start s stage sent accounts none now = record {
   history = accounts.history;
@@ -51,7 +51,7 @@ restaged reader start s stage sent accounts none now = record {
 }
 
 -- An act is told, and what its answer hands out is pending.
-told_accounts : (reader : Reader) (start : History) (event : EventValue) (act : Act) (stage : Stage) (s : Standing)
+told_accounts : (reader : Reader) (start : History) (event : EventValue) (act : Act) (stage : Stage) (s : SessionState)
     (sent : List (List ℕ)) → AccountsAt reader start s sent → HasNone s.stage →
     pending stage ≡ handed_by (answer_of s.history act) → act_in reader event ≡ act →
     AccountsAt reader start (at_stage stage (told_act event act s)) sent
@@ -82,12 +82,12 @@ answer_pends next refused (Err refusal) none refuses = refusal_pends refused (is
 
 -- ---- Calls
 
-none_at : (stage : Stage) (s : Standing) → s.stage ≡ stage → HasNone stage → HasNone s.stage
+none_at : (stage : Stage) (s : SessionState) → s.stage ≡ stage → HasNone stage → HasNone s.stage
 none_at stage s is none = ap pending is ∙ none
 
 -- An act is told, and what its answer leads to comes next.
 answer_accounts : (reader : Reader) (start : History) (next refused : Stage) (event : EventValue) (act : Act)
-    (s : Standing) (sent : List (List ℕ)) → AccountsAt reader start s sent → HasNone s.stage → HasNone next →
+    (s : SessionState) (sent : List (List ℕ)) → AccountsAt reader start s sent → HasNone s.stage → HasNone next →
     HasNone refused → act_in reader event ≡ act →
     AccountsAt reader start (at_stage (stage_to_send next refused (answer_of s.history act)) (told_act event act s))
     sent
@@ -95,7 +95,7 @@ answer_accounts reader start next refused event act s sent accounts none comes r
     told_accounts reader start event act _ s sent accounts none
     (answer_pends next refused (answer_of s.history act) comes refuses) is
 
-clock_accounts : (reader : Reader) (start : History) (moment : ℕ) (stage : Stage) (s : Standing)
+clock_accounts : (reader : Reader) (start : History) (moment : ℕ) (stage : Stage) (s : SessionState)
     (sent : List (List ℕ)) → s.stage ≡ stage → ReadsClock stage →
     AccountsAt reader start s sent → AccountsAt reader start (after_clock moment stage s) sent
 clock_accounts reader start moment beginning s sent is fits accounts =
@@ -118,7 +118,7 @@ port_pends : (port : Port) → HasNone (after_port port)
 port_pends RtcpPort = refl
 port_pends RtpPort = refl
 
-heard_accounts : (reader : Reader) (start : History) (port : Port) (what : Heard) (s : Standing)
+heard_accounts : (reader : Reader) (start : History) (port : Port) (what : Heard) (s : SessionState)
     (sent : List (List ℕ)) → HasNone s.stage →
     AccountsAt reader start s sent → AccountsAt reader start (heard_at reader port what s) sent
 heard_accounts reader start port (datagram peer octets) s sent none accounts =
@@ -134,7 +134,7 @@ hears_none : (port : Port) (wait : ℕ) (stage : Stage) → Hears port wait stag
 hears_none port wait (sending out changed next) fits = absurd fits
 hears_none port wait stage fits = refl
 
-sent_accounts : (reader : Reader) (start : History) (octets : List ℕ) (failed : Bool) (stage : Stage) (s : Standing)
+sent_accounts : (reader : Reader) (start : History) (octets : List ℕ) (failed : Bool) (stage : Stage) (s : SessionState)
     (sent : List (List ℕ)) → s.stage ≡ stage → Sends octets stage →
     AccountsAt reader start s sent → AccountsAt reader start (after_sending failed stage s) (octets ∷ sent)
 sent_accounts reader start octets failed (sending out changed next) s sent is fits accounts = record {
@@ -146,7 +146,7 @@ sent_accounts reader start octets failed (sending out changed next) s sent is fi
 }
 sent_accounts reader start octets failed stage s sent is fits accounts = absurd fits
 
-call_accounts : (reader : Reader) (start : History) (call : Call) (s : Standing) (sent : List (List ℕ)) →
+call_accounts : (reader : Reader) (start : History) (call : Call) (s : SessionState) (sent : List (List ℕ)) →
     Fits call s.stage →
     AccountsAt reader start s sent → AccountsAt reader start (after_call reader call s) (given call ++ sent)
 call_accounts reader start (clock_read moment) s sent fits accounts = clock_accounts reader start moment s.stage s sent
@@ -158,7 +158,7 @@ call_accounts reader start (compound_sent octets failed) s sent fits accounts = 
 
 -- ---- What comes next
 
-turn_accounts : (reader : Reader) (start : History) (next : Option ℕ) (turns : ℕ) (otherwise s : Standing)
+turn_accounts : (reader : Reader) (start : History) (next : Option ℕ) (turns : ℕ) (otherwise s : SessionState)
     (sent : List (List ℕ)) → HasNone s.stage → AccountsAt reader start otherwise sent →
     AccountsAt reader start s sent → AccountsAt reader start (turn_by next turns otherwise s) sent
 turn_accounts reader start None turns otherwise s sent none last accounts =
@@ -168,7 +168,8 @@ turn_accounts reader start (Some moment) (suc turns) otherwise s sent none last 
     restaged reader start s beginning sent accounts none refl
 
 -- where nothing is under way, a turn comes, or what comes otherwise
-rested_accounts : (reader : Reader) (start : History) (otherwise s : Standing) (stage : Stage) (sent : List (List ℕ)) →
+rested_accounts : (reader : Reader) (start : History) (otherwise s : SessionState) (stage : Stage)
+    (sent : List (List ℕ)) →
     s.stage ≡ stage → (HasNone s.stage → AccountsAt reader start otherwise sent) →
     AccountsAt reader start s sent → AccountsAt reader start (rested (turn_or otherwise s) stage s) sent
 rested_accounts reader start otherwise s resting sent rests comes accounts =
@@ -176,12 +177,13 @@ rested_accounts reader start otherwise s resting sent rests comes accounts =
     (comes (ap pending rests)) accounts
 rested_accounts reader start otherwise s stage sent rests comes accounts = accounts
 
-gone_on_accounts : (reader : Reader) (start : History) (s : Standing) (sent : List (List ℕ)) →
+gone_on_accounts : (reader : Reader) (start : History) (s : SessionState) (sent : List (List ℕ)) →
     AccountsAt reader start s sent → AccountsAt reader start (gone_on s) sent
 gone_on_accounts reader start s sent accounts = rested_accounts reader start (at_stage (ended Done) s) s s.stage sent
     refl (λ none. restaged reader start s (ended Done) sent accounts none refl) accounts
 
-last_accounts : (reader : Reader) (start : History) (total : ℕ) (leaving : Bool) (s : Standing) (sent : List (List ℕ)) →
+last_accounts : (reader : Reader) (start : History) (total : ℕ) (leaving : Bool) (s : SessionState)
+    (sent : List (List ℕ)) →
     HasNone s.stage → AccountsAt reader start s sent
     → AccountsAt reader start (if leaving then at_stage (ended Done) s else gone_on
     (left_with total (next_u32 s.words) s)) sent
@@ -191,7 +193,7 @@ last_accounts reader start total false s sent none accounts =
     gone_on_accounts reader start (left_with total (next_u32 s.words) s) sent
     (answer_accounts reader start resting (ended Done) _ _ s sent accounts none refl refl refl)
 
-going_accounts : (reader : Reader) (start : History) (total : ℕ) (s : Standing) (sent : List (List ℕ)) →
+going_accounts : (reader : Reader) (start : History) (total : ℕ) (s : SessionState) (sent : List (List ℕ)) →
     AccountsAt reader start s sent → AccountsAt reader start (going total s) sent
 going_accounts reader start total s sent accounts = rested_accounts reader start (after_turns total s) s s.stage sent
     refl (λ none. last_accounts reader start total s.leaving s sent none accounts) accounts
@@ -206,7 +208,8 @@ session_accounts reader start words total (call ∷ earlier) (fit, fits) =
     call_accounts reader start call _ (given_in earlier) fits
     (going_accounts reader start total _ (given_in earlier) (session_accounts reader start words total earlier fit))
 
-pub session_comes : (reader : Reader) (start : History) (words : Stream) (total : ℕ) (calls : List Call) (t : Standing)
+pub session_comes : (reader : Reader) (start : History) (words : Stream) (total : ℕ) (calls : List Call)
+    (t : SessionState)
     (x y : LinkValue)
     → Comes reader total calls (at_the_start start words total) t x y → AccountsAt reader start t (given_in calls)
 session_comes reader start words total calls t x y comes =
@@ -221,25 +224,25 @@ AreTotals tally calls = (tally.received ≡ how_many is_datagram calls)
     × (tally.recv_failures ≡ how_many is_failed_receive calls) × (tally.sent ≡ how_many is_sent calls)
     × (tally.send_failures ≡ how_many is_failed_send calls)
 
-rested_counts : (next s : Standing) (stage : Stage) → next.tally ≡ s.tally → (rested next stage s).tally ≡ s.tally
+rested_counts : (next s : SessionState) (stage : Stage) → next.tally ≡ s.tally → (rested next stage s).tally ≡ s.tally
 rested_counts next s resting same = same
 rested_counts next s stage same = refl
 
-turn_counts : (next : Option ℕ) (turns : ℕ) (otherwise s : Standing) → otherwise.tally ≡ s.tally →
+turn_counts : (next : Option ℕ) (turns : ℕ) (otherwise s : SessionState) → otherwise.tally ≡ s.tally →
     (turn_by next turns otherwise s).tally ≡ s.tally
 turn_counts None turns otherwise s same = refl
 turn_counts (Some moment) zero otherwise s same = same
 turn_counts (Some moment) (suc turns) otherwise s same = refl
 
-gone_on_counts : (s : Standing) → (gone_on s).tally ≡ s.tally
+gone_on_counts : (s : SessionState) → (gone_on s).tally ≡ s.tally
 gone_on_counts s = rested_counts _ s s.stage (turn_counts (next_in_life (life_at s.history)) s.turns _ s refl)
 
-last_counts : (total : ℕ) (leaving : Bool) (s : Standing)
+last_counts : (total : ℕ) (leaving : Bool) (s : SessionState)
     → (if leaving then at_stage (ended Done) s else gone_on (left_with total (next_u32 s.words) s)).tally ≡ s.tally
 last_counts total true s = refl
 last_counts total false s = gone_on_counts (left_with total (next_u32 s.words) s)
 
-going_counts : (total : ℕ) (s : Standing) → (going total s).tally ≡ s.tally
+going_counts : (total : ℕ) (s : SessionState) → (going total s).tally ≡ s.tally
 going_counts total s = rested_counts _ s s.stage
     (turn_counts (next_in_life (life_at s.history)) s.turns _ s (last_counts total s.leaving s))
 
@@ -247,7 +250,7 @@ going_counts total s = rested_counts _ s s.stage
 moved : (a b : ℕ) → a ≡ b → a + 1 ≡ suc b
 moved a b same = omega (arith, same)
 
-clock_counts : (moment : ℕ) (stage : Stage) (s : Standing) (calls : List Call) → AreTotals s.tally calls
+clock_counts : (moment : ℕ) (stage : Stage) (s : SessionState) (calls : List Call) → AreTotals s.tally calls
     → AreTotals (after_clock moment stage s).tally (clock_read moment ∷ calls)
 clock_counts moment beginning s calls totals = totals
 clock_counts moment stage s calls totals = totals
@@ -263,7 +266,7 @@ arrival_counts : (answer : AnswerValue) (tally : Tally) (calls : List Call) → 
 arrival_counts (Ok step) tally calls totals = totals
 arrival_counts (Err refusal) tally calls totals = limit_counts (is_limit refusal) tally calls totals
 
-heard_counts : (reader : Reader) (port : Port) (wait : ℕ) (what : Heard) (s : Standing) (calls : List Call) →
+heard_counts : (reader : Reader) (port : Port) (wait : ℕ) (what : Heard) (s : SessionState) (calls : List Call) →
     AreTotals s.tally calls
     → AreTotals (heard_at reader port what s).tally (port_heard port wait what ∷ calls)
 heard_counts reader port wait (datagram peer octets) s calls (came, failed, sent, lost) =
@@ -272,7 +275,7 @@ heard_counts reader port wait (datagram peer octets) s calls (came, failed, sent
 heard_counts reader port wait silence s calls totals = totals
 heard_counts reader port wait failure s calls (came, failed, sent, lost) = (came, moved _ _ failed, sent, lost)
 
-sending_counts : (octets : List ℕ) (failed : Bool) (stage : Stage) (s : Standing) (calls : List Call) →
+sending_counts : (octets : List ℕ) (failed : Bool) (stage : Stage) (s : SessionState) (calls : List Call) →
     Sends octets stage → AreTotals s.tally calls
     → AreTotals (after_sending failed stage s).tally (compound_sent octets failed ∷ calls)
 sending_counts octets true (sending out changed next) s calls fits (came, failed, sent, lost) =
@@ -281,7 +284,7 @@ sending_counts octets false (sending out changed next) s calls fits (came, faile
     (came, failed, moved _ _ sent, omega (arith, lost))
 sending_counts octets failed stage s calls fits totals = absurd fits
 
-call_counts : (reader : Reader) (call : Call) (s : Standing) (calls : List Call) → Fits call s.stage →
+call_counts : (reader : Reader) (call : Call) (s : SessionState) (calls : List Call) → Fits call s.stage →
     AreTotals s.tally calls
     → AreTotals (after_call reader call s).tally (call ∷ calls)
 call_counts reader (clock_read moment) s calls fits totals = clock_counts moment s.stage s calls totals
@@ -289,7 +292,7 @@ call_counts reader (port_heard port wait what) s calls fits totals = heard_count
 call_counts reader (compound_sent octets failed) s calls fits totals = sending_counts octets failed s.stage s calls fits
     totals
 
-session_counts : (reader : Reader) (total : ℕ) (s : Standing) (calls : List Call) → AreTotals s.tally [] →
+session_counts : (reader : Reader) (total : ℕ) (s : SessionState) (calls : List Call) → AreTotals s.tally [] →
     AllFit reader total s calls
     → AreTotals (after_calls reader total s calls).tally calls
 session_counts reader total s [] totals fit = totals
@@ -299,7 +302,8 @@ session_counts reader total s (call ∷ earlier) totals (fit, fits) =
     (subst (λ tally. AreTotals tally earlier) (sym (going_counts total u))
     (session_counts reader total s earlier totals fit))
 
-pub session_totals : (reader : Reader) (start : History) (words : Stream) (total : ℕ) (calls : List Call) (t : Standing)
+pub session_totals : (reader : Reader) (start : History) (words : Stream) (total : ℕ) (calls : List Call)
+    (t : SessionState)
     (x y : LinkValue)
     → Comes reader total calls (at_the_start start words total) t x y → AreTotals t.tally calls
 session_totals reader start words total calls t x y comes =

@@ -48,7 +48,7 @@ pub data Stage : Type 0 where
   sending : (out : OutValue) (changed : Option ℕ) (next : Stage) → Stage
   ended : Cause → Stage
 
-pub record Standing : Type 0 where
+pub record SessionState : Type 0 where
   -- the acts that the participant took
   pub history : History
   -- all acts that it was told in this session, those that it refused too
@@ -65,20 +65,20 @@ pub record Standing : Type 0 where
   pub leaving : Bool
   pub stage : Stage
 
-abbrev pub at_stage : Stage → Standing → Standing
+abbrev pub at_stage : Stage → SessionState → SessionState
 at_stage stage s = record s { stage = stage }
 
-abbrev pub with_tally : Tally → Standing → Standing
+abbrev pub with_tally : Tally → SessionState → SessionState
 with_tally tally s = record s { tally = tally }
 
-abbrev pub with_words : Stream → Standing → Standing
+abbrev pub with_words : Stream → SessionState → SessionState
 with_words words s = record s { words = words }
 
-abbrev pub with_turns : (turns : ℕ) → (leaving : Bool) → Standing → Standing
+abbrev pub with_turns : (turns : ℕ) → (leaving : Bool) → SessionState → SessionState
 with_turns turns leaving s = record s { turns = turns; leaving = leaving }
 
 -- the participant is told an event, which is this act
-abbrev pub told_act : EventValue → Act → Standing → Standing
+abbrev pub told_act : EventValue → Act → SessionState → SessionState
 told_act event act s =
     record s {
       history = followed_by s.history act;
@@ -100,18 +100,18 @@ stage_to_send next refused (Err refusal) = if is_limit refusal then ended Limit 
 
 -- ---- Arrivals
 
-abbrev pub arrived : (next : Stage) → EventValue → Act → Standing → Standing
+abbrev pub arrived : (next : Stage) → EventValue → Act → SessionState → SessionState
 arrived next event act s = let answer = answer_of s.history act in
     at_stage (stage_to_send next next answer) (with_tally (with_arrival answer s.tally) (told_act event act s))
 
 -- A word is drawn for a datagram, and the participant is told that it came.
 abbrev pub came_with : (event_of : (word : ℕ) → EventValue) → (act_of : (word : ℕ) → Act) → (next : Stage)
-    → (word : ℕ × Stream) → Standing → Standing
+    → (word : ℕ × Stream) → SessionState → SessionState
 came_with event_of act_of next word s =
     arrived next (event_of word.0) (act_of word.0) (with_words word.1 (with_tally (with_datagram s.tally) s))
 
 abbrev pub heard : (event_of : (peer word : ℕ) → List ℕ → EventValue) → (act_of : (peer word : ℕ) → List ℕ → Act)
-    → (next : Stage) → Heard → Standing → Standing
+    → (next : Stage) → Heard → SessionState → SessionState
 heard event_of act_of next (datagram peer octets) s =
     came_with (λ word. event_of peer word octets) (λ word. act_of peer word octets) next (next_u32 s.words) s
 heard event_of act_of next silence s = at_stage next (with_tally (with_silence s.tally) s)
@@ -134,56 +134,56 @@ abbrev pub after_port : Port → Stage
 after_port RtcpPort = hearing RtpPort
 after_port RtpPort = deciding
 
-abbrev pub heard_at : Reader → Port → Heard → Standing → Standing
+abbrev pub heard_at : Reader → Port → Heard → SessionState → SessionState
 heard_at reader port what s =
     heard (event_at port s.tally.moment) (arrival_at reader port s.tally.moment) (after_port port) what s
 
 -- ---- Ticks and the leave
 
-abbrev pub asked : (refused : Stage) → EventValue → Act → Standing → Standing
+abbrev pub asked : (refused : Stage) → EventValue → Act → SessionState → SessionState
 asked refused event act s = at_stage (stage_to_send resting refused (answer_of s.history act)) (told_act event act s)
 
 -- Two words are drawn, and the participant is told that time has passed.
-abbrev pub ticked_with : (first second : ℕ × Stream) → Standing → Standing
+abbrev pub ticked_with : (first second : ℕ × Stream) → SessionState → SessionState
 ticked_with first second s = let moment = s.tally.moment in
     asked resting (time_passed moment first.0 second.0) (ticked moment first.0 second.0) (with_words second.1 s)
 
-abbrev pub ticked_now : Standing → Standing
+abbrev pub ticked_now : SessionState → SessionState
 ticked_now s = let first = next_u32 s.words in ticked_with first (next_u32 first.1) s
 
 -- A word is drawn, and the participant is asked to leave at the greatest moment so far. As many turns again are
 -- left then.
-abbrev pub left_with : (total : ℕ) → (word : ℕ × Stream) → Standing → Standing
+abbrev pub left_with : (total : ℕ) → (word : ℕ × Stream) → SessionState → SessionState
 left_with total word s = let moment = s.tally.moment in
     asked (ended Done) (leave_asked moment word.0) (left moment word.0) (with_turns total true (with_words word.1 s))
 
 -- ---- Turns
 
 -- A turn begins where the participant is still there, which has a moment to be asked at, and one is left.
-abbrev pub turn_by : (next : Option ℕ) → (turns : ℕ) → (otherwise s : Standing) → Standing
+abbrev pub turn_by : (next : Option ℕ) → (turns : ℕ) → (otherwise s : SessionState) → SessionState
 turn_by None turns otherwise s = at_stage (ended Done) s
 turn_by (Some moment) zero otherwise s = otherwise
 turn_by (Some moment) (suc turns) otherwise s = at_stage beginning (with_turns turns s.leaving s)
 
-abbrev pub turn_or : (otherwise s : Standing) → Standing
+abbrev pub turn_or : (otherwise s : SessionState) → SessionState
 turn_or otherwise s = turn_by (next_in_life (life_at s.history)) s.turns otherwise s
 
 -- where nothing is under way, what comes then
-abbrev pub rested : (next : Standing) → Stage → Standing → Standing
+abbrev pub rested : (next : SessionState) → Stage → SessionState → SessionState
 rested next resting s = next
 rested next stage s = s
 
 -- What comes next, after the leave.
-abbrev pub gone_on : Standing → Standing
+abbrev pub gone_on : SessionState → SessionState
 gone_on s = rested (turn_or (at_stage (ended Done) s) s) s.stage s
 
 -- what comes after the last turn: the leave, or after that the end
-abbrev pub after_turns : (total : ℕ) → Standing → Standing
+abbrev pub after_turns : (total : ℕ) → SessionState → SessionState
 after_turns total s =
     if s.leaving then at_stage (ended Done) s else gone_on (left_with total (next_u32 s.words) s)
 
 -- What comes next, of so many turns before the leave and as many after it.
-abbrev pub going : (total : ℕ) → Standing → Standing
+abbrev pub going : (total : ℕ) → SessionState → SessionState
 going total s = rested (turn_or (after_turns total s) s) s.stage s
 
 -- ---- Calls
@@ -209,36 +209,36 @@ Fits (port_heard port wait what) stage = Hears port wait stage
 Fits (compound_sent octets failed) stage = Sends octets stage
 
 -- a turn begins with the moment, and it is taken again before the tick
-abbrev pub after_clock : (moment : ℕ) → Stage → Standing → Standing
+abbrev pub after_clock : (moment : ℕ) → Stage → SessionState → SessionState
 after_clock moment beginning s = at_stage (hearing RtcpPort) (with_tally (with_moment moment s.tally) s)
 after_clock moment deciding s = ticked_now (with_tally (with_moment moment s.tally) s)
 after_clock moment stage s = s
 
 -- Whether or not sending it failed, a compound is sent once.
-abbrev pub after_sending : (failed : Bool) → Stage → Standing → Standing
+abbrev pub after_sending : (failed : Bool) → Stage → SessionState → SessionState
 after_sending failed (sending out changed next) s =
     at_stage next (with_tally (with_send out.kind changed failed s.tally) s)
 after_sending failed stage s = s
 
 -- where a session stands after a call that fits
-abbrev pub after_call : Reader → Call → Standing → Standing
+abbrev pub after_call : Reader → Call → SessionState → SessionState
 after_call reader (clock_read moment) s = after_clock moment s.stage s
 after_call reader (port_heard port wait what) s = heard_at reader port what s
 after_call reader (compound_sent octets failed) s = after_sending failed s.stage s
 
 -- where it stands after calls, from where it stood before them
-abbrev pub after_calls : Reader → (total : ℕ) → Standing → List Call → Standing
+abbrev pub after_calls : Reader → (total : ℕ) → SessionState → List Call → SessionState
 after_calls reader total s [] = s
 after_calls reader total s (call ∷ earlier) = after_call reader call (going total (after_calls reader total s earlier))
 
 -- Each call was the one that came next.
-abbrev pub AllFit : Reader → (total : ℕ) → Standing → List Call → Type 0
+abbrev pub AllFit : Reader → (total : ℕ) → SessionState → List Call → Type 0
 AllFit reader total s [] = Unit {0}
 AllFit reader total s (call ∷ earlier) =
     AllFit reader total s earlier × Fits call (going total (after_calls reader total s earlier)).stage
 
 -- where a session stands before its first call
-abbrev pub at_the_start : History → Stream → (turns : ℕ) → Standing
+abbrev pub at_the_start : History → Stream → (turns : ℕ) → SessionState
 at_the_start history words turns = record {
   history = history;
   told = [];

@@ -11,16 +11,16 @@ use Rattle.rtcp_serve.specs.declared.serving.Cause.TheVariants.{Done}
 use Rattle.rtcp_serve.specs.declared.serving.tally.Tally.{Tally}
 use Rattle.rtcp_serve.specs.Tallies.{end_of}
 use Rattle.rtcp_serve.specs.Links.{Call, LinkValue, WereCalled, Telling, GrowsBy}
-use Rattle.rtcp_serve.specs.Serving.{Reader, Stage, resting, ended, Standing, going, after_calls, AllFit}
+use Rattle.rtcp_serve.specs.Serving.{Reader, Stage, resting, ended, SessionState, going, after_calls, AllFit}
 
 -- What is kept is where a session stands.
-pub record Holds (s : Standing) (kept : ParticipantValue) (left : Stream) (counted : Tally) : Type 0 where
+pub record Holds (s : SessionState) (kept : ParticipantValue) (left : Stream) (counted : Tally) : Type 0 where
   pub participant : StandsAt kept s.history
   pub words : left ≡ s.words
   pub tally : counted ≡ s.tally
 
 -- A result is the stage that a session has come to.
-abbrev pub Reaches : {A : Type 0} → (next : Stage) → Result A Cause → Standing → Type 0
+abbrev pub Reaches : {A : Type 0} → (next : Stage) → Result A Cause → SessionState → Type 0
 Reaches next (Ok done) s = s.stage ≡ next
 Reaches next (Err cause) s = s.stage ≡ ended cause
 
@@ -30,27 +30,27 @@ led_to next refused (Ok step) = next
 led_to next refused (Err refusal) = refused
 
 -- when the participant is to be asked next, unless it has left
-abbrev pub next_at : Standing → Option ℕ
+abbrev pub next_at : SessionState → Option ℕ
 next_at s = next_in_life (life_at s.history)
 
 -- A turn comes next, and so many are left after it.
-pub record HasTurn (left : ℕ) (s : Standing) : Type 0 where
+pub record HasTurn (left : ℕ) (s : SessionState) : Type 0 where
   pub resting : s.stage ≡ resting
   pub there : IsTrue (is_some (next_at s))
   pub turns : s.turns ≡ suc left
 
 -- Turns end where none is left, or the participant is gone, or for another cause.
-abbrev pub EndsTurns : {A : Type 0} → Result A Cause → Standing → Type 0
+abbrev pub EndsTurns : {A : Type 0} → Result A Cause → SessionState → Type 0
 EndsTurns (Ok done) s = (s.stage ≡ resting) × ((next_at s ≡ None) ⊎ (s.turns ≡ 0))
 EndsTurns (Err cause) s = s.stage ≡ ended cause
 
 -- A session has ended.
-abbrev pub EndsAs : {A : Type 0} → Result A Cause → Standing → Type 0
+abbrev pub EndsAs : {A : Type 0} → Result A Cause → SessionState → Type 0
 EndsAs (Ok done) s = s.stage ≡ ended Done
 EndsAs (Err cause) s = s.stage ≡ ended cause
 
 -- Calls of a link, each the one that came next, led from one standing to another.
-pub record Moves (reader : Reader) (total : ℕ) (calls : List Call) (s t : Standing) (before after : LinkValue)
+pub record Moves (reader : Reader) (total : ℕ) (calls : List Call) (s t : SessionState) (before after : LinkValue)
     : Type 0 where
   pub fit : AllFit reader total s calls
   pub reached : t ≡ after_calls reader total s calls
@@ -58,17 +58,17 @@ pub record Moves (reader : Reader) (total : ℕ) (calls : List Call) (s t : Stan
 
 -- Between two standings a link was told what the participant was told: if all that it was told since some start was
 -- what the participant had been told at the first, it is so at the second.
-pub record Tells (s t : Standing) (before after : LinkValue) : Type 0 where
+pub record Tells (s t : SessionState) (before after : LinkValue) : Type 0 where
   pub grows : (start : Option (List Telling)) → GrowsBy s.tellings start before.told
       → GrowsBy t.tellings start after.told
 
 -- A part of a session: the calls that it made of the link led from one standing to another, at which it keeps what it
 -- keeps and comes to what it comes to, and the link was told what the participant was told since an earlier standing.
 pub record Walks
-    (reader : Reader) (total : ℕ) (since from : Standing) (before after : LinkValue) (kept : ParticipantValue)
-    (words : Stream) (counted : Tally) (at : Standing → Type 0) (turns_left : ℕ) (has_left : Bool) : Type 0 where
+    (reader : Reader) (total : ℕ) (since from : SessionState) (before after : LinkValue) (kept : ParticipantValue)
+    (words : Stream) (counted : Tally) (at : SessionState → Type 0) (turns_left : ℕ) (has_left : Bool) : Type 0 where
   pub calls : List Call
-  pub reached : Standing
+  pub reached : SessionState
   pub moves : Moves reader total calls from reached before after
   pub tells : Tells since reached before after
   pub holds : Holds reached kept words counted
@@ -77,14 +77,15 @@ pub record Walks
   pub leaving : reached.leaving ≡ has_left
 
 -- Calls of a link, each the one that came next, led from one standing to another and on to what comes next.
-pub record Comes (reader : Reader) (total : ℕ) (calls : List Call) (s t : Standing) (before after : LinkValue) : Type
+pub record Comes (reader : Reader) (total : ℕ) (calls : List Call) (s t : SessionState) (before after : LinkValue) :
+    Type
     0 where
   pub fit : AllFit reader total s calls
   pub reached : t ≡ going total (after_calls reader total s calls)
   pub called : WereCalled calls before after
 
 -- No turn is left, and the leave comes next.
-pub record IsLeaveDue (s : Standing) : Type 0 where
+pub record IsLeaveDue (s : SessionState) : Type 0 where
   pub resting : s.stage ≡ resting
   pub there : IsTrue (is_some (next_at s))
   pub turns : s.turns ≡ 0
@@ -92,27 +93,28 @@ pub record IsLeaveDue (s : Standing) : Type 0 where
 
 -- The last part of a session: the same, up to what comes next, which is its end.
 pub record Closes
-    (reader : Reader) (total : ℕ) (s : Standing) (before after : LinkValue) (kept : ParticipantValue) (words : Stream)
-    (counted : Tally) (at : Standing → Type 0) : Type 0 where
+    (reader : Reader) (total : ℕ) (s : SessionState) (before after : LinkValue) (kept : ParticipantValue)
+    (words : Stream)
+    (counted : Tally) (at : SessionState → Type 0) : Type 0 where
   pub calls : List Call
-  pub reached : Standing
+  pub reached : SessionState
   pub comes : Comes reader total calls s reached before after
   pub tells : Tells s reached before after
   pub holds : Holds reached kept words counted
   pub ends : at reached
 
 -- what a session came to
-abbrev pub IsEnd : End → Standing → Type 0
+abbrev pub IsEnd : End → SessionState → Type 0
 IsEnd end t = (t.stage ≡ ended end.cause) × (end ≡ end_of end.cause t.tally)
 
 -- A session over a link, from its start to its end: the calls of the link are those that a session makes, the
 -- participant and the words are where these leave them, the result says what they come to, and the link is told what
 -- the participant is told.
 pub record RunsSession
-    (reader : Reader) (total : ℕ) (start : Standing) (kept : ParticipantValue) (left : Stream) (result : End)
+    (reader : Reader) (total : ℕ) (start : SessionState) (kept : ParticipantValue) (left : Stream) (result : End)
     (before after : LinkValue) : Type 0 where
   pub calls : List Call
-  pub reached : Standing
+  pub reached : SessionState
   pub comes : Comes reader total calls start reached before after
   pub participant : StandsAt kept reached.history
   pub words : left ≡ reached.words

@@ -6,7 +6,7 @@ ghost use Rattle.rtcp_engine.specs.Histories.{History};
 ghost use Rattle.rtcp_serve.specs.declared.serving.Cause.{Cause};
 ghost use Rattle.rtcp_serve.specs.Handing.{acts_in, answers_given, answers_in, given_in, handed_out, history_after};
 ghost use Rattle.rtcp_serve.specs.Links.{Call, LinkValue, how_many, is_datagram, is_failed_receive, is_failed_send, is_sent};
-ghost use Rattle.rtcp_serve.specs.Serving.{IsReader, Reader, Standing, at_the_start, ended};
+ghost use Rattle.rtcp_serve.specs.Serving.{IsReader, Reader, SessionState, at_the_start, ended};
 ghost use Rattle.rtcp_serve.specs.Sessions.{Comes};
 
 /// There is a reader as the grammars of RTCP and RTP have it, and any two read alike: so what is said of a session
@@ -21,11 +21,11 @@ pub fn there_is_one_reader()
 /// whether or not sending them failed.
 pub fn compounds_go_out_once()
     ensures handed { (reader : Reader) (history : History) (words : Stream) (turns : ℕ) (calls : List Call)
-        (t : Standing) (before after : LinkValue) (cause : Cause) →
+        (t : SessionState) (before after : LinkValue) (cause : Cause) →
         Comes reader turns calls (at_the_start history words turns) t before after → t.stage ≡ ended cause →
         given_in calls ≡ handed_out history t.told }
     ensures history { (reader : Reader) (history : History) (words : Stream) (turns : ℕ) (calls : List Call)
-        (t : Standing) (before after : LinkValue) →
+        (t : SessionState) (before after : LinkValue) →
         Comes reader turns calls (at_the_start history words turns) t before after →
         t.history ≡ history_after history t.told }
 {}
@@ -34,11 +34,11 @@ pub fn compounds_go_out_once()
 /// the history before it.
 pub fn links_are_told_all()
     ensures acts { (reader : Reader) (history : History) (words : Stream) (turns : ℕ) (calls : List Call)
-        (t : Standing) (before after : LinkValue) →
+        (t : SessionState) (before after : LinkValue) →
         Comes reader turns calls (at_the_start history words turns) t before after →
         acts_in reader t.tellings ≡ t.told }
     ensures answers { (reader : Reader) (history : History) (words : Stream) (turns : ℕ) (calls : List Call)
-        (t : Standing) (before after : LinkValue) →
+        (t : SessionState) (before after : LinkValue) →
         Comes reader turns calls (at_the_start history words turns) t before after →
         answers_in t.tellings ≡ answers_given history t.told }
 {}
@@ -46,7 +46,7 @@ pub fn links_are_told_all()
 /// The totals of a session are counts of its calls.
 pub fn totals_count_calls()
     ensures { (reader : Reader) (history : History) (words : Stream) (turns : ℕ) (calls : List Call)
-        (t : Standing) (before after : LinkValue) →
+        (t : SessionState) (before after : LinkValue) →
         Comes reader turns calls (at_the_start history words turns) t before after →
         (t.tally.received ≡ how_many is_datagram calls) × (t.tally.recv_failures ≡ how_many is_failed_receive calls)
         × (t.tally.sent ≡ how_many is_sent calls) × (t.tally.send_failures ≡ how_many is_failed_send calls) }
@@ -56,7 +56,7 @@ pub fn totals_count_calls()
 /// participant was told, and the end.
 pub fn a_log_determines_the_session()
     ensures calls { (reader : Reader) (history : History) (words : Stream) (turns : ℕ) (calls others : List Call)
-        (s t : Standing) (before after : LinkValue) (log : List Call) → after.log ≡ Some log →
+        (s t : SessionState) (before after : LinkValue) (log : List Call) → after.log ≡ Some log →
         Comes reader turns calls (at_the_start history words turns) s before after →
         Comes reader turns others (at_the_start history words turns) t before after → (calls ≡ others) × (s ≡ t) }
 {}

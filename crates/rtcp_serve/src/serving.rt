@@ -3,7 +3,7 @@
 ghost use Rattle.std.specs.Prelude.{◌≡◌, ◌≤◌, ◌<◌, ◌^◌};
 ghost use Rattle.rtcp_engine.specs.Histories.{History};
 ghost use Rattle.rtcp_engine.specs.States.{StandsAt};
-ghost use Rattle.rtcp_serve.specs.Serving.{IsReader, Reader, Standing, at_the_start, ended};
+ghost use Rattle.rtcp_serve.specs.Serving.{IsReader, Reader, SessionState, at_the_start, ended};
 ghost use Rattle.rtcp_serve.specs.Sessions.{EndsAs, RunsSession};
 
 mod tally;
@@ -82,7 +82,7 @@ pub fn serve<L: Link, T: MemberTable, R: Rng>(
 
 /// Why a session ended, by what it returned.
 fn cause_of(returned: Result<(), Cause>) -> Cause
-    ensures { (t : Standing) → EndsAs returned t → t.stage ≡ ended result }
+    ensures { (t : SessionState) → EndsAs returned t → t.stage ≡ ended result }
 {
     match returned {
         Ok(()) => Cause::Done,

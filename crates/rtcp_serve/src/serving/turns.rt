@@ -7,7 +7,7 @@ ghost use Rattle.rtcp_engine.specs.Promises.{Takes};
 ghost use Rattle.rtcp_engine.specs.States.{ParticipantValue};
 ghost use Rattle.rtcp_engine.specs.Views.{answer_value, event_value};
 ghost use Rattle.rtcp_serve.specs.Links.{WereCalled, clock_read, telling};
-ghost use Rattle.rtcp_serve.specs.Serving.{IsReader, Reader, Stage, Standing, after_port, arrival_at, deciding, event_at, hearing, resting, stage_to_send};
+ghost use Rattle.rtcp_serve.specs.Serving.{IsReader, Reader, Stage, SessionState, after_port, arrival_at, deciding, event_at, hearing, resting, stage_to_send};
 ghost use Rattle.rtcp_serve.specs.Sessions.{Closes, EndsAs, EndsTurns, HasTurn, Holds, IsLeaveDue, Reaches, Walks, led_to};
 ghost use Rattle.rtcp_serve.specs.Tallies.{HasRoom, with_moment};
 
@@ -44,7 +44,7 @@ fn hear<L: Link, T: MemberTable, R: Rng>(
 ) -> Result<(), Cause>
     requires row { tally.old.failures < 64 }
     requires room { HasRoom 2 tally.old (L.value link.old) }
-    ensures leads { (reader : Reader) (total : ℕ) (s : Standing) → IsReader reader →
+    ensures leads { (reader : Reader) (total : ℕ) (s : SessionState) → IsReader reader →
         Holds s participant.old (R.stream rng.old) tally.old → s.stage ≡ hearing port →
         Walks reader total s s (L.value link.old) (L.value link.new) participant.new (R.stream rng.new) tally.new
         (Reaches (after_port port) result) s.turns s.leaving }
@@ -122,7 +122,7 @@ fn tell<L: Link, T: MemberTable>(
 ) -> Result<(), Cause>
     requires room { HasRoom 1 tally.old (L.value link.old) }
     ensures leads { (reader : Reader) (total : ℕ) (next refused : Stage) (kept : ParticipantValue) (words : Stream)
-        (s t : Standing) → Holds t kept words tally.old → t.stage ≡ stage_to_send next refused (answer_value answer) →
+        (s t : SessionState) → Holds t kept words tally.old → t.stage ≡ stage_to_send next refused (answer_value answer) →
         t.tellings ≡ telling (event_value event.now) (answer_value answer) ∷ s.tellings →
         Walks reader total s t (L.value link.old) (L.value link.new) kept words tally.new
         (Reaches (led_to next refused (answer_value answer)) result) t.turns t.leaving }
@@ -138,7 +138,7 @@ fn tell<L: Link, T: MemberTable>(
 fn hand_over<L: Link>(link: &mut L, tally: &mut Tally, answer: Answer) -> Result<(), Cause>
     requires room { HasRoom 1 tally.old (L.value link.old) }
     ensures leads { (reader : Reader) (total : ℕ) (next refused : Stage) (kept : ParticipantValue) (words : Stream)
-        (s : Standing) → Holds s kept words tally.old → s.stage ≡ stage_to_send next refused (answer_value answer) →
+        (s : SessionState) → Holds s kept words tally.old → s.stage ≡ stage_to_send next refused (answer_value answer) →
         Walks reader total s s (L.value link.old) (L.value link.new) kept words tally.new
         (Reaches (led_to next refused (answer_value answer)) result) s.turns s.leaving }
     ensures row { tally.new.failures ≡ tally.old.failures }
@@ -170,7 +170,7 @@ fn tick<L: Link, T: MemberTable, R: Rng>(
     tally: &mut Tally,
 ) -> Result<(), Cause>
     requires room { HasRoom 1 tally.old (L.value link.old) }
-    ensures leads { (reader : Reader) (total : ℕ) (s : Standing) →
+    ensures leads { (reader : Reader) (total : ℕ) (s : SessionState) →
         Holds s participant.old (R.stream rng.old) tally.old → s.stage ≡ deciding →
         Walks reader total s s (L.value link.old) (L.value link.new) participant.new (R.stream rng.new) tally.new
         (Reaches resting result) s.turns s.leaving }
@@ -205,7 +205,7 @@ fn turn<L: Link, T: MemberTable, R: Rng>(
 ) -> Result<(), Cause>
     requires row { tally.old.failures < 64 }
     requires room { HasRoom 5 tally.old (L.value link.old) }
-    ensures leads { (reader : Reader) (total left : ℕ) (s : Standing) → IsReader reader →
+    ensures leads { (reader : Reader) (total left : ℕ) (s : SessionState) → IsReader reader →
         Holds s participant.old (R.stream rng.old) tally.old → HasTurn left s →
         Walks reader total s s (L.value link.old) (L.value link.new) participant.new (R.stream rng.new) tally.new
         (Reaches resting result) left s.leaving }
@@ -230,7 +230,7 @@ fn make_turns<L: Link, T: MemberTable, R: Rng>(
 ) -> Result<(), Cause>
     requires row { tally.old.failures < 64 }
     requires room { HasRoom (turns * 5) tally.old (L.value link.old) }
-    ensures leads { (reader : Reader) (total : ℕ) (s : Standing) → IsReader reader →
+    ensures leads { (reader : Reader) (total : ℕ) (s : SessionState) → IsReader reader →
         Holds s participant.old (R.stream rng.old) tally.old → s.stage ≡ resting → s.turns ≡ turns →
         (left : ℕ) × Walks reader total s s (L.value link.old) (L.value link.new) participant.new (R.stream rng.new)
         tally.new (EndsTurns result) left s.leaving }
@@ -258,7 +258,7 @@ pub(crate) fn session<L: Link, T: MemberTable, R: Rng>(
 ) -> Result<(), Cause>
     requires row { tally.old.failures < 64 }
     requires room { HasRoom (turns * 10 + 1) tally.old (L.value link.old) }
-    ensures serves { (reader : Reader) (s : Standing) → IsReader reader →
+    ensures serves { (reader : Reader) (s : SessionState) → IsReader reader →
         Holds s participant.old (R.stream rng.old) tally.old → s.stage ≡ resting → s.turns ≡ turns →
         s.leaving ≡ false → Closes reader turns s (L.value link.old) (L.value link.new) participant.new
         (R.stream rng.new) tally.new (EndsAs result) }
@@ -282,7 +282,7 @@ fn leave<L: Link, T: MemberTable, R: Rng>(
 ) -> Result<(), Cause>
     requires row { tally.old.failures < 64 }
     requires room { HasRoom (turns * 5 + 1) tally.old (L.value link.old) }
-    ensures serves { (reader : Reader) (s : Standing) → IsReader reader →
+    ensures serves { (reader : Reader) (s : SessionState) → IsReader reader →
         Holds s participant.old (R.stream rng.old) tally.old → IsLeaveDue s →
         Closes reader turns s (L.value link.old) (L.value link.new) participant.new (R.stream rng.new) tally.new
         (EndsAs result) }

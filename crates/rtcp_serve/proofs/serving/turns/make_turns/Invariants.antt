@@ -1,5 +1,5 @@
 use Rattle.std.proofs.Common.{◌≡◌, ◌<◌, ◌+◌, ◌-◌, ◌*◌, ℕ}
-use Rattle.rtcp_serve.specs.Serving.{Reader, IsReader, Standing, resting}
+use Rattle.rtcp_serve.specs.Serving.{Reader, IsReader, SessionState, resting}
 use Rattle.rtcp_serve.specs.Sessions.{Holds, Walks}
 use Rattle.rtcp_serve.specs.Tallies.{HasRoom}
 use Rattle.rtcp_serve.proofs.serving.turns.make_turns.Given as goal
@@ -9,7 +9,7 @@ invariant-turns g l = record {
   row : l.tally.failures < 64;
   room : (more : ℕ) → HasRoom (more + l.counter * 5) l.fn.tally (g.L.Link.value l.fn.link) →
       HasRoom more l.tally (g.L.Link.value l.link);
-  leads : (reader : Reader) (total : ℕ) (s : Standing) → IsReader reader →
+  leads : (reader : Reader) (total : ℕ) (s : SessionState) → IsReader reader →
       Holds s l.fn.participant (g.R.Rng.stream l.fn.rng) l.fn.tally → s.stage ≡ resting → s.turns ≡ l.turns →
       Walks reader total s s (g.L.Link.value l.fn.link) (g.L.Link.value l.link) l.participant
       (g.R.Rng.stream l.rng) l.tally (λ t. t.stage ≡ resting) (l.turns - l.counter) s.leaving;
