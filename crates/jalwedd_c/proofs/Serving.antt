@@ -6,35 +6,33 @@ use Rattle.rtcp_engine.specs.Acts.{Act}
 use Rattle.rtcp_engine.specs.Answers.{answer_of, followed_by}
 use Rattle.rtcp_engine.specs.Histories.{History, life_at}
 use Rattle.rtcp_engine.specs.Promises.{Takes}
-use Rattle.rtcp_engine.specs.States.{ParticipantValue, StandsAt}
 use Rattle.rtcp_engine.specs.Views.{reply_value}
-use Rattle.jalwedd_host.specs.declared.session.Session.{Session}
-use Rattle.jalwedd_host.specs.declared.step.Step.{Step}
+use Rattle.jalwedd_host.specs.declared.session.HostSession.{HostSession}
+use Rattle.jalwedd_host.specs.declared.step.HostStep.{HostStep}
 use Rattle.jalwedd_host.specs.Answers.{HandsNothing, HandsOut, Shows, early_refusal, status_of, status_of_refusal}
 use Rattle.jalwedd_host.specs.Handles.{Leads, LeadsTo}
 use Rattle.jalwedd_host.specs.Promises.{ComesEarly, Serves}
 use Rattle.jalwedd_host.proofs.LawLemmas.{leads_as, session_of}
 
 -- A session counts a moment from its own start, which is that of the history.
-pub same_moment : (session looked : Session) (start : ℕ) (history : History) → Leads session start history →
+pub same_moment : (session looked : HostSession) (start : ℕ) (history : History) → Leads session start history →
     looked ≡ session → (now moment other : ℕ) → now ≡ looked.start + moment → now ≡ start + other → moment ≡ other
 same_moment session looked start history leads is now moment other counted told =
     let same : looked.start ≡ session.start = λ i. (is i).start in
     omega (arith, same, leads.counts, counted, told)
 
 -- A session with the same start, whose participant took an act, is put back, and the step shows it.
-pub serves : (session before after : Session) (start : ℕ) (history : History) → Leads session start history →
-    before ≡ session → after.start ≡ before.start → (act : Act) (reply : Result Told Refusal) (room shown_room : List ℕ)
-    → Takes before.participant act (reply_value room reply) after.participant → shown_room ≡ room
-    → (held : Option Session) → held ≡ Some after → (result : ℕ) (step : Step) (was octets : List ℕ)
-    → result ≡ status_of (reply_value shown_room reply) → HandsOut step was octets (reply_value shown_room reply)
+pub serves : (session before after : HostSession) (start : ℕ) (history : History) → Leads session start history →
+    before ≡ session → after.start ≡ before.start → (act : Act) (reply : Result Told Refusal) (was octets : List ℕ)
+    → Takes before.participant act (reply_value octets reply) after.participant
+    → (held : Option HostSession) → held ≡ Some after → (result : ℕ) (step : HostStep)
+    → result ≡ status_of (reply_value octets reply) → HandsOut step was octets (reply_value octets reply)
     → ((start : ℕ) (history : History) → Leads after start history → Shows start step history)
     → Serves start history act held result step was octets
-serves session before after start history leads is counts act reply room shown_room takes room_is held held_is result
-    step was octets status handed shown =
+serves session before after start history leads is counts act reply was octets takes held held_is result step status
+    handed shown =
     let from = leads_as session before start history (sym is) leads in
-    let answer : reply_value shown_room reply ≡ answer_of history act =
-    ap (λ (r : List ℕ). reply_value r reply) room_is ∙ takes.answer history from.stands in
+    let answer : reply_value octets reply ≡ answer_of history act = takes.answer history from.stands in
     let now : Leads after start (followed_by history act) = record {
       stands = takes.stands history from.stands;
       counts = counts ∙ from.counts;
@@ -43,25 +41,13 @@ serves session before after start history leads is counts act reply room shown_r
     record {
       status = status ∙ ap status_of answer;
       handed = subst (HandsOut step was octets) answer handed;
-      stands = subst (λ (h : Option Session). LeadsTo h start (followed_by history act)) (sym held_is) now;
+      stands = subst (λ (h : Option HostSession). LeadsTo h start (followed_by history act)) (sym held_is) now;
       shows = shown start (followed_by history act) now;
-      bounded = takes.bounded history from.stands;
-    }
-
--- A session whose participant was passed by leads where it did.
-pub passed_by : (session before : Session) (participant : ParticipantValue) (start : ℕ) (history : History) →
-    Leads session start history → before ≡ session → participant ≡ before.participant →
-    Leads (record { participant = participant; start = before.start }) start history
-passed_by session before participant start history leads is same =
-    let from = leads_as session before start history (sym is) leads in
-    record {
-      stands = subst (λ (p : ParticipantValue). StandsAt p history) (sym same) from.stands;
-      counts = from.counts;
-      range = from.range;
     }
 
 -- A call before the start leaves the session as it was.
-pub refuses_early : (session : Session) (held after : Option Session) (result : ℕ) (step : Step) (was octets : List ℕ)
+pub refuses_early : (session : HostSession) (held after : Option HostSession) (result : ℕ) (step : HostStep)
+    (was octets : List ℕ)
     → held ≡ Some session → after ≡ Some session
     → ((start : ℕ) (history : History) → Leads session start history →
     result ≡ status_of_refusal (early_refusal (life_at history))) → HandsNothing step

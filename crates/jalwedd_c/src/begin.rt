@@ -10,10 +10,9 @@ ghost use Rattle.jalwedd_host.specs.Promises.{AnswersLive, AnswersVacant, Begins
 
 use jalwedd_host::config::{Config, Item, START_LIMIT, blank, fill};
 use jalwedd_host::handle::Handle;
-use jalwedd_host::session::Session;
-use jalwedd_host::showing::Handed;
+use jalwedd_host::session::HostSession;
 use jalwedd_host::status::{EMPTY, LIVE, NO_MEMORY, START, TAKEN, of_error};
-use jalwedd_host::step::Step;
+use jalwedd_host::step::HostStep;
 use rtcp_engine::Participant;
 use rtcp_members::HeapTable;
 use std::alloc::Global;
@@ -33,7 +32,7 @@ pub extern "C" fn jalwedd_new(
     cname: &[u8],
     items: &[Item],
     word: u32,
-    step: &mut Step,
+    step: &mut HostStep,
 ) -> u32
     ensures begins { result ≡ 0 →
         Begins config.now.start (begun (setup_given config.now cname.now items.now) word)
@@ -45,11 +44,11 @@ pub extern "C" fn jalwedd_new(
     ensures kept { result ≢ 0 → handle.new.owned.held ≡ handle.old.owned.held }
 {
     if let Some(session) = handle.take(alloc) {
-        *step = session.step(Handed::nothing(LIVE));
+        *step = session.step();
         handle.put(session);
         return LIVE;
     }
-    *step = Step::blank();
+    *step = HostStep::blank();
     let mut given = blank();
     if let Some(status) = fill(&mut given, config, cname, items) {
         return status;
@@ -64,7 +63,7 @@ pub extern "C" fn jalwedd_new(
         Ok(table) => table,
         Err(_) => return NO_MEMORY,
     };
-    let session = Session {
+    let session = HostSession {
         participant: Participant::with_table(given, table, word),
         start: config.start,
     };
@@ -78,7 +77,7 @@ pub extern "C" fn jalwedd_new(
 pub extern "C" fn jalwedd_free(alloc: Global, handle: &mut Handle) -> u32
     ensures freed { handle.new.owned.held ≡ None }
     ensures empty { handle.old.owned.held ≡ None → result ≡ 20 }
-    ensures live { (session : Session) → handle.old.owned.held ≡ Some session → result ≡ 0 }
+    ensures live { (session : HostSession) → handle.old.owned.held ≡ Some session → result ≡ 0 }
 {
     match handle.take(alloc) {
         Some(_) => TAKEN,
@@ -87,7 +86,7 @@ pub extern "C" fn jalwedd_free(alloc: Global, handle: &mut Handle) -> u32
 }
 
 /// Puts a session into an empty handle.
-fn begin(alloc: Global, handle: &mut Handle, session: Session, step: &mut Step) -> u32
+fn begin(alloc: Global, handle: &mut Handle, session: HostSession, step: &mut HostStep) -> u32
     requires { handle.old.owned.held ≡ None }
     ensures begun { result ≡ 0 → handle.new.owned.held ≡ Some session }
     ensures shows { (start : ℕ) (history : History) → Leads session start history → result ≡ 0 →
@@ -99,7 +98,7 @@ fn begin(alloc: Global, handle: &mut Handle, session: Session, step: &mut Step) 
 {
     match Box::new(alloc, session) {
         Ok(session) => {
-            *step = session.step(Handed::nothing(TAKEN));
+            *step = session.step();
             handle.put(session);
             TAKEN
         }

@@ -12,15 +12,13 @@ ghost use Rattle.rtcp_engine.specs.Histories.{History};
 ghost use Rattle.rtcp_engine.specs.InTime.{IsOverdue};
 ghost use Rattle.jalwedd_host.specs.Answers.{IsBlank};
 ghost use Rattle.jalwedd_host.specs.Configs.{oversize_of_settings, settings_given};
-ghost use Rattle.jalwedd_host.specs.Handles.{KeepsWithin, Leads, LeadsTo};
+ghost use Rattle.jalwedd_host.specs.Handles.{LeadsTo};
 ghost use Rattle.jalwedd_host.specs.Promises.{ComesEarly, Serves, Spares, TurnsAway};
 
-use arrayvec::ArrayVec;
 use jalwedd_host::config::{Item, Settings, blank_settings, fill_settings};
 use jalwedd_host::handle::Handle;
-use jalwedd_host::session::Session;
 use jalwedd_host::status::{EMPTY, TOO_LONG};
-use jalwedd_host::step::Step;
+use jalwedd_host::step::HostStep;
 use std::alloc::Global;
 
 /// The most octets of a UDP datagram.
@@ -40,7 +38,7 @@ pub extern "C" fn jalwedd_arrive_rtcp(
     peer: u64,
     word: u32,
     datagram: &[u8],
-    step: &mut Step,
+    step: &mut HostStep,
     octets: &mut [u8; 1472],
 ) -> u32
     ensures serves { (start moment : ℕ) (history : History) (reading : Result (List RtcpPacket) FirstFault) →
@@ -57,39 +55,10 @@ pub extern "C" fn jalwedd_arrive_rtcp(
     let Some(moment) = session.moment_of(now) else {
         return handle.put_back_early(session, step);
     };
-    match session.participant.arrive_rtcp_told(moment, peer, datagram) {
-        Some(reply) => handle.put_back(session, &reply, &[], step, octets),
-        None => own_rtcp(handle, session, moment, peer, word, datagram, step, octets),
-    }
-}
-
-/// An RTCP datagram came that names the participant's SSRC: with room for the BYE of that.
-// Out of line, so that no other datagram pays for the room.
-#[cold]
-#[inline(never)]
-fn own_rtcp(
-    handle: &mut Handle,
-    mut session: Box<Session>,
-    moment: u64,
-    peer: u64,
-    word: u32,
-    datagram: &[u8],
-    step: &mut Step,
-    octets: &mut [u8; 1472],
-) -> u32
-    requires { handle.old.owned.held ≡ None }
-    ensures serves { (start : ℕ) (history : History) (reading : Result (List RtcpPacket) FirstFault) →
-        Leads session.value start history → IsReading datagram.now reading →
-        Serves start history (rtcp_came moment peer word datagram.now reading)
-        handle.new.owned.held result step.new octets.old octets.new }
-    ensures within { KeepsWithin handle.new.owned.held }
-    ensures refused { result ≢ 0 → handle.new.owned.held ≡ Some session.value }
-{
-    let mut room = ArrayVec::new();
     let reply = session
         .participant
-        .arrive_rtcp_into(moment, peer, word, datagram, &mut room);
-    handle.put_back(session, &reply, &room, step, octets)
+        .arrive_rtcp_into(moment, peer, word, datagram, octets);
+    handle.put_back(session, &reply, step)
 }
 
 /// An RTP datagram came, with the octets that UDP carried: as `jalwedd_arrive_rtcp`. Of one of more than 65,535 octets
@@ -105,7 +74,7 @@ pub extern "C" fn jalwedd_arrive_rtp(
     peer: u64,
     word: u32,
     datagram: &[u8],
-    step: &mut Step,
+    step: &mut HostStep,
     octets: &mut [u8; 1472],
 ) -> u32
     ensures serves { (start moment : ℕ) (history : History) (reading : Result RtpValue HeadFault) →
@@ -127,39 +96,10 @@ pub extern "C" fn jalwedd_arrive_rtp(
     let Some(moment) = session.moment_of(now) else {
         return handle.put_back_early(session, step);
     };
-    match session.participant.arrive_rtp_told(moment, peer, datagram) {
-        Some(reply) => handle.put_back(session, &reply, &[], step, octets),
-        None => own_rtp(handle, session, moment, peer, word, datagram, step, octets),
-    }
-}
-
-/// An RTP datagram came that names the participant's SSRC: with room for the BYE of that.
-// Out of line, so that no other datagram pays for the room.
-#[cold]
-#[inline(never)]
-fn own_rtp(
-    handle: &mut Handle,
-    mut session: Box<Session>,
-    moment: u64,
-    peer: u64,
-    word: u32,
-    datagram: &[u8],
-    step: &mut Step,
-    octets: &mut [u8; 1472],
-) -> u32
-    requires { handle.old.owned.held ≡ None }
-    ensures serves { (start : ℕ) (history : History) (reading : Result RtpValue HeadFault) →
-        Leads session.value start history → IsRtpReading datagram.now reading →
-        Serves start history (rtp_came moment peer word reading)
-        handle.new.owned.held result step.new octets.old octets.new }
-    ensures within { KeepsWithin handle.new.owned.held }
-    ensures refused { result ≢ 0 → handle.new.owned.held ≡ Some session.value }
-{
-    let mut room = ArrayVec::new();
     let reply = session
         .participant
-        .arrive_rtp_into(moment, peer, word, datagram, &mut room);
-    handle.put_back(session, &reply, &room, step, octets)
+        .arrive_rtp_into(moment, peer, word, datagram, octets);
+    handle.put_back(session, &reply, step)
 }
 
 /// The host sent an RTP packet when its clock showed `now`, in microseconds, with this RTP timestamp and so many octets
@@ -174,7 +114,7 @@ pub extern "C" fn jalwedd_sent_rtp(
     now: u64,
     timestamp: u32,
     size: u32,
-    step: &mut Step,
+    step: &mut HostStep,
     octets: &mut [u8; 1472],
 ) -> u32
     ensures serves { (start moment : ℕ) (history : History) → LeadsTo handle.old.owned.held start history →
@@ -191,8 +131,10 @@ pub extern "C" fn jalwedd_sent_rtp(
     let Some(moment) = session.moment_of(now) else {
         return handle.put_back_early(session, step);
     };
-    let reply = session.participant.sent_rtp_told(moment, timestamp, size);
-    handle.put_back(session, &reply, &[], step, octets)
+    let reply = session
+        .participant
+        .sent_rtp_into(moment, timestamp, size, octets);
+    handle.put_back(session, &reply, step)
 }
 
 /// Asks, when the host's clock shows `now`, in microseconds, whether a report is due, or the BYE of a participant that
@@ -208,7 +150,7 @@ pub extern "C" fn jalwedd_tick(
     now: u64,
     first_word: u32,
     second_word: u32,
-    step: &mut Step,
+    step: &mut HostStep,
     octets: &mut [u8; 1472],
 ) -> u32
     ensures serves { (start moment : ℕ) (history : History) → LeadsTo handle.old.owned.held start history →
@@ -227,11 +169,10 @@ pub extern "C" fn jalwedd_tick(
     let Some(moment) = session.moment_of(now) else {
         return handle.put_back_early(session, step);
     };
-    let mut room = ArrayVec::new();
     let reply = session
         .participant
-        .tick_into(moment, first_word, second_word, &mut room);
-    handle.put_back(session, &reply, &room, step, octets)
+        .tick_into(moment, first_word, second_word, octets);
+    handle.put_back(session, &reply, step)
 }
 
 /// Changes the settings of the session when the host's clock shows `now`, in microseconds, to these and these items
@@ -248,7 +189,7 @@ pub extern "C" fn jalwedd_configure(
     now: u64,
     settings: &Settings,
     items: &[Item],
-    step: &mut Step,
+    step: &mut HostStep,
     octets: &mut [u8; 1472],
 ) -> u32
     ensures serves { (start moment : ℕ) (history : History) → oversize_of_settings settings.now items.now ≡ None →
@@ -272,8 +213,8 @@ pub extern "C" fn jalwedd_configure(
     let Some(moment) = session.moment_of(now) else {
         return handle.put_back_early(session, step);
     };
-    let reply = session.participant.configure_told(moment, &given);
-    handle.put_back(session, &reply, &[], step, octets)
+    let reply = session.participant.configure_into(moment, &given, octets);
+    handle.put_back(session, &reply, step)
 }
 
 /// Tells, when the host's clock shows `now`, in microseconds, that another source is gone, as the host knows by other
@@ -289,7 +230,7 @@ pub extern "C" fn jalwedd_forget(
     handle: &mut Handle,
     now: u64,
     ssrc: u32,
-    step: &mut Step,
+    step: &mut HostStep,
     octets: &mut [u8; 1472],
 ) -> u32
     ensures serves { (start moment : ℕ) (history : History) → LeadsTo handle.old.owned.held start history →
@@ -306,8 +247,8 @@ pub extern "C" fn jalwedd_forget(
     let Some(moment) = session.moment_of(now) else {
         return handle.put_back_early(session, step);
     };
-    let reply = session.participant.forget_told(moment, ssrc);
-    handle.put_back(session, &reply, &[], step, octets)
+    let reply = session.participant.forget_into(moment, ssrc, octets);
+    handle.put_back(session, &reply, step)
 }
 
 /// Leaves the session when the host's clock shows `now`, in microseconds, with a random word for the draw of a backoff
@@ -321,7 +262,7 @@ pub extern "C" fn jalwedd_leave(
     handle: &mut Handle,
     now: u64,
     word: u32,
-    step: &mut Step,
+    step: &mut HostStep,
     octets: &mut [u8; 1472],
 ) -> u32
     ensures serves { (start moment : ℕ) (history : History) → LeadsTo handle.old.owned.held start history →
@@ -337,15 +278,14 @@ pub extern "C" fn jalwedd_leave(
     let Some(moment) = session.moment_of(now) else {
         return handle.put_back_early(session, step);
     };
-    let mut room = ArrayVec::new();
-    let reply = session.participant.leave_into(moment, word, &mut room);
-    handle.put_back(session, &reply, &room, step, octets)
+    let reply = session.participant.leave_into(moment, word, octets);
+    handle.put_back(session, &reply, step)
 }
 
 /// Tells that a handle holds no participant.
-fn empty(step: &mut Step) -> u32
+fn empty(step: &mut HostStep) -> u32
     ensures { (result ≡ 20) × IsBlank step.new }
 {
-    *step = Step::blank();
+    *step = HostStep::blank();
     EMPTY
 }

@@ -5,7 +5,7 @@ ghost use Rattle.rtcp_listing.specs.declared.change.Change.{Change as ChangeValu
 ghost use Rattle.jalwedd_host.specs.Changes.{ShowsChange, both_rise, change_from};
 
 use jalwedd_host::change::{RoleChange, first_from};
-use jalwedd_host::source::Source;
+use jalwedd_host::source::HostSource;
 use jalwedd_host::status::{NO_CHANGE, NOT_RISING, TAKEN};
 use rtcp_engine::is_rising;
 
@@ -16,8 +16,8 @@ use rtcp_engine::is_rising;
 /// Statuses: 0; 9 where no other source changed; 10 where the SSRCs of a listing do not rise.
 #[unsafe(no_mangle)]
 pub extern "C" fn jalwedd_change(
-    before: &[Source],
-    after: &[Source],
+    before: &[HostSource],
+    after: &[HostSource],
     from: u64,
     change: &mut RoleChange,
 ) -> u32

@@ -1,6 +1,6 @@
 //! The participant of `rtcp_engine` for hosts in C, C++ and Rust: a static library, whose header is
 //! include/jalwedd.h. A host has a [`Handle`], zeros at first, and passes it to each call; a call returns a status,
-//! and writes a [`Step`] whatever that is. docs/EMBEDDING.md shows a host.
+//! and writes a [`HostStep`] whatever that is. docs/EMBEDDING.md shows a host.
 //!
 //! Only the exported functions are here, with their contracts, since what is exported has to stand in the static library
 //! itself. `jalwedd_host` has all that they share: the structures, the session behind a handle, and the definitions.
@@ -44,6 +44,6 @@ pub use jalwedd_host::laws;
 pub use jalwedd_host::owned::Owned;
 pub use jalwedd_host::parts::{GoodbyePlace, ItemPlace, SenderInfo};
 pub use jalwedd_host::reading::{Fault, Report};
-pub use jalwedd_host::source::Source;
-pub use jalwedd_host::step::Step;
+pub use jalwedd_host::source::HostSource;
+pub use jalwedd_host::step::HostStep;
 pub use rtcp_parts::Cursor;

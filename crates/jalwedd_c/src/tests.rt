@@ -76,7 +76,7 @@ const STRANGE_CLOCK: Clocks<'static> = Clocks {
 const LATEST: u64 = 9_223_372_036_854_775_807;
 
 /// What a call tells of no participant.
-const BLANK: Step = Step {
+const BLANK: HostStep = HostStep {
     next: NEVER,
     members: 0,
     senders: 0,
@@ -95,14 +95,14 @@ const OF_SEVEN: [u8; 20] = [
 ];
 
 /// What is known of it.
-const SEVEN: Source = Source {
+const SEVEN: HostSource = HostSource {
     heard: 1_026_037,
     ssrc: 7,
     member: 1,
     ..NOBODY
 };
 
-const NOBODY: Source = Source {
+const NOBODY: HostSource = HostSource {
     heard: 0,
     left: NEVER,
     told: NEVER,
@@ -141,5 +141,5 @@ const TOO_LONG: [u8; 65_536] = [0x80; 65_536];
 /// The block of a session has the octets that `jalwedd_new` documents.
 #[test]
 fn memory(rt: HostRuntime) {
-    assert_eq!(rt; size_of::<jalwedd_host::session::Session>(), 2_720);
+    assert_eq!(rt; size_of::<jalwedd_host::session::HostSession>(), 2_720);
 }

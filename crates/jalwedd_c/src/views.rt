@@ -10,7 +10,7 @@ ghost use Rattle.jalwedd_host.specs.Promises.{TellsOf};
 ghost use Rattle.jalwedd_host.specs.Sources.{ShowsSource, after_of};
 
 use jalwedd_host::handle::Handle;
-use jalwedd_host::source::Source;
+use jalwedd_host::source::HostSource;
 use jalwedd_host::status::{NO_SOURCE, TAKEN};
 use std::alloc::Global;
 
@@ -74,7 +74,7 @@ pub extern "C" fn jalwedd_source(
     alloc: Global,
     handle: &mut Handle,
     from: u64,
-    source: &mut Source,
+    source: &mut HostSource,
 ) -> u32
     ensures told { (start : ℕ) (history : History) → LeadsTo handle.old.owned.held start history →
         (told : Option StateValue)

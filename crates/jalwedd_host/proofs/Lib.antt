@@ -5,6 +5,7 @@ mod Options
 mod Listing
 mod Never
 mod Ranges
+mod Telling
 mod Turns
 mod Held
 mod WholeWalks

@@ -3,7 +3,7 @@ use Rattle.std.proofs.Common.{◌≡◌, ◌<◌, ◌==◌, ◌+◌, ◌-◌, �
 use Rattle.std.proofs.lemmas.Bool.Decides.{nat_tests}
 use Rattle.rtcp_members.specs.Told.{StateValue}
 use Rattle.rtcp_listing.specs.Differences.{listed_of, role_of}
-use Rattle.jalwedd_host.specs.declared.source.Source.{Source}
+use Rattle.jalwedd_host.specs.declared.source.HostSource.{HostSource}
 use Rattle.jalwedd_host.specs.Answers.{moment_shown, one_if}
 use Rattle.jalwedd_host.specs.Changes.{listed_by}
 use Rattle.jalwedd_host.specs.Sources.{IsShown}
@@ -17,7 +17,7 @@ left_if : (start : ℕ) (left : Option ℕ) (n never : ℕ) → never ≡ 2 ^ 64
 left_if start None n never big e h = grind (arith, nat_tests, big, e)
 left_if start (Some moment) n never big e h = grind (arith, nat_tests, big, e, h)
 
-pub listed_as_known : (start : ℕ) (shown : Source) (state : StateValue) → IsShown start shown state →
+pub listed_as_known : (start : ℕ) (shown : HostSource) (state : StateValue) → IsShown start shown state →
     IfSome state.left (λ moment. start + moment < 2 ^ 64 - 1) → listed_by shown ≡ listed_of state
 listed_as_known start shown state is before =
     let member = yes_if state.member shown.member is.member in

@@ -8,7 +8,7 @@ use Rattle.rtcp_engine.specs.Lives.{TellsInLife}
 use Rattle.rtcp_engine.specs.Setups.{Setup}
 use Rattle.rtcp_engine.specs.Taken.{IsHistory}
 use Rattle.rtcp_engine.proofs.LawLemmas as engine
-use Rattle.jalwedd_host.specs.declared.source.Source.{Source}
+use Rattle.jalwedd_host.specs.declared.source.HostSource.{HostSource}
 use Rattle.jalwedd_host.specs.Answers.{moment_shown}
 use Rattle.jalwedd_host.specs.Sources.{IsShown, told_shown}
 use Rattle.jalwedd_host.proofs.Options.{some_same}
@@ -41,7 +41,8 @@ told_once setup after (backing_off outcome backoff) a b one other = one ∙ sym 
 told_once setup after (gone outcome) a b one other = one ∙ sym other
 
 -- So a source that says what is told says whatever may be told.
-pub shows_this : (setup : Setup) (after : Option ℕ) (life : Life) (told state : StateValue) (start : ℕ) (shown : Source)
+pub shows_this : (setup : Setup) (after : Option ℕ) (life : Life) (told state : StateValue) (start : ℕ)
+    (shown : HostSource)
     → TellsInLife setup after life (Some told) → IsShown start shown told → TellsInLife setup after life (Some state)
     → IsShown start shown state
 shows_this setup after life told state start shown tells shows this =
@@ -50,7 +51,7 @@ shows_this setup after life told state start shown tells shows this =
 
 module _ (history : History) (is : IsHistory history) (after : Option ℕ) (state : StateValue)
     (tells : TellsInLife (setup_at history) after (life_at history) (Some state))
-    (start : ℕ) (low : start < 2 ^ 63) (shown : Source) (shows : IsShown start shown state) where
+    (start : ℕ) (low : start < 2 ^ 63) (shown : HostSource) (shows : IsShown start shown state) where
   abbrev latest : ℕ
   latest = last_moment history.acts
 

@@ -4,12 +4,13 @@ use Rattle.rtcp_engine.specs.declared.refusal.Refusal.{Refusal}
 use Rattle.rtcp_engine.specs.declared.refusal.Refusal.TheVariants.{Left, Backwards, TooFar, TooMany, Wire, Rtp, OwnSsrc, Settings}
 use Rattle.rtcp_engine.specs.declared.step.OutKind.{OutKind}
 use Rattle.rtcp_engine.specs.declared.step.OutKind.TheVariants.{Report, Bye}
+use Rattle.rtcp_engine.specs.declared.step.Standing.{Standing}
+use Rattle.rtcp_engine.specs.declared.step.Written.{Written}
 use Rattle.rtcp_engine.specs.Histories.{History, life_at, setup_at}
 use Rattle.rtcp_engine.specs.Leaving.{Life}
-use Rattle.rtcp_engine.specs.Lives.{entries_in_life, members_in_life, senders_in_life, next_in_life}
+use Rattle.rtcp_engine.specs.Lives.{next_in_life, standing_in_life}
 use Rattle.rtcp_engine.specs.Steps.{OutValue, AnswerValue}
-use Rattle.jalwedd_host.specs.declared.showing.Handed.{Handed}
-use Rattle.jalwedd_host.specs.declared.step.Step.{Step}
+use Rattle.jalwedd_host.specs.declared.step.HostStep.{HostStep}
 use Rattle.jalwedd_host.specs.Configs.{status_of_error}
 
 -- ---- Statuses
@@ -43,6 +44,10 @@ abbrev pub kind_shown : Option OutValue → ℕ
 kind_shown None = 0
 kind_shown (Some out) = kind_of out.kind
 
+abbrev pub number_written : Option Written → ℕ
+number_written None = 0
+number_written (Some out) = kind_of out.kind
+
 abbrev pub octets_of : Option OutValue → List ℕ
 octets_of None = []
 octets_of (Some out) = out.octets
@@ -63,17 +68,13 @@ IsHandedOut kind size changed others_changed before after (Ok answer) =
 IsHandedOut kind size changed others_changed before after (Err refusal) =
     (kind ≡ 0) × (size ≡ 0) × (changed ≡ 0) × (others_changed ≡ 0) × (after ≡ before)
 
-abbrev pub IsHanded : Handed → (before after : List ℕ) → AnswerValue → Type 0
-IsHanded handed before after answer =
-    IsHandedOut handed.kind handed.size handed.changed handed.others_changed before after answer
-
 -- A step says it.
-abbrev pub HandsOut : Step → (before after : List ℕ) → AnswerValue → Type 0
+abbrev pub HandsOut : HostStep → (before after : List ℕ) → AnswerValue → Type 0
 HandsOut step before after answer =
     IsHandedOut step.kind step.size step.changed step.others_changed before after answer
 
 -- A step says that nothing is handed out, and that nothing changed.
-abbrev pub HandsNothing : Step → Type 0
+abbrev pub HandsNothing : HostStep → Type 0
 HandsNothing step = (step.kind ≡ 0) × (step.size ≡ 0) × (step.changed ≡ 0) × (step.others_changed ≡ 0)
 
 -- ---- The participant
@@ -83,18 +84,21 @@ abbrev pub moment_shown : (start : ℕ) → Option ℕ → ℕ
 moment_shown start None = 2 ^ 64 - 1
 moment_shown start (Some moment) = start + moment
 
--- A step says who is there after a history, and when to ask again: 2^64 - 1 exactly where the participant has left, and
--- there is no moment to ask.
-abbrev pub Shows : (start : ℕ) → Step → History → Type 0
-Shows start step history =
-    (step.members ≡ members_in_life (setup_at history) (life_at history))
-    × (step.senders ≡ senders_in_life (setup_at history) (life_at history))
-    × (step.next ≡ moment_shown start (next_in_life (life_at history)))
-    × ((step.next ≡ 2 ^ 64 - 1) ↔ (next_in_life (life_at history) ≡ None))
-    × (step.ssrc ≡ (setup_at history).ssrc)
-    × (step.entries ≡ entries_in_life (setup_at history) (life_at history))
+-- A step says who is there, and when to ask again: 2^64 - 1 exactly where the participant has left, and there is no
+-- moment to ask.
+pub record ShowsStanding (start : ℕ) (step : HostStep) (standing : Standing) : Type 0 where
+  pub members : step.members ≡ standing.members
+  pub senders : step.senders ≡ standing.senders
+  pub next : step.next ≡ moment_shown start standing.next
+  pub never : (step.next ≡ 2 ^ 64 - 1) ↔ (standing.next ≡ None)
+  pub ssrc : step.ssrc ≡ standing.ssrc
+  pub entries : step.entries ≡ standing.entries
+
+-- The same after a history.
+abbrev pub Shows : (start : ℕ) → HostStep → History → Type 0
+Shows start step history = ShowsStanding start step (standing_in_life (setup_at history) (life_at history))
 
 -- A step of no participant.
-abbrev pub IsBlank : Step → Type 0
+abbrev pub IsBlank : HostStep → Type 0
 IsBlank step = (step.next ≡ 2 ^ 64 - 1) × (step.members ≡ 0) × (step.senders ≡ 0) × (step.ssrc ≡ 0) × (step.changed ≡ 0)
     × (step.kind ≡ 0) × (step.size ≡ 0) × (step.entries ≡ 0) × (step.others_changed ≡ 0)

@@ -6,12 +6,12 @@ use Rattle.rtcp_listing.specs.declared.change.Role.{Role}
 use Rattle.rtcp_listing.specs.declared.change.Role.TheVariants.{Away, Member, Sender}
 use Rattle.rtcp_listing.specs.declared.change.Change.{Change}
 use Rattle.jalwedd_host.specs.declared.change.RoleChange.{RoleChange}
-use Rattle.jalwedd_host.specs.declared.source.Source.{Source}
+use Rattle.jalwedd_host.specs.declared.source.HostSource.{HostSource}
 use Rattle.jalwedd_host.specs.Answers.{one_if}
 
 -- What a host's structure says of a source: any number but 0 says yes, and any moment but 2^64 - 1 says that
 -- it left.
-abbrev pub listed_by : Source → ListedValue
+abbrev pub listed_by : HostSource → ListedValue
 listed_by source =
     record {
       ssrc = source.ssrc;
@@ -20,15 +20,15 @@ listed_by source =
     }
 
 -- Each of two listings has its sources by rising SSRC, each once.
-abbrev pub both_rise : (before after : List Source) → Bool
+abbrev pub both_rise : (before after : List HostSource) → Bool
 both_rise before after = rises_from 0 (map listed_by before) && rises_from 0 (map listed_by after)
 
 -- The sources whose roles differ, by rising SSRC.
-abbrev pub changes_between : (before after : List Source) → List Change
+abbrev pub changes_between : (before after : List HostSource) → List Change
 changes_between before after = changes (map listed_by before) (map listed_by after)
 
 -- Of these, the one of least SSRC from a number on.
-abbrev pub change_from : (from : ℕ) → (before after : List Source) → Option Change
+abbrev pub change_from : (from : ℕ) → (before after : List HostSource) → Option Change
 change_from from before after =
     find (λ (change : Change). nat_le from change.ssrc) (changes_between before after)
 

@@ -8,7 +8,7 @@ use Rattle.std.specs.Coded.{coded_option}
 use Rattle.std_alloc.specs.Box.Ownership.{box_owns}
 use Rattle.std.specs.declared.alloc.Global.{Global}
 use Rattle.std.specs.contracts.impls.GlobalAllocator.TheImpl.{ghosts}
-use Rattle.jalwedd_host.specs.contracts.session.Session as session
+use Rattle.jalwedd_host.specs.contracts.session.HostSession as session
 
 -- a session as the logic describes it: all that stands below, and each proof, speaks of it by this name
 abbrev pub Row : RattleType

@@ -3,29 +3,27 @@ use Rattle.std.specs.Prelude.{ℕ, ◌≡◌, ◌≢◌, ◌⊎◌, ◌<◌, Lis
 use Rattle.rtcp_engine.specs.Acts.{Act}
 use Rattle.rtcp_engine.specs.Answers.{answer_of, followed_by}
 use Rattle.rtcp_engine.specs.Histories.{History, life_at}
-use Rattle.rtcp_engine.specs.Spacing.{KeepsBounds}
-use Rattle.jalwedd_host.specs.declared.session.Session.{Session}
-use Rattle.jalwedd_host.specs.declared.step.Step.{Step}
+use Rattle.jalwedd_host.specs.declared.session.HostSession.{HostSession}
+use Rattle.jalwedd_host.specs.declared.step.HostStep.{HostStep}
 use Rattle.jalwedd_host.specs.Answers.{HandsNothing, HandsOut, IsBlank, Shows, early_refusal, status_of, status_of_refusal}
 use Rattle.jalwedd_host.specs.Handles.{KeepsWithin, LeadsTo}
 
 -- A session that stands at a history is told an act. The status, the step and the host's octets say what the history
--- answers to it. Then the session stands at the history with the act, which the step shows and which keeps the bounds.
--- The start is as it was.
+-- answers to it. Then the session stands at the history with the act, which the step shows. The start is as it was.
 pub record Serves
     (start : ℕ) (history : History) (act : Act)
-    (after : Option Session) (result : ℕ) (step : Step) (was octets : List ℕ)
+    (after : Option HostSession) (result : ℕ) (step : HostStep) (was octets : List ℕ)
     : Type 0 where
   pub status : result ≡ status_of (answer_of history act)
   pub handed : HandsOut step was octets (answer_of history act)
   pub stands : LeadsTo after start (followed_by history act)
   pub shows : Shows start step (followed_by history act)
-  pub bounded : KeepsBounds (followed_by history act)
 
 -- A call came before the start. It is refused as one that comes before moment 0, or after the end, and hands nothing
 -- out. The step shows the history, and what is held is as it was.
 pub record RefusesEarly
-    (start : ℕ) (history : History) (before after : Option Session) (result : ℕ) (step : Step) (was octets : List ℕ)
+    (start : ℕ) (history : History) (before after : Option HostSession) (result : ℕ) (step : HostStep)
+    (was octets : List ℕ)
     : Type 0 where
   pub status : result ≡ status_of_refusal (early_refusal (life_at history))
   pub nothing : HandsNothing step
@@ -35,14 +33,15 @@ pub record RefusesEarly
 
 -- So does each call of a session whose clock shows less than at the start.
 abbrev pub ComesEarly :
-    (before after : Option Session) (now result : ℕ) → Step → (was octets : List ℕ) → Type 0
+    (before after : Option HostSession) (now result : ℕ) → HostStep → (was octets : List ℕ) → Type 0
 ComesEarly before after now result step was octets =
     (start : ℕ) (history : History) → LeadsTo before start history → now < start →
     RefusesEarly start history before after result step was octets
 
 -- Whatever a call tells: a table within its capacity stays so, a refusal leaves the session as it was, and where there
 -- is none the call says so and hands nothing out.
-pub record Spares (before after : Option Session) (result : ℕ) (step : Step) (was octets : List ℕ) : Type 0 where
+pub record Spares (before after : Option HostSession) (result : ℕ) (step : HostStep) (was octets : List ℕ) : Type
+    0 where
   pub within : KeepsWithin before → KeepsWithin after
   pub refused : result ≢ 0 → after ≡ before
   pub empty : before ≡ None → (result ≡ 20) × IsBlank step × (octets ≡ was)
@@ -50,34 +49,34 @@ pub record Spares (before after : Option Session) (result : ℕ) (step : Step) (
 -- What came with a call is more than it takes, which this status tells. Of a session the call says so, hands nothing
 -- out, and shows where it stands.
 pub record TurnsAway
-    (status : ℕ) (before : Option Session) (result : ℕ) (step : Step) (was octets : List ℕ)
+    (status : ℕ) (before : Option HostSession) (result : ℕ) (step : HostStep) (was octets : List ℕ)
     : Type 0 where
-  pub too_long : (session : Session) → before ≡ Some session →
+  pub too_long : (session : HostSession) → before ≡ Some session →
       (result ≡ status) × HandsNothing step × (octets ≡ was)
   pub still_shows : (start : ℕ) (history : History) → LeadsTo before start history → Shows start step history
 
 -- A call asks for a number. It tells that of the start and the history which the session stands at, and another where
 -- there is no session, and leaves what is held.
 pub record TellsOf
-    (told : (start : ℕ) → History → ℕ) (otherwise : ℕ) (before after : Option Session) (result : ℕ) : Type 0 where
+    (told : (start : ℕ) → History → ℕ) (otherwise : ℕ) (before after : Option HostSession) (result : ℕ) : Type 0 where
   pub tells : (start : ℕ) (history : History) → LeadsTo before start history → result ≡ told start history
   pub empty : before ≡ None → result ≡ otherwise
   pub kept : after ≡ before
 
 -- A session begins in a handle, at this start. It stands at this history, which the step shows.
-pub record Begins (start : ℕ) (history : History) (after : Option Session) (step : Step) : Type 0 where
+pub record Begins (start : ℕ) (history : History) (after : Option HostSession) (step : HostStep) : Type 0 where
   pub stands : LeadsTo after start history
   pub shows : Shows start step history
 
 -- A session was to begin in an empty handle, by a configuration that is refused with a status, or is not. The status
 -- says so, or that memory was refused. The step is blank where none began, and the table of one is within its capacity.
-pub record AnswersVacant (refusal : Option ℕ) (after : Option Session) (result : ℕ) (step : Step) : Type 0 where
+pub record AnswersVacant (refusal : Option ℕ) (after : Option HostSession) (result : ℕ) (step : HostStep) : Type 0 where
   pub refused : (status : ℕ) → refusal ≡ Some status → result ≡ status
   pub taken : refusal ≡ None → (result ≡ 0) ⊎ (result ≡ 22)
   pub blank : result ≢ 0 → IsBlank step
   pub within : KeepsWithin after
 
 -- A session was to begin where a handle holds one. The status says so, and the step shows where that one stands.
-pub record AnswersLive (before : Option Session) (result : ℕ) (step : Step) : Type 0 where
-  pub live : (session : Session) → before ≡ Some session → result ≡ 21
+pub record AnswersLive (before : Option HostSession) (result : ℕ) (step : HostStep) : Type 0 where
+  pub live : (session : HostSession) → before ≡ Some session → result ≡ 21
   pub shows : (start : ℕ) (history : History) → LeadsTo before start history → Shows start step history

@@ -6,7 +6,7 @@ use Rattle.rtcp_source.specs.Summary.{ToldValue}
 use Rattle.rtcp_source.specs.LastBlocks.{LastBlockValue}
 use Rattle.rtcp_source.specs.Receptions.{ReceptionValue}
 use Rattle.rtcp_members.specs.Told.{StateValue}
-use Rattle.jalwedd_host.specs.declared.source.Source.{Source}
+use Rattle.jalwedd_host.specs.declared.source.HostSource.{HostSource}
 use Rattle.jalwedd_host.specs.declared.source.BlockShown.{BlockShown}
 use Rattle.jalwedd_host.specs.Answers.{moment_shown, one_if}
 
@@ -51,7 +51,7 @@ IsBlockShown shown block =
     × (shown.highest ≡ (block_shown block).highest)
 
 -- A source says what is known of it, with its moments on the host's clock, which shows `start` at moment 0.
-pub record IsShown (start : ℕ) (shown : Source) (state : StateValue) : Type 0 where
+pub record IsShown (start : ℕ) (shown : HostSource) (state : StateValue) : Type 0 where
   pub ssrc : shown.ssrc ≡ state.ssrc
   pub member : shown.member ≡ one_if state.member
   pub sender : shown.sender ≡ one_if state.sender
@@ -72,6 +72,6 @@ pub record IsShown (start : ℕ) (shown : Source) (state : StateValue) : Type 0 
   pub reserved : shown.reserved ≡ 0
 
 -- A status and a source say what is told: 0 and what is known of a source; or 9, and the source is as it was.
-abbrev pub ShowsSource : (start status : ℕ) (before after : Source) → Option StateValue → Type 0
+abbrev pub ShowsSource : (start status : ℕ) (before after : HostSource) → Option StateValue → Type 0
 ShowsSource start status before after None = (status ≡ 9) × (after ≡ before)
 ShowsSource start status before after (Some state) = (status ≡ 0) × IsShown start after state

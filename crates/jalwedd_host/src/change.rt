@@ -3,7 +3,7 @@
 ghost use Rattle.std.specs.Prelude.{◌≡◌, true};
 ghost use Rattle.jalwedd_host.specs.Changes.{ShowsChange, both_rise, change_from, listed_by, number_of_role};
 
-use crate::source::Source;
+use crate::source::HostSource;
 use crate::step::NEVER;
 use rtcp_engine::{Change, Changes, Listed, Role};
 
@@ -22,7 +22,7 @@ pub struct RoleChange {
 }
 
 /// The change of least SSRC from a number on.
-pub fn first_from(before: &[Source], after: &[Source], from: u64) -> Option<Change>
+pub fn first_from(before: &[HostSource], after: &[HostSource], from: u64) -> Option<Change>
     requires { both_rise before.now after.now ≡ true }
     ensures { result ≡ change_from from before.now after.now }
 {
@@ -54,7 +54,7 @@ fn role_number(role: Role) -> u32
 }
 
 // a host may have written any numbers into its listings
-impl Listed for Source {
+impl Listed for HostSource {
     ghost listed = { listed_by };
 
     fn ssrc(&self) -> u32 {

@@ -1,10 +1,11 @@
 //! What a host keeps.
 
-ghost use Rattle.std.specs.Prelude.{◌≡◌, ◌≤◌, ℕ, MatchOption, Option, Some, None, length};
+ghost use Rattle.std.specs.Prelude.{◌≡◌, ◌≤◌, ℕ, IfOk, List, MatchOption, Option, Some, None};
 ghost use Rattle.rtcp_members.specs.Told.{StateValue};
 ghost use Rattle.rtcp_engine.specs.Histories.{History, life_at, setup_at};
 ghost use Rattle.rtcp_engine.specs.Lives.{TellsInLife, entries_in_life};
-ghost use Rattle.rtcp_engine.specs.Views.{reply_value};
+ghost use Rattle.rtcp_engine.specs.Promises.{SaysStanding};
+ghost use Rattle.rtcp_engine.specs.Views.{LeavesRest, out_told, reply_value, size_written};
 ghost use Rattle.jalwedd_host.specs.Answers.{HandsNothing, HandsOut, IsBlank, Shows};
 ghost use Rattle.jalwedd_host.specs.Answers.{early_refusal, status_of, status_of_refusal};
 ghost use Rattle.jalwedd_host.specs.Handles.{Leads, LeadsTo};
@@ -12,11 +13,10 @@ ghost use Rattle.jalwedd_host.specs.Sources.{IsShown, after_of};
 
 use crate::owned::Owned;
 use crate::owned::loose::Loose;
-use crate::session::Session;
-use crate::showing::{Handed, hand_out};
-use crate::source::{Source, before};
+use crate::session::HostSession;
+use crate::source::{HostSource, before};
 use crate::status::{TAKEN, of_refusal};
-use crate::step::Step;
+use crate::step::HostStep;
 use rtcp_engine::Reply;
 use rtcp_engine::laws::told_moments_have_passed;
 use std::alloc::Global;
@@ -40,7 +40,7 @@ impl Handle {
     }
 
     /// Leaves it empty, and gives what was held.
-    pub fn take(&mut self, alloc: Global) -> Option<Box<Session>>
+    pub fn take(&mut self, alloc: Global) -> Option<Box<HostSession>>
         ensures gives { MatchOption result (self.old.owned.held ≡ None) (λ b. self.old.owned.held ≡ Some b.value) }
         ensures empty { self.new.owned.held ≡ None }
     {
@@ -52,39 +52,44 @@ impl Handle {
     }
 
     /// Fills it with a session, where it is empty.
-    pub fn put(&mut self, session: Box<Session>)
+    pub fn put(&mut self, session: Box<HostSession>)
         requires { self.old.owned.held ≡ None }
         ensures { self.new.owned.held ≡ Some session.value }
     {
         self.owned = Owned::of_loose(Loose::of(session));
     }
 
-    /// Puts back a session, tells what its participant answered and how it stands now, and returns the status.
-    /// The compound that the reply tells of, if it tells of one, stands in `room`.
-    pub fn put_back(
-        &mut self,
-        session: Box<Session>,
-        reply: &Reply,
-        room: &[u8],
-        step: &mut Step,
-        octets: &mut [u8; 1472],
-    ) -> u32
+    /// Puts back a session, tells what its participant replied and how it stands now, and returns the status.
+    // Inlined, so that a call writes what it tells at once.
+    #[inline(always)]
+    pub fn put_back(&mut self, session: Box<HostSession>, reply: &Reply, step: &mut HostStep) -> u32
         requires vacant { self.old.owned.held ≡ None }
-        requires room { length room.now ≤ 1472 }
+        requires written { size_written (out_told reply.now) ≤ 1472 }
+        requires standing { IfOk reply.now (λ told. SaysStanding told.standing session.value.participant) }
         ensures held { self.new.owned.held ≡ Some session.value }
-        ensures status { result ≡ status_of (reply_value room.now reply.now) }
-        ensures handed { HandsOut step.new octets.old octets.new (reply_value room.now reply.now) }
+        ensures status { (octets : List ℕ) → result ≡ status_of (reply_value octets reply.now) }
+        ensures handed { (was octets : List ℕ) → LeavesRest was octets (out_told reply.now) →
+            HandsOut step.new was octets (reply_value octets reply.now) }
         ensures shown { (start : ℕ) (history : History) → Leads session.value start history →
             Shows start step.new history }
     {
-        let handed = hand_out(reply, room, octets);
-        *step = session.step(handed);
-        self.put(session);
-        handed.status
+        match reply {
+            Ok(told) => {
+                *step = session.step_told(told);
+                self.put(session);
+                TAKEN
+            }
+            Err(refusal) => self.put_back_untold(session, of_refusal(refusal), step),
+        }
     }
 
     /// Puts back a session that a call told nothing, says how its participant stands, and returns the status.
-    pub fn put_back_untold(&mut self, session: Box<Session>, status: u32, step: &mut Step) -> u32
+    pub fn put_back_untold(
+        &mut self,
+        session: Box<HostSession>,
+        status: u32,
+        step: &mut HostStep,
+    ) -> u32
         requires { self.old.owned.held ≡ None }
         ensures held { self.new.owned.held ≡ Some session.value }
         ensures status { result ≡ status }
@@ -92,7 +97,7 @@ impl Handle {
         ensures shown { (start : ℕ) (history : History) → Leads session.value start history →
             Shows start step.new history }
     {
-        *step = session.step(Handed::nothing(status));
+        *step = session.step();
         self.put(session);
         status
     }
@@ -102,7 +107,7 @@ impl Handle {
     // Out of line, so that no call that is taken pays for it.
     #[cold]
     #[inline(never)]
-    pub fn put_back_early(&mut self, session: Box<Session>, step: &mut Step) -> u32
+    pub fn put_back_early(&mut self, session: Box<HostSession>, step: &mut HostStep) -> u32
         requires { self.old.owned.held ≡ None }
         ensures held { self.new.owned.held ≡ Some session.value }
         ensures status { (start : ℕ) (history : History) → Leads session.value start history →
@@ -133,7 +138,7 @@ impl Handle {
     }
 
     /// What is known of the source of least SSRC from `from` on: nothing where the handle is empty.
-    pub fn source(&mut self, alloc: Global, from: u64) -> Option<Source>
+    pub fn source(&mut self, alloc: Global, from: u64) -> Option<HostSource>
         ensures told { (start : ℕ) (history : History) → LeadsTo self.old.owned.held start history →
             MatchOption result (TellsInLife (setup_at history) (after_of from) (life_at history) None)
             (λ shown. (state : StateValue)
@@ -150,7 +155,7 @@ impl Handle {
                 let start = session.start;
                 self.put(session);
                 match state {
-                    Some(state) => Some(Source::of(&state, start)),
+                    Some(state) => Some(HostSource::of(&state, start)),
                     None => None,
                 }
             }
@@ -159,7 +164,7 @@ impl Handle {
     }
 
     /// What there is to tell at any time: a blank step where it is empty.
-    pub fn step(&mut self, alloc: Global) -> Step
+    pub fn step(&mut self, alloc: Global) -> HostStep
         ensures shown { (start : ℕ) (history : History) → LeadsTo self.old.owned.held start history →
             Shows start result history }
         ensures blank { self.old.owned.held ≡ None → IsBlank result }
@@ -167,11 +172,11 @@ impl Handle {
     {
         match self.take(alloc) {
             Some(session) => {
-                let step = session.step(Handed::nothing(TAKEN));
+                let step = session.step();
                 self.put(session);
                 step
             }
-            None => Step::blank(),
+            None => HostStep::blank(),
         }
     }
 }

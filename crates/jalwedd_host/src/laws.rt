@@ -17,7 +17,7 @@ ghost use Rattle.jalwedd_host.specs.declared.config.Config.{Config};
 ghost use Rattle.jalwedd_host.specs.declared.config.Item.{Item};
 ghost use Rattle.jalwedd_host.specs.declared.config.Settings.{Settings};
 ghost use Rattle.jalwedd_host.specs.Configs.{configured_with, oversize, oversize_of_settings, settings_given, setup_given};
-ghost use Rattle.jalwedd_host.specs.declared.source.Source.{Source};
+ghost use Rattle.jalwedd_host.specs.declared.source.HostSource.{HostSource};
 ghost use Rattle.jalwedd_host.specs.Changes.{listed_by, change_from, changes_between};
 ghost use Rattle.jalwedd_host.specs.Sources.{IsShown};
 ghost use Rattle.jalwedd_host.specs.declared.app.AppPlace.{AppPlace};
@@ -39,7 +39,7 @@ use rtcp_engine::laws::told_moments_have_passed;
 pub fn told_sources_are_listed()
     ensures { (history : History) → IsHistory history → (after : Option ℕ) (state : StateValue) →
         TellsInLife (setup_at history) after (life_at history) (Some state) → (start : ℕ) → start < 2 ^ 63 →
-        (shown : Source) → IsShown start shown state → listed_by shown ≡ listed_of state }
+        (shown : HostSource) → IsShown start shown state → listed_by shown ≡ listed_of state }
 {
     told_moments_have_passed();
 }
@@ -58,9 +58,9 @@ pub fn settings_are_as_configured()
 /// Begun with 0, and gone on with the SSRC told and 1, the changes between two listings are told in order,
 /// each once.
 pub fn changes_are_told_in_turn()
-    ensures first { (before after : List Source) →
+    ensures first { (before after : List HostSource) →
         change_from 0 before after ≡ slice_get (changes_between before after) 0 }
-    ensures next { (before after : List Source) (index : ℕ) (change : Change) →
+    ensures next { (before after : List HostSource) (index : ℕ) (change : Change) →
         slice_get (changes_between before after) index ≡ Some change →
         change_from (change.ssrc + 1) before after ≡ slice_get (changes_between before after) (index + 1) }
 {

@@ -1,5 +1,5 @@
 //! What stands behind the exported functions of `jalwedd_c`: what a host in C holds, a [`handle::Handle`] with its
-//! session, what it gives, a [`config::Config`], and what it is told, as a [`step::Step`] or a [`source::Source`]. The
+//! session, what it gives, a [`config::Config`], and what it is told, as a [`step::HostStep`] or a [`source::HostSource`]. The
 //! structures are those of include/jalwedd.h, field by field; the conversions say what each field means.
 //!
 //! A function that a host calls has to stand in the static library itself. So `jalwedd_c` has these, with their
@@ -19,7 +19,6 @@ pub mod owned;
 pub mod parts;
 pub mod reading;
 pub mod session;
-pub mod showing;
 pub mod source;
 pub mod status;
 pub mod step;

@@ -5,7 +5,7 @@ ghost use Rattle.jalwedd_host.specs.Owned.{Value, held_code, owned};
 
 pub(crate) mod loose;
 
-use crate::session::Session;
+use crate::session::HostSession;
 use loose::Loose;
 use std::alloc::Global;
 use std::marker::Model;
@@ -34,7 +34,7 @@ impl Owned {
         }
     }
 
-    pub(crate) fn of_loose(loose: Loose<Session, Global>) -> Owned
+    pub(crate) fn of_loose(loose: Loose<HostSession, Global>) -> Owned
         ensures { result.held ≡ Some loose.value }
     {
         let Loose { at, alloc } = loose;
@@ -44,7 +44,7 @@ impl Owned {
         }
     }
 
-    pub(crate) fn into_loose(self) -> Option<Loose<Session, Global>>
+    pub(crate) fn into_loose(self) -> Option<Loose<HostSession, Global>>
         ensures { MatchOption result (self.held ≡ None) (λ l. self.held ≡ Some l.value) }
     {
         let Owned { at, alloc } = self;
@@ -52,7 +52,7 @@ impl Owned {
             None
         } else {
             Some(Loose {
-                at: at as *mut Session,
+                at: at as *mut HostSession,
                 alloc,
             })
         }

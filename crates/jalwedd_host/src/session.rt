@@ -1,25 +1,26 @@
 //! The participant that a handle holds, and what is told of it.
 
-ghost use Rattle.std.specs.Prelude.{◌≡◌, ◌<◌, ◌+◌, ℕ, MatchOption};
+ghost use Rattle.std.specs.Prelude.{◌≡◌, ◌≤◌, ◌<◌, ◌+◌, ℕ, List, Ok, MatchOption};
 ghost use Rattle.rtcp_engine.specs.Histories.{History, life_at};
-ghost use Rattle.jalwedd_host.specs.Answers.{Shows, early_refusal};
+ghost use Rattle.rtcp_engine.specs.Promises.{SaysStanding};
+ghost use Rattle.rtcp_engine.specs.Views.{LeavesRest, reply_value, size_written};
+ghost use Rattle.jalwedd_host.specs.Answers.{HandsNothing, HandsOut, Shows, early_refusal};
 ghost use Rattle.jalwedd_host.specs.Handles.{Leads};
 
-use crate::showing::Handed;
-use crate::step::{Step, on_clock};
-use rtcp_engine::{Participant, Refusal};
+use crate::step::HostStep;
+use rtcp_engine::{Participant, Refusal, Told};
 use rtcp_members::HeapTable;
 
 /// What a host in C has on the heap.
 #[derive(Drop)]
-pub struct Session {
+pub struct HostSession {
     /// What the host's clock showed at moment 0, in microseconds.
     pub start: u64,
     /// The participant, whose moments are counted from the start.
     pub participant: Participant<HeapTable>,
 }
 
-impl Session {
+impl HostSession {
     /// The moment at which the host's clock shows `now`: none before the start.
     pub fn moment_of(&self, now: u64) -> Option<u64>
         ensures { MatchOption result (now < self.now.start) (λ moment. now ≡ self.now.start + moment) }
@@ -38,23 +39,25 @@ impl Session {
         }
     }
 
-    /// What to tell of the participant, beside what a call handed out.
-    pub fn step(&self, handed: Handed) -> Step
+    /// What there is to tell of the participant at any time.
+    pub fn step(&self) -> HostStep
         ensures shown { (start : ℕ) (history : History) → Leads self.now start history →
             Shows start result history }
-        ensures handed { (result.kind ≡ handed.kind) × (result.size ≡ handed.size)
-            × (result.changed ≡ handed.changed) × (result.others_changed ≡ handed.others_changed) }
+        ensures nothing { HandsNothing result }
     {
-        Step {
-            next: on_clock(self.start, self.participant.next()),
-            members: self.participant.members(),
-            senders: self.participant.senders(),
-            ssrc: self.participant.ssrc(),
-            changed: handed.changed,
-            kind: handed.kind,
-            size: handed.size,
-            entries: self.participant.entries(),
-            others_changed: handed.others_changed,
-        }
+        HostStep::standing(self.start, &self.participant.standing())
+    }
+
+    /// What there is to tell of a call that was taken, and left the participant so.
+    #[inline(always)]
+    pub(crate) fn step_told(&self, told: &Told) -> HostStep
+        requires written { size_written told.now.out ≤ 1472 }
+        requires standing { SaysStanding told.now.standing self.now.participant }
+        ensures shown { (start : ℕ) (history : History) → Leads self.now start history →
+            Shows start result history }
+        ensures handed { (was octets : List ℕ) → LeavesRest was octets told.now.out →
+            HandsOut result was octets (reply_value octets (Ok told.now)) }
+    {
+        HostStep::told(self.start, told)
     }
 }

@@ -14,7 +14,7 @@ use rtcp_source::{LastBlock, LastReport, Reception};
 /// What is known of a source.
 #[repr(C)]
 #[derive(Clone, Copy, Debug, PartialEq, Eq)]
-pub struct Source {
+pub struct HostSource {
     /// When it was last heard before it left, in microseconds of the host's clock.
     pub heard: u64,
     /// When it said goodbye, by that clock: 2^64 - 1 where it did not leave.
@@ -62,16 +62,16 @@ struct BlockShown {
     highest: u32,
 }
 
-impl Source {
+impl HostSource {
     /// How what is known of a source is told, where the host's clock showed `start` at moment 0.
-    pub(crate) fn of(state: &SourceState, start: u64) -> Source
+    pub(crate) fn of(state: &SourceState, start: u64) -> HostSource
         ensures { (latest : ℕ) → start + latest < 2 ^ 64 - 1 → IsToldBy latest (state_value state.now) →
             IsShown start result (state_value state.now) }
     {
         let reception = received(state.reception);
         let told = last_told(state.told, start);
         let block = last_block(state.last_block);
-        Source {
+        HostSource {
             heard: start.saturating_add(state.heard),
             left: on_clock(start, state.left),
             told: told.moment,

@@ -1,7 +1,10 @@
 //! What a call tells of the participant.
 
-ghost use Rattle.std.specs.Prelude.{◌≡◌, ◌↔◌, ◌<◌, ◌+◌, ◌-◌, ◌^◌, None, IfSome};
-ghost use Rattle.jalwedd_host.specs.Answers.{IsBlank, moment_shown};
+ghost use Rattle.std.specs.Prelude.{◌≡◌, ◌↔◌, ◌≤◌, ◌<◌, ◌+◌, ◌-◌, ◌^◌, ℕ, List, Ok, None, IfSome};
+ghost use Rattle.rtcp_engine.specs.Views.{LeavesRest, reply_value, size_written};
+ghost use Rattle.jalwedd_host.specs.Answers.{HandsNothing, HandsOut, IsBlank, ShowsStanding, moment_shown, number_written};
+
+use rtcp_engine::{OutKind, Standing, Told, Written};
 
 /// What `next` is where there is no moment to tick at.
 pub const NEVER: u64 = u64::MAX;
@@ -9,7 +12,7 @@ pub const NEVER: u64 = u64::MAX;
 /// What a call tells of the participant, whether or not it was taken.
 #[repr(C)]
 #[derive(Clone, Copy, Debug, PartialEq, Eq)]
-pub struct Step {
+pub struct HostStep {
     /// When to call `jalwedd_tick` next, in microseconds of the host's clock: 2^64 - 1 once the participant has left.
     /// It may lie before the moment of the call: then a report or the BYE is overdue.
     pub next: u64,
@@ -33,12 +36,12 @@ pub struct Step {
     pub others_changed: u32,
 }
 
-impl Step {
+impl HostStep {
     /// That of no participant.
-    pub fn blank() -> Step
+    pub fn blank() -> HostStep
         ensures { IsBlank result }
     {
-        Step {
+        HostStep {
             next: NEVER,
             members: 0,
             senders: 0,
@@ -49,6 +52,68 @@ impl Step {
             entries: 0,
             others_changed: 0,
         }
+    }
+
+    /// That of a participant that stands so, where nothing is handed out and nothing changed. The host's clock showed
+    /// `start` at moment 0.
+    #[inline(always)]
+    pub(crate) fn standing(start: u64, standing: &Standing) -> HostStep
+        ensures shown { IfSome standing.now.next (λ next. start + next < 2 ^ 64 - 1) →
+            ShowsStanding start result standing.now }
+        ensures nothing { HandsNothing result }
+    {
+        HostStep {
+            next: on_clock(start, standing.next),
+            members: standing.members,
+            senders: standing.senders,
+            ssrc: standing.ssrc,
+            entries: standing.entries,
+            ..HostStep::blank()
+        }
+    }
+
+    /// That of a call that was taken.
+    #[inline(always)]
+    pub(crate) fn told(start: u64, told: &Told) -> HostStep
+        requires { size_written told.now.out ≤ 1472 }
+        ensures shown { IfSome told.now.standing.next (λ next. start + next < 2 ^ 64 - 1) →
+            ShowsStanding start result told.now.standing }
+        ensures handed { (was octets : List ℕ) → LeavesRest was octets told.now.out →
+            HandsOut result was octets (reply_value octets (Ok told.now)) }
+    {
+        HostStep {
+            changed: u32::from(told.changed.is_some()),
+            kind: number_of(&told.out),
+            size: size_of(&told.out),
+            others_changed: u32::from(told.others_changed),
+            ..HostStep::standing(start, &told.standing)
+        }
+    }
+}
+
+/// 0 where nothing was written, 1 for a report, 2 for a BYE.
+#[inline(always)]
+fn number_of(written: &Option<Written>) -> u32
+    ensures { result ≡ number_written written.now }
+{
+    match written {
+        None => 0,
+        Some(out) => match out.kind {
+            OutKind::Report => 1,
+            OutKind::Bye => 2,
+        },
+    }
+}
+
+/// The octets of what was written.
+#[inline(always)]
+fn size_of(written: &Option<Written>) -> u32
+    requires { size_written written.now ≤ 1472 }
+    ensures { result ≡ size_written written.now }
+{
+    match written {
+        None => 0,
+        Some(out) => out.size as u32,
     }
 }
 

@@ -3,7 +3,6 @@
 use crate::digest::Digest;
 use crate::random::Random;
 use crate::shape::Shape;
-use arrayvec::ArrayVec;
 use rtcp_engine::Participant;
 use rtcp_members::MemberTable;
 
@@ -46,7 +45,7 @@ pub struct Caller {
     packet: [u8; 172],
     description: [u8; 36],
     sequences: [u16; 1024],
-    room: ArrayVec<u8, 1472>,
+    room: [u8; 1472],
     digest: Digest,
 }
 
@@ -74,7 +73,7 @@ impl Caller {
             packet: packet(),
             description: description(),
             sequences: [0; 1024],
-            room: ArrayVec::new(),
+            room: [0; 1472],
             digest: Digest::new(),
         }
     }

@@ -32,9 +32,11 @@ impl Digest {
     pub fn reply(&mut self, reply: &Reply) {
         match reply {
             Ok(told) => {
-                let counts = (u64::from(told.members) << 48) ^ (u64::from(told.senders) << 32);
-                let entries = (u64::from(told.entries) << 16) ^ u64::from(told.others_changed);
-                self.number(counts ^ entries ^ told.next.unwrap_or(0));
+                let standing = told.standing;
+                let counts = (u64::from(standing.members) << 48)
+                    ^ (u64::from(standing.senders) << 32);
+                let entries = (u64::from(standing.entries) << 16) ^ u64::from(told.others_changed);
+                self.number(counts ^ entries ^ standing.next.unwrap_or(0));
             }
             Err(_) => self.number(u64::MAX),
         }

@@ -1,9 +1,11 @@
 -- A participant that takes an act: in each phase, and in a history.
-use Rattle.std.proofs.Common.{◌≡◌, ℕ, ◌+◌, Bool, false, List, Option, Some, None, option_map, Ok, Err, refl, sym, ap, ◌∙◌, subst, arith}
+use Rattle.std.proofs.Common.{◌≡◌, ℕ, ◌+◌, Bool, false, List, Option, Some, None, option_map, Result, Ok, Err, refl, sym, ap, ◌∙◌, subst, arith}
 use Rattle.std.specs.Option.{option_or}
-use Rattle.rtcp_engine.specs.declared.changes.Change.{Change}
+use Rattle.rtcp_engine.specs.declared.changes.IdentifierChange.{IdentifierChange}
 use Rattle.rtcp_engine.specs.declared.pace.Pace.{Pace}
 use Rattle.rtcp_engine.specs.declared.refusal.Refusal.{Refusal}
+use Rattle.rtcp_engine.specs.declared.step.Step.{Step}
+use Rattle.rtcp_engine.specs.declared.step.Told.{Told}
 use Rattle.rtcp_engine.specs.Setups.{Setup, SettingsValue, settings_of, with_settings}
 use Rattle.rtcp_engine.specs.Acts.{Act, configured, moment_of}
 use Rattle.rtcp_engine.specs.Leaving.{Backoff, Life, present, backing_off, gone, leaving_count}
@@ -13,12 +15,12 @@ use Rattle.rtcp_engine.specs.Changes.{NewIdentifier, Session, bye_of_change, cha
 use Rattle.rtcp_engine.specs.Histories.{History, life_at, session_at, settings_after, setup_after, setup_at, with_act}
 use Rattle.rtcp_engine.specs.Refusals.{refusal_after, refusal_of_content}
 use Rattle.rtcp_engine.specs.Answers.{answer_of, step_by}
-use Rattle.rtcp_engine.specs.Promises.{Takes as Promised}
-use Rattle.rtcp_engine.specs.States.{State, Acts, Agrees, Does, StandsStill, IsAt, IsIn, IsPaceOf, Moves, Stays, ParticipantValue, PhaseValue, StandsAt, Waits, called, leaving, over, refusal_by, taking_part, with_settings_in}
-use Rattle.rtcp_engine.specs.Steps.{OutValue, StepValue, answer_unless}
+use Rattle.rtcp_engine.specs.Promises.{Spares, Takes as Promised}
+use Rattle.rtcp_engine.specs.States.{State, Acts, Agrees, Does, StandsStill, IsAt, IsIn, IsPaceOf, MovesOthers, Stays, ParticipantValue, PhaseValue, StandsAt, Waits, called, leaving, over, refusal_by, taking_part, with_settings_in}
+use Rattle.rtcp_engine.specs.Steps.{AnswerValue, OutValue, StepValue, answer_unless}
 use Rattle.rtcp_engine.specs.Taken.{HasWords}
+use Rattle.rtcp_engine.specs.Views.{answer_value, reply_value}
 use Rattle.rtcp_engine.proofs.Agreeing.{calls_agree, with_own}
-use Rattle.rtcp_engine.proofs.Bounded.{bounds_after}
 use Rattle.rtcp_engine.proofs.LifeLemmas.{is_taking_part, is_leaving, leaving_members}
 use Rattle.rtcp_engine.proofs.AnswerLemmas.{refusal_is, refused_answer, taken_history, whole_refused}
 use Rattle.rtcp_engine.proofs.RolesChanged.{none_since}
@@ -106,7 +108,7 @@ pub acts_present : {p q : ParticipantValue} {act : Act} {out : Option OutValue} 
     Does p.presence q.presence step
     → ((setup : Setup) (outcome : Outcome) → while_present setup act outcome ≡ present (step setup outcome)) →
     ((outcome : Outcome) → Agrees p.presence outcome → out ≡ out_while_present p.presence.setup act outcome) →
-    Moves p.presence moved step → Acts p q act out moved
+    MovesOthers p.presence moved step → Acts p q act out moved
 acts_present {p} {q} {act} {out} {moved} {step} plain phase new_phase changes does lives outs moves =
     acts_from_present plain phase does.stays changes
     (λ outcome agrees. subst (IsAt q) (sym (lives p.presence.setup outcome))
@@ -219,7 +221,7 @@ acts_configured {p} settings pace paced = record {
     moves (gone outcome) at = refl
 
 -- the same of one that another became
-pub acts_set : {phase : PhaseValue} {changes : List Change} {old new : State} (settings : SettingsValue) →
+pub acts_set : {phase : PhaseValue} {changes : List IdentifierChange} {old new : State} (settings : SettingsValue) →
     new ≡ with_settings_in settings new.pace old → IsPaceOf old new.pace → let p : ParticipantValue = record {
       presence = old;
       phase = phase;
@@ -246,7 +248,7 @@ call_keeps moment p (gone outcome) at = at
 -- ---- Histories
 
 -- Where a participant stands after an act, and the change that it brings.
-pub record Takes (h : History) (act : Act) (change : Option NewIdentifier) : Type 0 where
+pub record IsTaken (h : History) (act : Act) (change : Option NewIdentifier) : Type 0 where
   pub taken : refusal_after h act ≡ None
   pub changes : change_by (session_at h) act ≡ change
 
@@ -256,7 +258,7 @@ IsStepOf q out others_changed step = (life : Life) → IsAt q life →
     step ≡ step_into q.presence.setup out others_changed life
 
 pub acted_stands : {p mid q : ParticipantValue} {act : Act} {out : Option OutValue} {moved : Bool} (h : History)
-    (change : Option NewIdentifier) → StandsAt p h → Takes h act change → HasWords act
+    (change : Option NewIdentifier) → StandsAt p h → IsTaken h act change → HasWords act
     → IsIn mid (changed_by change (session_at h)) → mid.presence.calls ≡ p.presence.calls →
     Acts (called (moment_of act) mid) q act out moved → StandsAt q (with_act h act)
 acted_stands {p} {mid} {q} {act} {out} {moved} h change stands takes words at calls acts =
@@ -280,7 +282,7 @@ acted_stands {p} {mid} {q} {act} {out} {moved} h change stands takes words at ca
     }
 
 pub acted_step : {mid q : ParticipantValue} {act : Act} {out : Option OutValue} {moved : Bool} (h : History)
-    (change : Option NewIdentifier) (bye : Option OutValue) (step : StepValue) → Takes h act change
+    (change : Option NewIdentifier) (bye : Option OutValue) (step : StepValue) → IsTaken h act change
     → IsIn mid (changed_by change (session_at h)) → Acts (called (moment_of act) mid) q act out moved →
     StandsAt q (with_act h act) → bye ≡ bye_of_change change (session_at h)
     → IsStepOf q (option_or bye out) moved step →
@@ -311,7 +313,7 @@ answered h act step none is = ap Ok is ∙ sym (ap (λ (r : Option Refusal). ans
 
 -- an act that changes no identifier
 pub takes : {p q : ParticipantValue} {act : Act} {out : Option OutValue} {moved : Bool} (step : StepValue) →
-    ((h : History) → StandsAt p h → Takes h act None) → Acts (called (moment_of act) p) q act out moved →
+    ((h : History) → StandsAt p h → IsTaken h act None) → Acts (called (moment_of act) p) q act out moved →
     IsStepOf q out moved step
     → HasWords act → Promised p act (Ok step) q
 takes {p} {q} {act} {out} {moved} step plainly acts is_step words = record {
@@ -319,7 +321,6 @@ takes {p} {q} {act} {out} {moved} step plainly acts is_step words = record {
       ((λ i. record step { changed = unchanged h stands i }) ∙ acted_step h None None step (plainly h stands)
       stands.session acts (after h stands) refl is_step);
   stands = λ h stands. subst (StandsAt q) (taken_history h act (plainly h stands).taken) (after h stands);
-  bounded = λ h stands. bounds_after h act words stands.is_history;
 }
   where
     after : (h : History) → StandsAt p h → StandsAt q (with_act h act)
@@ -330,37 +331,42 @@ takes {p} {q} {act} {out} {moved} step plainly acts is_step words = record {
         (is_step (life_at (with_act h act)) (after h stands).session.life)
 
 pub refuses : (p : ParticipantValue) (act : Act) (reason : Refusal) →
-    ((h : History) → StandsAt p h → refusal_after h act ≡ Some reason) → HasWords act → Promised p act (Err reason) p
-refuses p act reason is words = record {
+    ((h : History) → StandsAt p h → refusal_after h act ≡ Some reason) → Promised p act (Err reason) p
+refuses p act reason is = record {
   answer = λ h stands. refused_answer h act reason (is h stands);
   stands = λ h stands. whole_refused p h act reason (is h stands) stands;
-  bounded = λ h stands. bounds_after h act words stands.is_history;
 }
 
 -- a call that is refused, whatever it tells
 pub call_refused : {p : ParticipantValue} (act : Act) {reason : Refusal} → refusal_by (moment_of act) p ≡ Some reason →
-    HasWords act → Promised p act (Err reason) p
-call_refused {p} act {reason} same words =
+    Promised p act (Err reason) p
+call_refused {p} act {reason} same =
     refuses p act reason (λ h stands. refusal_is p h act (Some reason) (refusal_of_content (session_at h) act) stands
-    same refl) words
+    same refl)
 
 -- a call that is refused for what it tells
 pub content_refused : (p : ParticipantValue) (act : Act) (reason : Refusal) → refusal_by (moment_of act) p ≡ None →
-    ((session : Session) → refusal_of_content session act ≡ Some reason) → HasWords act → Promised p act (Err reason) p
-content_refused p act reason none content words =
-    refuses p act reason (λ h stands. refusal_is p h act None (Some reason) stands none (content (session_at h))) words
+    ((session : Session) → refusal_of_content session act ≡ Some reason) → Promised p act (Err reason) p
+content_refused p act reason none content =
+    refuses p act reason (λ h stands. refusal_is p h act None (Some reason) stands none (content (session_at h)))
 
 -- a call of the host without a datagram
 pub plain_call : (p : ParticipantValue) (act : Act) → refusal_by (moment_of act) p ≡ None →
     ((session : Session) → refusal_of_content session act ≡ None) →
-    ((session : Session) → change_by session act ≡ None) → (h : History) → StandsAt p h → Takes h act None
+    ((session : Session) → change_by session act ≡ None) → (h : History) → StandsAt p h → IsTaken h act None
 plain_call p act none datagram unchanged h stands =
     record {
       taken = refusal_is p h act None None stands none (datagram (session_at h));
       changes = unchanged (session_at h);
     }
 
--- the same step, said otherwise
-pub retold : {p q : ParticipantValue} {act : Act} {one other : StepValue} → other ≡ one → Promised p act (Ok one) q →
-    Promised p act (Ok other) q
-retold {p} {q} {act} same promised = subst (λ (step : StepValue). Promised p act (Ok step) q) (sym same) promised
+-- the same answer, with a compound of its own in place of octets of the caller's
+pub retold : {p q : ParticipantValue} {act : Act} {one other : AnswerValue} → other ≡ one → Promised p act one q →
+    Promised p act other q
+retold {p} {q} {act} same promised = subst (λ (given : AnswerValue). Promised p act given q) (sym same) promised
+
+pub respared : {p q : ParticipantValue} (octets : List ℕ) (reply : Result Told Refusal) (answer : Result Step Refusal) →
+    answer_value answer ≡ reply_value octets reply → Spares p reply q → Spares p answer q
+respared octets reply (Ok step) same spares = record { within = spares.within; refused = tt }
+respared octets (Err reason) (Err refusal) same spares = record { within = spares.within; refused = spares.refused }
+respared octets (Ok told) (Err refusal) same spares = absurd cc

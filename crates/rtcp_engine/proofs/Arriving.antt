@@ -3,20 +3,19 @@ use Rattle.std.proofs.Common.{◌≡◌, ◌<◌, ◌^◌, ℕ, ◌&&◌, not, B
 use Rattle.std.specs.Option.{option_or}
 use Rattle.rtcp_engine.specs.declared.arrival.Arrival.{Arrival}
 use Rattle.rtcp_engine.specs.declared.arrival.Arrival.TheVariants.{Rtcp, Rtp}
-use Rattle.rtcp_engine.specs.declared.changes.Change.{Change}
+use Rattle.rtcp_engine.specs.declared.changes.IdentifierChange.{IdentifierChange}
 use Rattle.rtcp_engine.specs.declared.refusal.Refusal.{Refusal}
 use Rattle.rtcp_engine.specs.declared.refusal.Refusal.TheVariants.{OwnSsrc}
-use Rattle.rtcp_engine.specs.declared.step.Told.{Told}
 use Rattle.rtcp_engine.specs.Acts.{Datagram, arrived}
 use Rattle.rtcp_engine.specs.Identities.{may_change}
 use Rattle.rtcp_engine.specs.Changes.{NewIdentifier, Session, changing_peers, is_about, new_identifier}
 use Rattle.rtcp_engine.specs.Histories.{History, session_at}
-use Rattle.rtcp_engine.specs.Promises.{PassesOn, Takes as Promised}
+use Rattle.rtcp_engine.specs.Promises.{Takes as Promised}
 use Rattle.rtcp_engine.specs.Refusals.{fault_in, refusal_after, refusal_if, refusal_of_content}
 use Rattle.rtcp_engine.specs.Setups.{Setup}
-use Rattle.rtcp_engine.specs.States.{KeepsCapacity, ParticipantValue, StandsAt, refusal_by}
+use Rattle.rtcp_engine.specs.States.{ParticipantValue, StandsAt, refusal_by}
 use Rattle.rtcp_engine.specs.Views.{datagram_of}
-use Rattle.rtcp_engine.proofs.ActLemmas.{Takes, refuses}
+use Rattle.rtcp_engine.proofs.ActLemmas.{IsTaken, refuses}
 use Rattle.rtcp_engine.proofs.AnswerLemmas.{refusal_is}
 
 -- one that was read has no fault
@@ -41,18 +40,17 @@ refused_as_own p h t peer word arrival stands none own may =
 
 -- one that is refused for its fault
 pub fault_answered : {p : ParticipantValue} (t peer word : ℕ) (datagram : Datagram) {reason : Refusal} →
-    refusal_by t p ≡ None → fault_in datagram ≡ Some reason → word < 2 ^ 32 →
-    Promised p (arrived t peer word datagram) (Err reason) p
-fault_answered {p} t peer word datagram {reason} none fault fits =
+    refusal_by t p ≡ None → fault_in datagram ≡ Some reason → Promised p (arrived t peer word datagram) (Err reason) p
+fault_answered {p} t peer word datagram {reason} none fault =
     let act = arrived t peer word datagram in
     refuses p act reason (λ h stands.
     let own = refusal_if (is_about (session_at h).setup.ssrc datagram && not
     (may_change (changing_peers (session_at h)) peer)) OwnSsrc in
-    refusal_is p h act None (Some reason) stands none (ap (λ (r : Option Refusal). option_or r own) fault)) fits
+    refusal_is p h act None (Some reason) stands none (ap (λ (r : Option Refusal). option_or r own) fault))
 
 pub plain : (p : ParticipantValue) (h : History) (t peer word : ℕ) (arrival : Arrival) → StandsAt p h →
     refusal_by t p ≡ None → is_about (session_at h).setup.ssrc (datagram_of arrival) ≡ false
-    → Takes h (arrived t peer word (datagram_of arrival)) None
+    → IsTaken h (arrived t peer word (datagram_of arrival)) None
 plain p h t peer word arrival stands none other =
     let session = session_at h in
     let act = arrived t peer word (datagram_of arrival) in
@@ -67,7 +65,7 @@ pub changing : (p : ParticipantValue) (h : History) (t peer word ssrc : ℕ) (ar
     refusal_by t p ≡ None → is_about (session_at h).setup.ssrc (datagram_of arrival) ≡ true
     → may_change (changing_peers (session_at h)) peer ≡ true →
     ssrc ≡ new_identifier word (session_at h) (datagram_of arrival) →
-    Takes h (arrived t peer word (datagram_of arrival)) (Some (record { peer = peer; ssrc = ssrc }))
+    IsTaken h (arrived t peer word (datagram_of arrival)) (Some (record { peer = peer; ssrc = ssrc }))
 changing p h t peer word ssrc arrival stands none own may chosen =
     let session = session_at h in
     let change : ℕ → Option NewIdentifier = λ ssrc. Some (record { peer = peer; ssrc = ssrc }) in
@@ -84,32 +82,8 @@ pub is_own : (p : ParticipantValue) (h : History) (datagram : Datagram) → Stan
 is_own p h datagram stands own = sym (ap (λ (s : Setup). is_about s.ssrc datagram) stands.session.setup) ∙ own
 
 pub may_is : (p : ParticipantValue) (h : History) (peer : ℕ) → StandsAt p h →
-    may_change (map (λ (change : Change). change.peer) p.changes) peer ≡ may_change (changing_peers (session_at h)) peer
-may_is p h peer stands = ap (λ (changes : List Change). may_change (map (λ (change : Change). change.peer) changes)
+    may_change (map (λ (change : IdentifierChange). change.peer) p.changes) peer ≡ may_change
+    (changing_peers (session_at h)) peer
+may_is p h peer stands = ap (λ (changes : List IdentifierChange). may_change
+    (map (λ (change : IdentifierChange). change.peer) changes)
     peer) stands.session.changes
-
--- A datagram of the own identifier that changes it no more is refused.
-pub own_refused : (p : ParticipantValue) (t peer word : ℕ) (arrival : Arrival) → refusal_by t p ≡ None →
-    is_about p.presence.setup.ssrc (datagram_of arrival) ≡ true →
-    may_change (map (λ (change : Change). change.peer) p.changes) peer ≡ false
-    → (h : History) → StandsAt p h → refusal_after h (arrived t peer word (datagram_of arrival)) ≡ Some OwnSsrc
-own_refused p t peer word arrival none own may h stands = refused_as_own p h t peer word arrival stands none
-    (is_own p h (datagram_of arrival) stands own) (sym (may_is p h peer stands) ∙ may)
-
--- One that names the own identifier is refused, unless its peer may change that: then it is passed on.
-pub passed_or_refused : (p : ParticipantValue) (peer : ℕ) (reply : Option (Result Told Refusal))
-    → reply ≡ (if may_change (map (λ (change : Change). change.peer) p.changes) peer then None else Some (Err OwnSsrc))
-    → KeepsCapacity p.presence → PassesOn p peer reply p
-passed_or_refused p peer reply is within =
-    let may = may_change (map (λ (change : Change). change.peer) p.changes) peer in
-    subst (λ (r : Option (Result Told Refusal)). PassesOn p peer r p) (sym is)
-    (elim may as (λ b. may ≡ b → PassesOn p peer (if b then None else Some (Err OwnSsrc)) p) [
-      | true ↦ λ yes. record { empty = tt; changing = λ _. yes; untaken = λ _. refl; within = within; refused = tt }
-      | false ↦ λ no. record {
-        empty = refl;
-        changing = λ untaken. absurd cc;
-        untaken = λ _. refl;
-        within = within;
-        refused = refl;
-      }
-    ] refl)

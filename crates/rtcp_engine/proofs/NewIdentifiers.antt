@@ -13,7 +13,7 @@ use Rattle.rtcp_members.specs.Traces.{TraceStep, names}
 use Rattle.rtcp_members.specs.Stays.{stay_of}
 use Rattle.rtcp_members.specs.Entries.{entry_at, entry_of}
 use Rattle.rtcp_members.proofs.LawLemmas.{present_were_named_and_fit-named, present_were_named_and_fit-fit}
-use Rattle.rtcp_engine.specs.declared.changes.Change.{Change}
+use Rattle.rtcp_engine.specs.declared.changes.IdentifierChange.{IdentifierChange}
 use Rattle.rtcp_engine.specs.declared.refusal.Refusal.{Refusal}
 use Rattle.rtcp_engine.specs.declared.refusal.Refusal.TheVariants.{OwnSsrc}
 use Rattle.rtcp_engine.specs.Setups.{Setup}
@@ -52,7 +52,7 @@ few_after session (arrived moment peer word datagram) none few =
     let below = ltb-true (length (changing_peers session)) most_changes
     (and_parts (not (is_among (changing_peers session) peer)) (nat_lt (length (changing_peers session)) most_changes)
     (may_by session moment peer word datagram none own)).1 in
-    omega (arith, below, length-map session.changes (λ (change : Change). change.peer)))
+    omega (arith, below, length-map session.changes (λ (change : IdentifierChange). change.peer)))
     (λ other. few)
 few_after session (rtp_sent moment timestamp octets) none few = few
 few_after session (ticked moment first_word second_word) none few = few
@@ -253,7 +253,7 @@ few_taken session datagram few =
       arith,
       length-append own (held ++ named_by datagram),
       length-append held (named_by datagram),
-      length-map session.changes (λ (change : Change). change.former),
+      length-map session.changes (λ (change : IdentifierChange). change.former),
       few,
       few_held session.setup session.life,
     )

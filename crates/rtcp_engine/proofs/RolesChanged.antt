@@ -17,7 +17,7 @@ use Rattle.rtcp_engine.specs.Lives.{has_others, moved_since, others_moved_into}
 use Rattle.rtcp_engine.specs.Outcomes.{Outcome, check_interval}
 use Rattle.rtcp_engine.specs.Reporting.{reported_at}
 use Rattle.rtcp_engine.specs.Setups.{Setup}
-use Rattle.rtcp_engine.specs.States.{State, Agrees, HasOthers, Moves}
+use Rattle.rtcp_engine.specs.States.{State, Agrees, HasOthers, MovesOthers}
 use Rattle.rtcp_engine.specs.Ticks.{after_check, after_tick, checked, horizons_of, reported, without_silent, with_forgotten}
 use Rattle.rtcp_engine.proofs.Agreeing.{others_agree}
 use Rattle.rtcp_engine.proofs.LifeLemmas.{of_check, of_leave}
@@ -79,7 +79,7 @@ facts_since s outcome facts t a =
     as_many = omega (arith, length_with_facts facts t outcome.trace)
 
 pub moves_facts : {s w : State} → s ≡ w → (t size : ℕ) (packets : List RtcpPacket) (moved : Bool) →
-    moved ≡ facts_move (facts_of packets) t s.table → Moves w moved (λ setup. with_facts_of t size packets)
+    moved ≡ facts_move (facts_of packets) t s.table → MovesOthers w moved (λ setup. with_facts_of t size packets)
 moves_facts {s} {w} is t size packets moved moved_is =
     of_view is (λ setup outcome. moved_since setup outcome (with_facts_of t size packets outcome))
     (λ outcome a. moved_is ∙ facts_since s outcome (facts_of packets) t a)
@@ -87,7 +87,7 @@ moves_facts {s} {w} is t size packets moved moved_is =
 pub moves_media : {s w : State} → s ≡ w → (t : ℕ) (head : RtpValue) (moved : Bool) →
     moved ≡ facts_move (facts_of_media s.setup.ssrc (rate_of s.setup head) head
     (counted s.table (media_fact (rate_of s.setup head) head))) t s.table →
-    Moves w moved (λ setup. with_media setup t head)
+    MovesOthers w moved (λ setup. with_media setup t head)
 moves_media {s} {w} is t head moved moved_is =
     of_view is (λ setup outcome. moved_since setup outcome (with_media setup t head outcome)) (λ outcome a.
     let same : counted s.table (media_fact (rate_of s.setup head) head) ≡ counted_at s.setup.capacity outcome.trace
@@ -109,7 +109,7 @@ check_since s outcome horizons a =
     ∙ one_since s.setup.capacity (check_made horizons) outcome.trace
 
 pub moves_check : {s w : State} → s ≡ w → (t td : ℕ) (moved : Bool) → IsCheckInterval w t td →
-    moved ≡ check_moves (horizons_of t td) s.table → Moves w moved (λ setup. without_silent setup t)
+    moved ≡ check_moves (horizons_of t td) s.table → MovesOthers w moved (λ setup. without_silent setup t)
 moves_check {s} {w} is t td moved interval moved_is outcome agrees =
     moved_is
     ∙ ap (λ (d : ℕ). check_moves (horizons_of t d) s.table) (interval outcome agrees)
@@ -127,7 +127,7 @@ forgotten_since s outcome ssrc a =
     ∙ one_since s.setup.capacity (source_forgotten ssrc) outcome.trace
 
 pub moves_forgotten : {s w : State} → s ≡ w → (ssrc : ℕ) (moved : Bool) → moved ≡ forgetting_moves ssrc s.table →
-    Moves w moved (λ setup. with_forgotten ssrc)
+    MovesOthers w moved (λ setup. with_forgotten ssrc)
 moves_forgotten {s} {w} is ssrc moved moved_is =
     of_view is (λ setup outcome. moved_since setup outcome (with_forgotten ssrc outcome))
     (λ outcome a. moved_is ∙ forgotten_since s outcome ssrc a)
@@ -142,8 +142,9 @@ report_since setup t first_word second_word before outcome within =
     (sym (blocks_since setup.capacity (reported_at setup t outcome) (length before.trace) outcome.trace
     within))
 
-pub moves_tick : {s : State} (t first_word second_word : ℕ) (moved : Bool) → Moves s moved (λ setup. checked setup t) →
-    Moves s moved (λ setup. after_tick setup t first_word second_word)
+pub moves_tick : {s : State} (t first_word second_word : ℕ) (moved : Bool) →
+    MovesOthers s moved (λ setup. checked setup t) →
+    MovesOthers s moved (λ setup. after_tick setup t first_word second_word)
 moves_tick {s} t first_word second_word moved check outcome agrees =
     check outcome agrees ∙ report_since s.setup t first_word second_word outcome (checked s.setup t outcome) one_more
   where

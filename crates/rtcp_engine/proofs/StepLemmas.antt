@@ -1,5 +1,5 @@
 -- The steps of a participant, each by what the calls in it ensure.
-use Rattle.std.proofs.Common.{◌≡◌, ℕ, ◌+◌, ◌-◌, ◌*◌, ◌<◌, ◌≤◌, ◌&&◌, Bool, true, false, List, [], ◌∷◌, length, Option, Some, None, if◌then◌else◌, refl, sym, ap, ◌∙◌, subst, nat_le, inl, inr}
+use Rattle.std.proofs.Common.{◌≡◌, ℕ, ◌+◌, ◌-◌, ◌*◌, ◌<◌, ◌≤◌, ◌&&◌, Bool, true, false, List, [], ◌∷◌, length, Option, Some, None, option_map, if◌then◌else◌, refl, sym, ap, ◌∙◌, subst, nat_le, inl, inr}
 use Rattle.std.proofs.lemmas.Bool.{cases_lt, le-leb, lt-leb}
 use Rattle.rtcp_clock.specs.Intervals.{drawn_interval}
 use Rattle.rtcp_wire.specs.Facts.{facts_of}
@@ -13,10 +13,12 @@ use Rattle.rtcp_timer.specs.Averages.{moved_average}
 use Rattle.rtcp_timer.specs.Schedules.{Happening, Timing, after, tried, transmitted}
 use Rattle.rtcp_engine.specs.Setups.{Setup}
 use Rattle.rtcp_engine.specs.OwnStreams.{OwnValue, Adds, packet_sent, check_passed, report_sent}
+use Rattle.rtcp_engine.specs.Lives.{report_out}
 use Rattle.rtcp_engine.specs.Outcomes.{Outcome, member_count, timing_of, interval_at, check_interval}
 use Rattle.rtcp_engine.specs.Reporting.{report_octets}
 use Rattle.rtcp_engine.specs.Leaving.{Backoff, after_wait, backoff_from, is_bye_due, leaving_average, leaving_count, leaving_interval, leaving_load, leaving_timing, with_farewell_of}
 use Rattle.rtcp_engine.specs.Arrivals.{facts_of_media, media_fact, rate_of, with_facts_of, with_media, with_packet}
+use Rattle.rtcp_engine.specs.Steps.{OutValue}
 use Rattle.rtcp_engine.specs.Ticks.{horizons_of, with_check, without_silent, has_come, has_passed, is_report_due, put_off, tried_at, report_due, with_report, reported, after_check as after_check_at, with_forgotten}
 use Rattle.rtcp_engine.specs.States.{State, Agrees, Does, DoesWaiting, KeepsCapacity, Stays, Waits}
 use Rattle.rtcp_engine.proofs.Agreeing.{load, facts_agree, media_agree, sizes_agree, with_own, rows_in, octets_in, octets_agree, sent_reports_agree, forgotten_agree}
@@ -317,17 +319,19 @@ same_octets : (setup : Setup) (t word : ℕ) (outcome : Outcome) (come : Bool) �
 same_octets setup t word outcome true = refl
 same_octets setup t word outcome false = refl
 
-pub hands_out : {w v : State} (word : ℕ) (octets : List ℕ) → IsDueBy w w.latest word true →
+pub hands_out : {w v : State} (word : ℕ) (out : Option OutValue) → IsDueBy w w.latest word true →
     Does w v (λ setup. tried_at setup w.latest word) →
-    ((outcome : Outcome) → Agrees v outcome → octets ≡ report_octets v.setup v.latest outcome)
-    → (outcome : Outcome) → Agrees w outcome → Some octets ≡ report_due w.setup w.latest word outcome
-hands_out {w} {v} word octets is_due before made outcome a =
+    ((outcome : Outcome) → Agrees v outcome → out ≡ Some (report_out (report_octets v.setup v.latest outcome)))
+    → (outcome : Outcome) → Agrees w outcome → out ≡ option_map report_out (report_due w.setup w.latest word outcome)
+hands_out {w} {v} word out is_due before made outcome a =
     let t = w.latest in
     let tried_outcome = tried_at w.setup t word outcome in
-    ap Some (made tried_outcome (before.follows outcome a)
-    ∙ (λ i. report_octets (before.stays.setup i) (before.stays.latest i) tried_outcome)
+    made tried_outcome (before.follows outcome a)
+    ∙ ap (λ (octets : List ℕ). Some (report_out octets))
+    ((λ i. report_octets (before.stays.setup i) (before.stays.latest i) tried_outcome)
     ∙ same_octets w.setup t word outcome (has_come t outcome))
-    ∙ ap (λ (b : Bool). if b then Some (report_octets w.setup t outcome) else None) (is_due outcome a)
+    ∙ ap (λ (b : Bool). option_map report_out (if b then Some (report_octets w.setup t outcome) else None))
+    (is_due outcome a)
 
 -- ---- Datagrams
 

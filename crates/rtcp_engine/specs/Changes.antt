@@ -4,7 +4,7 @@ use Rattle.std.specs.Prelude.{ℕ, ◌+◌, ◌==◌, ◌||◌, Bool, false, Lis
 use Rattle.std.specs.List.{list_any}
 use Rattle.rtcp_wire.specs.Facts.{subject, facts_of}
 use Rattle.rtcp_members.specs.Entries.{entry_at}
-use Rattle.rtcp_engine.specs.declared.changes.Change.{Change}
+use Rattle.rtcp_engine.specs.declared.changes.IdentifierChange.{IdentifierChange}
 use Rattle.rtcp_engine.specs.Setups.{Setup}
 use Rattle.rtcp_engine.specs.Acts.{Datagram, rtcp, rtp, Act, arrived}
 use Rattle.rtcp_engine.specs.Identities.{first_free, is_among, most_changes, with_ssrc}
@@ -17,7 +17,7 @@ pub record Session : Type 0 where
   -- under the present identifier
   pub setup : Setup
   -- the changes of identifier so far, newest first: whose datagrams brought them, and what was given up
-  pub changes : List Change
+  pub changes : List IdentifierChange
   pub life : Life
 
 -- all identifiers so far, the present one first

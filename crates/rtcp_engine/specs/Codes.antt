@@ -5,7 +5,7 @@ use Rattle.rtcp_members.specs.Tables.{TableValue}
 use Rattle.rtcp_members.specs.Codes.{table_code}
 use Rattle.rtcp_timer.specs.Schedules.{Timing}
 use Rattle.rtcp_wire.specs.Values.{ItemValue}
-use Rattle.rtcp_engine.specs.declared.changes.Change.{Change}
+use Rattle.rtcp_engine.specs.declared.changes.IdentifierChange.{IdentifierChange}
 use Rattle.rtcp_engine.specs.declared.pace.Pace.{Pace}
 use Rattle.rtcp_engine.specs.Setups.{Setup, ClockValue}
 use Rattle.rtcp_engine.specs.OwnStreams.{PacketValue, OwnValue}
@@ -121,13 +121,14 @@ phase_again over = refl
 abbrev pub phase_code : Coded PhaseValue
 phase_code = code_by (Option (Option ℕ)) (coded_option (coded_option coded_ℕ)) phase_number phase_numbered phase_again
 
-abbrev pub change_code : Coded Change
+abbrev pub change_code : Coded IdentifierChange
 change_code =
     code_by (ℕ × ℕ) (coded× coded_ℕ coded_ℕ) (λ c. (c.peer, c.former)) (λ p. record { peer = p.0; former = p.1 })
     (λ _. refl)
 
 abbrev pub participant_code : Coded ParticipantValue
 participant_code =
-    code_by (State × (PhaseValue × List Change)) (coded× state_code (coded× phase_code (coded_list change_code)))
+    code_by (State × (PhaseValue × List IdentifierChange))
+    (coded× state_code (coded× phase_code (coded_list change_code)))
     (λ p. (p.presence, (p.phase, p.changes))) (λ p. record { presence = p.0; phase = p.1.0; changes = p.1.1 })
     (λ _. refl)

@@ -7,6 +7,7 @@ use Rattle.rtcp_members.specs.Stays.{present_among, stay_of}
 use Rattle.rtcp_members.specs.Entries.{EntryValue, entry_at, members_at}
 use Rattle.rtcp_members.specs.Roles.{moved_within}
 use Rattle.rtcp_members.specs.Told.{StateValue, TellsAbove, IsWalk}
+use Rattle.rtcp_engine.specs.declared.step.Standing.{Standing}
 use Rattle.rtcp_engine.specs.declared.step.OutKind.TheVariants.{Report, Bye}
 use Rattle.rtcp_engine.specs.Setups.{Setup}
 use Rattle.rtcp_engine.specs.Acts.{Act, rtcp, arrived, ticked, left}
@@ -120,6 +121,18 @@ abbrev pub next_in_life : Life → Option ℕ
 next_in_life (present outcome) = Some (timing_of outcome).next
 next_in_life (backing_off outcome backoff) = Some (leaving_timing backoff).next
 next_in_life (gone outcome) = None
+
+-- ---- The whole
+
+-- Where a participant stands: who is there, and when to ask again.
+abbrev pub standing_in_life : Setup → Life → Standing
+standing_in_life setup life = record {
+  members = members_in_life setup life;
+  senders = senders_in_life setup life;
+  entries = entries_in_life setup life;
+  ssrc = setup.ssrc;
+  next = next_in_life life;
+}
 
 -- ---- Compounds to send
 

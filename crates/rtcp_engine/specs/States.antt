@@ -4,7 +4,7 @@ use Rattle.std.specs.FinMap as map
 use Rattle.rtcp_members.specs.Tables.{TableValue, HasFew, StandsAt as IsTableAt}
 use Rattle.rtcp_timer.specs.Averages.{moved_average}
 use Rattle.rtcp_timer.specs.Schedules.{Timing}
-use Rattle.rtcp_engine.specs.declared.changes.Change.{Change}
+use Rattle.rtcp_engine.specs.declared.changes.IdentifierChange.{IdentifierChange}
 use Rattle.rtcp_engine.specs.declared.pace.Pace.{Pace}
 use Rattle.rtcp_engine.specs.declared.refusal.Refusal.{Refusal}
 use Rattle.rtcp_engine.specs.declared.refusal.Refusal.TheVariants.{Left}
@@ -100,8 +100,8 @@ pub record Does (old new : State) (step : Setup → Outcome → Outcome) : Type 
   pub follows : (outcome : Outcome) → Agrees old outcome → Agrees new (step old.setup outcome)
 
 -- A participant says whether a step changes who of the others is a member, or who of them sends.
-abbrev pub Moves : (old : State) → (others_changed : Bool) → (step : Setup → Outcome → Outcome) → Type 0
-Moves old others_changed step =
+abbrev pub MovesOthers : (old : State) → (others_changed : Bool) → (step : Setup → Outcome → Outcome) → Type 0
+MovesOthers old others_changed step =
     (outcome : Outcome) → Agrees old outcome → others_changed ≡ moved_since old.setup outcome (step old.setup outcome)
 
 -- It says whether some other source is a member.
@@ -177,7 +177,7 @@ pub record ParticipantValue : Type 0 where
   pub presence : State
   pub phase : PhaseValue
   -- its changes of identifier, newest first
-  pub changes : List Change
+  pub changes : List IdentifierChange
 
 abbrev pub called : (moment : ℕ) → ParticipantValue → ParticipantValue
 called moment participant = record participant { presence = with_call moment participant.presence }

@@ -1,20 +1,23 @@
 -- What the crate's types say, as values of the definitions.
-use Rattle.std.specs.Prelude.{ℕ, ◌<◌, ◌^◌, length, List, [], ◌∷◌, map, Option, None, option_map, Result, Ok, Err}
+use Rattle.std.specs.Prelude.{ℕ, ◌≡◌, ◌≤◌, ◌<◌, ◌^◌, take, drop, length, List, [], ◌∷◌, map, Option, Some, None, option_map, Result, Ok, Err}
 use Rattle.rtcp_report.specs.Views.{item_value}
 use Rattle.rtcp_engine.specs.declared.clock.Clock.{Clock}
 use Rattle.rtcp_engine.specs.declared.config.Config.{Config}
 use Rattle.rtcp_engine.specs.declared.settings.Settings.{Settings}
 use Rattle.rtcp_engine.specs.declared.participant.Phase.{Phase}
 use Rattle.rtcp_engine.specs.declared.participant.Phase.TheVariants.{Present, BackingOff, Gone}
+use Rattle.rtcp_engine.specs.declared.presence.ticks.NumberedReport.{NumberedReport}
 use Rattle.rtcp_engine.specs.declared.refusal.Refusal.{Refusal}
 use Rattle.rtcp_engine.specs.declared.step.Out.{Out}
-use Rattle.rtcp_engine.specs.declared.step.OutKind.{OutKind}
 use Rattle.rtcp_engine.specs.declared.step.Step.{Step}
 use Rattle.rtcp_engine.specs.declared.step.Told.{Told}
+use Rattle.rtcp_engine.specs.declared.step.Written.{Written}
 use Rattle.rtcp_engine.specs.declared.arrival.Arrival.{Arrival}
 use Rattle.rtcp_engine.specs.declared.arrival.Arrival.TheVariants.{Rtcp, Rtp}
 use Rattle.rtcp_engine.specs.declared.event.Event.{Event}
 use Rattle.rtcp_engine.specs.declared.event.Event.TheVariants.{ArriveRtcp, ArriveRtp, SentRtp, Tick, Leave, Configure, Forget}
+use Rattle.rtcp_report.specs.Reports.{Reporter}
+use Rattle.rtcp_engine.specs.Reporting.{reporter_by}
 use Rattle.rtcp_engine.specs.Setups.{Setup, SettingsValue, ClockValue}
 use Rattle.rtcp_engine.specs.Acts.{Datagram, rtcp, rtp, Act, EventValue, rtcp_arrived, rtp_arrived, packet_sent, time_passed, leave_asked, settings_given, forget_asked, IsActOfEvent}
 use Rattle.rtcp_engine.specs.Changes.{named_by}
@@ -50,6 +53,11 @@ settings_value settings = record {
   clocks = map clock_value settings.clocks.items;
   extras = map item_value settings.extras.items;
 }
+
+-- ---- Reports
+
+abbrev pub reporter_of : NumberedReport → Reporter
+reporter_of report = reporter_by (setup_of report.config.now) report.own.now report.number report.moment
 
 -- ---- Arrivals
 
@@ -87,19 +95,30 @@ abbrev pub answer_value : Result Step Refusal → AnswerValue
 answer_value (Ok step) = Ok (step_value step)
 answer_value (Err refusal) = Err refusal
 
--- ---- Replies, whose compound stands in octets of the caller's
+-- ---- Replies, whose compound stands at the start of octets of the caller's
 
--- the compound that stands there, if one was told
-abbrev pub out_with : (octets : List ℕ) → Option OutKind → Option OutValue
-out_with octets told = option_map (λ kind. record { kind = kind; octets = octets }) told
+-- the compound that was written there, if one was
+abbrev pub out_in : (octets : List ℕ) → Option Written → Option OutValue
+out_in octets written =
+    option_map (λ (out : Written). record { kind = out.kind; octets = take out.size octets }) written
+
+abbrev pub size_written : Option Written → ℕ
+size_written None = 0
+size_written (Some out) = out.size
+
+-- It has its place among the octets, and those after it are as they were.
+pub record LeavesRest (before after : List ℕ) (written : Option Written) : Type 0 where
+  pub fits : size_written written ≤ 1472
+  pub room : size_written written ≤ length after
+  pub rest : drop (size_written written) after ≡ drop (size_written written) before
 
 abbrev pub told_value : (octets : List ℕ) → Told → StepValue
 told_value octets told = record {
-  out = out_with octets told.out;
-  members = told.members;
-  senders = told.senders;
-  entries = told.entries;
-  next = told.next;
+  out = out_in octets told.out;
+  members = told.standing.members;
+  senders = told.standing.senders;
+  entries = told.standing.entries;
+  next = told.standing.next;
   changed = told.changed;
   others_changed = told.others_changed;
 }
@@ -108,10 +127,10 @@ abbrev pub reply_value : (octets : List ℕ) → Result Told Refusal → AnswerV
 reply_value octets (Ok told) = Ok (told_value octets told)
 reply_value octets (Err refusal) = Err refusal
 
--- the kind of compound that a reply tells of
-abbrev pub kind_told : Result Told Refusal → Option OutKind
-kind_told (Ok told) = told.out
-kind_told (Err refusal) = None
+-- the compound that a reply tells of
+abbrev pub out_told : Result Told Refusal → Option Written
+out_told (Ok told) = told.out
+out_told (Err refusal) = None
 
 -- ---- Events
 

@@ -10,7 +10,7 @@ const MAX_CHANGES: usize = 8;
 
 /// A change of identifier.
 #[derive(Clone, Copy, Debug, Default)]
-pub(crate) struct Change {
+pub(crate) struct IdentifierChange {
     /// Whose datagram brought it.
     peer: u64,
     /// The identifier that was given up.
@@ -19,16 +19,16 @@ pub(crate) struct Change {
 
 /// The changes of a session, newest first.
 #[derive(Debug, Drop)]
-pub(crate) struct Changes {
-    list: ArrayVec<Change, MAX_CHANGES>,
+pub(crate) struct IdentifierChanges {
+    list: ArrayVec<IdentifierChange, MAX_CHANGES>,
 }
 
-impl Changes {
+impl IdentifierChanges {
     /// No change yet.
-    pub(crate) fn new() -> Changes
+    pub(crate) fn new() -> IdentifierChanges
         ensures { result.list.items ≡ [] }
     {
-        Changes {
+        IdentifierChanges {
             list: ArrayVec::new(),
         }
     }
@@ -53,6 +53,6 @@ impl Changes {
         requires { length self.old.list.items < 8 }
         ensures { self.new.list.items ≡ record { peer = peer; former = former } ∷ self.old.list.items }
     {
-        self.list.insert(0, Change { peer, former });
+        self.list.insert(0, IdentifierChange { peer, former });
     }
 }

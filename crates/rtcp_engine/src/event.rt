@@ -1,14 +1,12 @@
 //! What a host tells a participant, as a value.
 
-ghost use Rattle.std.specs.Prelude.{◌≡◌, None};
 ghost use Rattle.rtcp_engine.specs.Acts.{Act};
-ghost use Rattle.rtcp_engine.specs.Promises.{Spares, Takes};
-ghost use Rattle.rtcp_engine.specs.Views.{answer_value, kind_told, reply_value, IsActOf};
+ghost use Rattle.rtcp_engine.specs.Promises.{Spares, Takes, Tells};
+ghost use Rattle.rtcp_engine.specs.Views.{answer_value, reply_value, IsActOf};
 
 use crate::participant::Participant;
 use crate::settings::Settings;
-use crate::step::{Answer, Reply};
-use arrayvec::ArrayVec;
+use crate::step::{Answer, Reply, answer_with};
 use rtcp_members::MemberTable;
 use rtcp_wire::MAX_COMPOUND;
 
@@ -88,23 +86,21 @@ impl<T: MemberTable> Participant<T> {
         ensures takes { (act : Act) → IsActOf event.now act → Takes self.old act (answer_value result) self.new }
         ensures spares { Spares self.old result self.new }
     {
-        let mut octets = ArrayVec::new();
-        match self.tell_into(event, &mut octets) {
-            Ok(told) => Ok(told.step(octets)),
-            Err(refusal) => Err(refusal),
-        }
+        let mut octets = [0; MAX_COMPOUND];
+        let reply = self.tell_into(event, &mut octets);
+        answer_with(reply, &octets)
     }
 
-    /// [`tell`](Participant::tell), where a compound replaces what stood in `octets`.
+    /// [`tell`](Participant::tell), with a compound in `octets`.
     ///
     /// # Errors
     ///
     /// Those of the call. Then the participant and `octets` are unchanged.
-    pub fn tell_into(&mut self, event: &Event<'_>, octets: &mut ArrayVec<u8, MAX_COMPOUND>) -> Reply
+    pub fn tell_into(&mut self, event: &Event<'_>, octets: &mut [u8; MAX_COMPOUND]) -> Reply
         ensures takes { (act : Act) → IsActOf event.now act →
-            Takes self.old act (reply_value octets.new.items result) self.new }
+            Takes self.old act (reply_value octets.new result) self.new }
         ensures spares { Spares self.old result self.new }
-        ensures untouched { kind_told result ≡ None → octets.new ≡ octets.old }
+        ensures tells { Tells octets.old octets.new result self.new }
     {
         match *event {
             Event::ArriveRtcp {
@@ -122,12 +118,12 @@ impl<T: MemberTable> Participant<T> {
             Event::SentRtp {
                 now,
                 rtp_ts,
-                octets: payload,
-            } => self.sent_rtp_told(now, rtp_ts, payload),
+                octets: size,
+            } => self.sent_rtp_into(now, rtp_ts, size, octets),
             Event::Tick { now, w1, w2 } => self.tick_into(now, w1, w2, octets),
             Event::Leave { now, w } => self.leave_into(now, w, octets),
-            Event::Configure { now, settings } => self.configure_told(now, settings),
-            Event::Forget { now, ssrc } => self.forget_told(now, ssrc),
+            Event::Configure { now, settings } => self.configure_into(now, settings, octets),
+            Event::Forget { now, ssrc } => self.forget_into(now, ssrc, octets),
         }
     }
 }

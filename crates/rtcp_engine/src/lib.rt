@@ -31,8 +31,8 @@
 //! session the BYE comes later, from a tick (6.3.7).
 //!
 //! Each answer has room for a compound, 1.5 KB. A host with little stack keeps that room itself and calls
-//! [`tick_into`](Participant::tick_into) and its like, which write a compound there and return a [`Told`] that
-//! describes it. An arrival without a compound needs no room: [`arrive_rtp_told`](Participant::arrive_rtp_told).
+//! [`tick_into`](Participant::tick_into) and its like: they write a compound to the start of it, and return a [`Told`]
+//! that describes it.
 //!
 //! A call that is refused (`Refusal`) changes nothing. `specs/` defines the answer to each call over everything that
 //! the participant was told (`Histories`, `Ticks`, `Lives`, `Answers`); `laws` states properties of these definitions.
@@ -70,4 +70,4 @@ pub use rtcp_report::Item;
 pub use runs::{Ran, run};
 pub use settings::Settings;
 pub use sink::{Sink, SinkStop};
-pub use step::{Answer, Out, OutKind, Reply, Step, Told};
+pub use step::{Answer, Out, OutKind, Reply, Standing, Step, Told, Written};

@@ -18,13 +18,13 @@ ghost use Rattle.rtcp_engine.specs.Promises.{Spares, Takes};
 ghost use Rattle.rtcp_engine.specs.Taken.{begun};
 ghost use Rattle.rtcp_engine.specs.Views.{setup_of, answer_value, settings_value};
 
-use crate::changes::Changes;
+use crate::changes::IdentifierChanges;
 use crate::config::{Config, ConfigError};
 use crate::presence::Presence;
 use crate::settings::Settings;
-use crate::step::Answer;
-use arrayvec::ArrayVec;
+use crate::step::{Answer, answer_with};
 use rtcp_members::{InlineTable, MemberTable, SourceState, Sources};
+use rtcp_wire::MAX_COMPOUND;
 use std::marker::Model;
 
 mod answering;
@@ -53,7 +53,7 @@ pub(crate) enum Phase {
 pub struct Participant<T: MemberTable> {
     phase: Phase,
     presence: Presence<T>,
-    changes: Changes,
+    changes: IdentifierChanges,
 }
 
 impl<T: MemberTable> Model for Participant<T> {
@@ -107,7 +107,7 @@ impl<T: MemberTable> Participant<T> {
         Participant {
             presence: Presence::with_table(config, table, word),
             phase: Phase::Present,
-            changes: Changes::new(),
+            changes: IdentifierChanges::new(),
         }
     }
 
@@ -116,11 +116,7 @@ impl<T: MemberTable> Participant<T> {
         ensures { (history : History) → StandsAt self.now history →
             result ≡ members_in_life (setup_at history) (life_at history) }
     {
-        match self.phase {
-            Phase::Present => self.presence.member_count(),
-            Phase::BackingOff(members) => members,
-            Phase::Gone => 0,
-        }
+        self.standing().members
     }
 
     /// The members that send RTP packets, this participant included where it does.
@@ -128,10 +124,7 @@ impl<T: MemberTable> Participant<T> {
         ensures { (history : History) → StandsAt self.now history →
             result ≡ senders_in_life (setup_at history) (life_at history) }
     {
-        match self.phase {
-            Phase::Present => self.presence.sender_count(),
-            Phase::BackingOff(_) | Phase::Gone => 0,
-        }
+        self.standing().senders
     }
 
     /// What is known of the source of least SSRC above `after`, or of all sources: members, those that are not
@@ -170,10 +163,7 @@ impl<T: MemberTable> Participant<T> {
         ensures { (history : History) → StandsAt self.now history →
             result ≡ entries_in_life (setup_at history) (life_at history) }
     {
-        match self.phase {
-            Phase::Present => self.presence.entries(),
-            Phase::Gone | Phase::BackingOff(_) => 0,
-        }
+        self.standing().entries
     }
 
     /// What is known of each source, by rising SSRC: an iterator over all answers of `source_above`.
@@ -194,10 +184,7 @@ impl<T: MemberTable> Participant<T> {
             result ≡ next_in_life (life_at history) }
         ensures bounded { IfSome result (λ next. next < 2 ^ 51) }
     {
-        match self.phase {
-            Phase::Present | Phase::BackingOff(_) => Some(self.presence.next_moment()),
-            Phase::Gone => None,
-        }
+        self.standing().next
     }
 
     /// The SSRC under which the participant takes part, or did last.
@@ -205,7 +192,7 @@ impl<T: MemberTable> Participant<T> {
         ensures { (history : History) → StandsAt self.now history →
             result ≡ (setup_at history).ssrc }
     {
-        self.presence.ssrc()
+        self.standing().ssrc
     }
 
     /// An RTCP datagram came at the moment `now`, with the octets that UDP carried. `peer` is a number for where
@@ -223,11 +210,9 @@ impl<T: MemberTable> Participant<T> {
             Takes self.old (rtcp_came now peer w bytes.now reading) (answer_value result) self.new }
         ensures spares { Spares self.old result self.new }
     {
-        let mut octets = ArrayVec::new();
-        match self.arrive_rtcp_into(now, peer, w, bytes, &mut octets) {
-            Ok(told) => Ok(told.step(octets)),
-            Err(refusal) => Err(refusal),
-        }
+        let mut octets = [0; MAX_COMPOUND];
+        let reply = self.arrive_rtcp_into(now, peer, w, bytes, &mut octets);
+        answer_with(reply, &octets)
     }
 
     /// An RTP datagram came at the moment `now`, with the octets that UDP carried. `peer` and `w` are those of
@@ -241,11 +226,9 @@ impl<T: MemberTable> Participant<T> {
             Takes self.old (rtp_came now peer w reading) (answer_value result) self.new }
         ensures spares { Spares self.old result self.new }
     {
-        let mut octets = ArrayVec::new();
-        match self.arrive_rtp_into(now, peer, w, bytes, &mut octets) {
-            Ok(told) => Ok(told.step(octets)),
-            Err(refusal) => Err(refusal),
-        }
+        let mut octets = [0; MAX_COMPOUND];
+        let reply = self.arrive_rtp_into(now, peer, w, bytes, &mut octets);
+        answer_with(reply, &octets)
     }
 
     /// The host sent an RTP packet at the moment `now`, with the RTP timestamp `rtp_ts` and so many octets of
@@ -258,10 +241,9 @@ impl<T: MemberTable> Participant<T> {
         ensures takes { Takes self.old (rtp_sent now rtp_ts octets) (answer_value result) self.new }
         ensures spares { Spares self.old result self.new }
     {
-        match self.sent_rtp_told(now, rtp_ts, octets) {
-            Ok(told) => Ok(told.step(ArrayVec::new())),
-            Err(refusal) => Err(refusal),
-        }
+        let mut room = [0; MAX_COMPOUND];
+        let reply = self.sent_rtp_into(now, rtp_ts, octets, &mut room);
+        answer_with(reply, &room)
     }
 
     /// Asks at the moment `now` whether a report is due, or the BYE of a participant that backs off, with two
@@ -280,11 +262,9 @@ impl<T: MemberTable> Participant<T> {
             IsOverdue history (ticked now w1 w2) → IfOk result (λ step. IsTrue (is_some step.out)) }
         ensures spares { Spares self.old result self.new }
     {
-        let mut octets = ArrayVec::new();
-        match self.tick_into(now, w1, w2, &mut octets) {
-            Ok(told) => Ok(told.step(octets)),
-            Err(refusal) => Err(refusal),
-        }
+        let mut octets = [0; MAX_COMPOUND];
+        let reply = self.tick_into(now, w1, w2, &mut octets);
+        answer_with(reply, &octets)
     }
 
     /// Leaves the session at the moment `now`, with a random word for the draw of a backoff (RFC 3550, 6.3.7).
@@ -301,11 +281,9 @@ impl<T: MemberTable> Participant<T> {
         ensures takes { Takes self.old (left now w) (answer_value result) self.new }
         ensures spares { Spares self.old result self.new }
     {
-        let mut octets = ArrayVec::new();
-        match self.leave_into(now, w, &mut octets) {
-            Ok(told) => Ok(told.step(octets)),
-            Err(refusal) => Err(refusal),
-        }
+        let mut octets = [0; MAX_COMPOUND];
+        let reply = self.leave_into(now, w, &mut octets);
+        answer_with(reply, &octets)
     }
 
     /// Gives the participant other settings at the moment `now`: the bandwidths of the session, and what it says of
@@ -325,11 +303,9 @@ impl<T: MemberTable> Participant<T> {
         ensures takes { Takes self.old (configured now (settings_value settings.now)) (answer_value result) self.new }
         ensures spares { Spares self.old result self.new }
     {
-        let octets = ArrayVec::new();
-        match self.configure_told(now, settings) {
-            Ok(told) => Ok(told.step(octets)),
-            Err(refusal) => Err(refusal),
-        }
+        let mut octets = [0; MAX_COMPOUND];
+        let reply = self.configure_into(now, settings, &mut octets);
+        answer_with(reply, &octets)
     }
 
     /// Tells that another source is gone, as its host knows by other means, such as signalling. Its entry goes as if
@@ -346,10 +322,8 @@ impl<T: MemberTable> Participant<T> {
         ensures takes { Takes self.old (forgotten now ssrc) (answer_value result) self.new }
         ensures spares { Spares self.old result self.new }
     {
-        let octets = ArrayVec::new();
-        match self.forget_told(now, ssrc) {
-            Ok(told) => Ok(told.step(octets)),
-            Err(refusal) => Err(refusal),
-        }
+        let mut octets = [0; MAX_COMPOUND];
+        let reply = self.forget_into(now, ssrc, &mut octets);
+        answer_with(reply, &octets)
     }
 }

@@ -1,7 +1,7 @@
 //! What a participant answers.
 
-ghost use Rattle.std.specs.Prelude.{◌≡◌, is_some};
-ghost use Rattle.rtcp_engine.specs.Views.{step_value, told_value};
+ghost use Rattle.std.specs.Prelude.{◌≡◌, ◌≤◌, Some, length, option_map};
+ghost use Rattle.rtcp_engine.specs.Views.{LeavesRest, answer_value, out_in, out_told, out_value, reply_value, size_written};
 
 use crate::refusal::Refusal;
 use arrayvec::ArrayVec;
@@ -55,24 +55,62 @@ pub struct Step {
 /// A step, or why the call was refused.
 pub type Answer = Result<Step, Refusal>;
 
-/// What a call that was taken answers, where its compound stands in the caller's room: a [`Step`] that has
-/// the compound's kind in place of the compound.
+/// A compound that a call wrote to the start of its caller's octets, to be sent in one datagram to the other participants.
 #[derive(Clone, Copy, Debug, PartialEq, Eq)]
-pub struct Told {
-    /// What the compound is that the call wrote into the room, and that is to be sent now, if there is one.
-    pub out: Option<OutKind>,
+pub struct Written {
+    /// What it is.
+    pub kind: OutKind,
+    /// How many octets it has: at most the limit of the configuration.
+    pub size: usize,
+}
+
+impl Written {
+    /// Writes a compound to the start of the octets.
+    pub(crate) fn into_octets(
+        kind: OutKind,
+        compound: &[u8],
+        octets: &mut [u8; MAX_COMPOUND],
+    ) -> Written
+        requires { length compound.now ≤ 1472 }
+        ensures out { out_in octets.new (Some result) ≡ Some (record { kind = kind; octets = compound.now }) }
+        ensures leaves { LeavesRest octets.old octets.new (Some result) }
+    {
+        octets[..compound.len()].copy_from_slice(compound);
+        Written {
+            kind,
+            size: compound.len(),
+        }
+    }
+}
+
+/// Who is there, and when to ask again.
+#[derive(Clone, Copy, Debug, PartialEq, Eq)]
+pub struct Standing {
     /// The members of the session, as in [`Step::members`].
     pub members: u32,
     /// Those of them that send RTP packets, as in [`Step::senders`].
     pub senders: u32,
     /// How many places of the table are taken, as in [`Step::entries`].
     pub entries: u32,
+    /// The SSRC under which the participant takes part, or did last.
+    pub ssrc: u32,
     /// When to call `tick` next, as in [`Step::next`].
     pub next: Option<u64>,
-    /// The participant's new SSRC, where the call changed it, as in [`Step::changed`].
-    pub changed: Option<u32>,
+}
+
+/// What a call that was taken answers, where its compound stands in the caller's octets: a [`Step`] that tells of the
+/// compound in place of having it.
+// The flag is first: then a refusal lies over none of the other fields, and the compiler takes none of them apart.
+#[derive(Clone, Copy, Debug, PartialEq, Eq)]
+pub struct Told {
     /// Whether the call changed the role of another source, as in [`Step::others_changed`].
     pub others_changed: bool,
+    /// The participant's new SSRC, where the call changed it, as in [`Step::changed`].
+    pub changed: Option<u32>,
+    /// The compound that the call wrote, and that is to be sent now, if there is one.
+    pub out: Option<Written>,
+    /// Where the participant stands after the call.
+    pub standing: Standing,
 }
 
 /// What was told, or why the call was refused.
@@ -81,8 +119,8 @@ pub type Reply = Result<Told, Refusal>;
 /// What an act brought, beside what it left of the participant.
 #[derive(Clone, Copy)]
 pub(crate) struct Brought {
-    /// What the compound is that was written, if one was.
-    pub(crate) out: Option<OutKind>,
+    /// The compound that was written, if one was.
+    pub(crate) out: Option<Written>,
     /// Whether the act changed the role of another source.
     pub(crate) others_changed: bool,
 }
@@ -93,27 +131,36 @@ pub(crate) const NOTHING: Brought = Brought {
     others_changed: false,
 };
 
-impl Told {
-    /// The step that has these octets as its compound, if a compound was written.
-    pub(crate) fn step(self, octets: ArrayVec<u8, MAX_COMPOUND>) -> Step
-        ensures value { step_value result ≡ told_value octets.items self }
-        ensures out { is_some result.out ≡ is_some self.out }
-    {
-        let out = match self.out {
-            Some(kind) => Some(Out {
-                kind,
-                bytes: octets,
-            }),
-            None => None,
-        };
-        Step {
-            members: self.members,
-            senders: self.senders,
-            entries: self.entries,
-            next: self.next,
-            changed: self.changed,
-            others_changed: self.others_changed,
-            out,
-        }
+/// The answer of a call whose reply is this, and whose compound stands in these octets, if it has one.
+pub(crate) fn answer_with(reply: Reply, octets: &[u8; MAX_COMPOUND]) -> Answer
+    requires { size_written (out_told reply) ≤ 1472 }
+    ensures { answer_value result ≡ reply_value octets.now reply }
+{
+    match reply {
+        Ok(told) => Ok(Step {
+            members: told.standing.members,
+            senders: told.standing.senders,
+            entries: told.standing.entries,
+            next: told.standing.next,
+            changed: told.changed,
+            others_changed: told.others_changed,
+            out: out_of(told.out, octets),
+        }),
+        Err(refusal) => Err(refusal),
     }
+}
+
+/// The compound that stands in these octets, if one was written.
+fn out_of(written: Option<Written>, octets: &[u8; MAX_COMPOUND]) -> Option<Out>
+    requires { size_written written ≤ 1472 }
+    ensures { option_map out_value result ≡ out_in octets.now written }
+{
+    let written = written?;
+    let mut bytes = ArrayVec::new();
+    let fits = bytes.try_extend_from_slice(&octets[..written.size]).is_ok();
+    prove!(fits);
+    Some(Out {
+        kind: written.kind,
+        bytes,
+    })
 }

@@ -79,9 +79,9 @@ pub(crate) fn check<T: MemberTable>(
         ≡ after_check (horizons_at silent_before data_before gone_before) (T.content table.old) }
     ensures moved { result ≡ check_moves (horizons_at silent_before data_before gone_before) (T.content table.old) }
 {
-    let before = Counts::of(table);
+    let before = RoleCounts::of(table);
     table.check(now, silent_before, data_before, gone_before);
-    Counts::of(table) != before
+    RoleCounts::of(table) != before
 }
 
 /// Lets a source go that the host knows to be gone, and returns whether that changed who is a member or who sends.
@@ -89,9 +89,9 @@ pub(crate) fn forget<T: MemberTable>(table: &mut T, ssrc: u32) -> bool
     ensures content { T.content table.new ≡ after_forgetting ssrc (T.content table.old) }
     ensures moved { result ≡ forgetting_moves ssrc (T.content table.old) }
 {
-    let before = Counts::of(table);
+    let before = RoleCounts::of(table);
     table.forget(ssrc);
-    Counts::of(table) != before
+    RoleCounts::of(table) != before
 }
 
 /// What a fact did.
@@ -122,28 +122,28 @@ fn apply_fact<T: MemberTable>(table: &mut T, fact: Fact, t: u64) -> Effect
     ensures counted { result.counted ≡ counted (T.content table.old) fact }
     ensures moved { result.moved ≡ counts_differ (T.content table.old) (T.content table.new) }
 {
-    let before = Counts::of(table);
+    let before = RoleCounts::of(table);
     let applied = table.apply(fact, t);
     Effect {
         counted: applied.counted,
-        moved: Counts::of(table) != before,
+        moved: RoleCounts::of(table) != before,
     }
 }
 
 /// How many sources of a table are members, and how many send. A fact changes who they are where it changes one of
 /// these numbers, as it is about one source, and so does a check, as it adds nobody.
 #[derive(Clone, Copy, PartialEq, Eq)]
-struct Counts {
+struct RoleCounts {
     members: u32,
     senders: u32,
 }
 
-impl Counts {
-    fn of<T: MemberTable>(table: &T) -> Counts
+impl RoleCounts {
+    fn of<T: MemberTable>(table: &T) -> RoleCounts
         ensures members { result.members ≡ members_in (T.content table.now) }
         ensures senders { result.senders ≡ senders_in (T.content table.now) }
     {
-        Counts {
+        RoleCounts {
             members: table.members(),
             senders: table.senders(),
         }

@@ -9,7 +9,7 @@ use Rattle.rtcp_wire.specs.Facts.{facts_of, facts_of_packet}
 use Rattle.rtcp_members.specs.Pending.{blocks_of}
 use Rattle.rtcp_report.specs.Reports.{SentValue, Reporter, reports_with, description_of, packets_with}
 use Rattle.rtcp_report.specs.Views.{items_of}
-use Rattle.rtcp_engine.specs.declared.changes.Change.{Change}
+use Rattle.rtcp_engine.specs.declared.changes.IdentifierChange.{IdentifierChange}
 use Rattle.rtcp_engine.specs.Setups.{Setup}
 use Rattle.rtcp_engine.specs.Acts.{Act, ticked}
 use Rattle.rtcp_engine.specs.Outcomes.{Outcome, interval_at}
@@ -54,7 +54,7 @@ one_names setup t interval outcome true =
           (extra_item setup.extras (length outcome.reports + 1)) (blocks_of t (reported_at setup t outcome));
     }) (All-nil NamesItsSource)
 
-names_by : (setup : Setup) (changes : List Change) (act : Act) (life : Life) →
+names_by : (setup : Setup) (changes : List IdentifierChange) (act : Act) (life : Life) →
     All NamesItsSource (decided_by (record { setup = setup; changes = changes; life = life }) act)
 names_by setup changes (ticked moment first_word second_word) (present outcome) =
     let now = checked setup moment outcome in

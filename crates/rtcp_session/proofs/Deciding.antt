@@ -5,7 +5,7 @@ use Rattle.std.proofs.lemmas.List.Elements.{All-nil, All-cons, All-append, All-h
 use Rattle.std.specs.Option.{option_or}
 use Rattle.rtcp_timer.specs.Loads.{interval_of, minimum_of}
 use Rattle.rtcp_timer.proofs.LawLemmas.{interval_has_minimum}
-use Rattle.rtcp_engine.specs.declared.changes.Change.{Change}
+use Rattle.rtcp_engine.specs.declared.changes.IdentifierChange.{IdentifierChange}
 use Rattle.rtcp_engine.specs.Setups.{Setup}
 use Rattle.rtcp_engine.specs.Acts.{Act, arrived, rtp_sent, ticked, left, configured, moment_of, forgotten}
 use Rattle.rtcp_engine.specs.OwnStreams.{has_sent}
@@ -134,7 +134,7 @@ sent_intervals setup outcome t interval changes is (Some out) =
     let report : Sent = record { moment = t; interval = interval; out = out; changes = changes } in
     one_interval setup outcome report is (is_report report)
 
-intervals_by : (setup : Setup) (changes : List Change) (act : Act) (life : Life) →
+intervals_by : (setup : Setup) (changes : List IdentifierChange) (act : Act) (life : Life) →
     All IsOfLoad (decided_by (record { setup = setup; changes = changes; life = life }) act)
 intervals_by setup changes (ticked moment first_word second_word) (present outcome) =
     let now = checked setup moment outcome in
@@ -178,7 +178,7 @@ all_such Q setup outcome is (report ∷ earlier) =
     All-cons (λ (decided : Decided). Q decided.setup decided.outcome) (decided_as setup outcome report)
     (map (decided_as setup outcome) earlier) is (all_such Q setup outcome is earlier)
 
-pub such_by : (Q : Setup → Outcome → Type 0) (setup : Setup) (changes : List Change) (act : Act) (life : Life)
+pub such_by : (Q : Setup → Outcome → Type 0) (setup : Setup) (changes : List IdentifierChange) (act : Act) (life : Life)
     → ((moment : ℕ) (outcome : Outcome) → life ≡ present outcome → Q setup (checked setup moment outcome))
     → All (λ decided. Q decided.setup decided.outcome)
     (decided_by (record { setup = setup; changes = changes; life = life }) act)

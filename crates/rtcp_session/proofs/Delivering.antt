@@ -192,14 +192,14 @@ module _ (delay moment : ℕ) where
   -- ---- Each takes the others for members
 
   -- unless they have the same SSRC, as each has with itself
-  abbrev Takes : Wait → Wait → Type 0
-  Takes wait its = (ssrc_of its == ssrc_of wait) ≡ false → TakesFor wait.next its.next
+  abbrev TakesIts : Wait → Wait → Type 0
+  TakesIts wait its = (ssrc_of its == ssrc_of wait) ≡ false → TakesFor wait.next its.next
 
   abbrev TakeEachOther : Wait → Wait → Type 0
   TakeEachOther wait its = TakesFor wait.next its.next × TakesFor its.next wait.next
 
   abbrev EachTakes : List Wait → List Wait → Type 0
-  EachTakes waits others = All (λ wait. All (Takes wait) others) waits
+  EachTakes waits others = All (λ wait. All (TakesIts wait) others) waits
 
   abbrev Cross : List Wait → List Wait → Type 0
   Cross waits others = All (λ wait. All (TakeEachOther wait) others) waits
@@ -232,33 +232,34 @@ module _ (delay moment : ℕ) where
       let rest = cross_all from width one others is (All-tail Stands other others stand)
       (All-tail (KnowEachOther delay from width one) other others follow) in
       λ k d inside.
-      let Takes : Wait → Type 0 = TakeEachOther (get_or (waiting from width one) k d) in
-      subst (All Takes) (sym (parts from width other others))
-      (All-append Takes (waiting from width other) (all_waiting from width others) (first k d inside) (rest k d inside))
+      let TakesIts : Wait → Type 0 = TakeEachOther (get_or (waiting from width one) k d) in
+      subst (All TakesIts) (sym (parts from width other others))
+      (All-append TakesIts (waiting from width other) (all_waiting from width others) (first k d inside)
+      (rest k d inside))
 
   each_of_one : (waits : List Wait) → length waits ≤ 1 → EachTakes waits waits
-  each_of_one [] few = All-nil (λ (wait : Wait). All (Takes wait) [])
+  each_of_one [] few = All-nil (λ (wait : Wait). All (TakesIts wait) [])
   each_of_one (wait ∷ []) few =
-      All-cons (λ (wait' : Wait). All (Takes wait') (wait ∷ [])) wait []
-      (All-cons (Takes wait) wait [] (λ apart. absurd (both_ways (ssrc_of wait == ssrc_of wait) apart
-      (eq-eqb (ssrc_of wait) (ssrc_of wait) refl))) (All-nil (Takes wait)))
-      (All-nil (λ (wait' : Wait). All (Takes wait') (wait ∷ [])))
+      All-cons (λ (wait' : Wait). All (TakesIts wait') (wait ∷ [])) wait []
+      (All-cons (TakesIts wait) wait [] (λ apart. absurd (both_ways (ssrc_of wait == ssrc_of wait) apart
+      (eq-eqb (ssrc_of wait) (ssrc_of wait) refl))) (All-nil (TakesIts wait)))
+      (All-nil (λ (wait' : Wait). All (TakesIts wait') (wait ∷ [])))
   each_of_one (wait ∷ another ∷ others) few = absurd (omega (arith, few))
 
   each_of_two : (waits others : List Wait) → EachTakes waits waits → EachTakes others others → Cross waits others →
       EachTakes (waits ++ others) (waits ++ others)
   each_of_two waits others one other cross =
-      All-append (λ (wait : Wait). All (Takes wait) (waits ++ others)) waits others
+      All-append (λ (wait : Wait). All (TakesIts wait) (waits ++ others)) waits others
       (λ k d inside.
       let wait : Wait = get_or waits k d in
-      All-append (Takes wait) waits others (one k d inside) (λ j e within apart. (cross k d inside j e within).0))
+      All-append (TakesIts wait) waits others (one k d inside) (λ j e within apart. (cross k d inside j e within).0))
       (λ j e within.
       let wait : Wait = get_or others j e in
-      All-append (Takes wait) waits others (λ k d inside apart. (cross k d inside j e within).1) (other j e within))
+      All-append (TakesIts wait) waits others (λ k d inside apart. (cross k d inside j e within).1) (other j e within))
 
   each_takes : (from width : ℕ) (all : List Joined) → All Stands all → AllPairs (KnowEachOther delay from width) all →
       EachTakes (all_waiting from width all) (all_waiting from width all)
-  each_takes from width [] stand follow = All-nil (λ (wait : Wait). All (Takes wait) [])
+  each_takes from width [] stand follow = All-nil (λ (wait : Wait). All (TakesIts wait) [])
   each_takes from width (joined ∷ others) stand follow =
       let is = All-head Stands joined others stand in
       let rest = All-tail Stands joined others stand in
@@ -362,10 +363,10 @@ module _ (delay moment : ℕ) where
   abbrev others_of : Wait → List Wait → List Wait
   others_of wait waits = filter (is_other (ssrc_of wait)) waits
 
-  others_taken : (wait : Wait) (waits : List Wait) → All (Takes wait) waits →
+  others_taken : (wait : Wait) (waits : List Wait) → All (TakesIts wait) waits →
       All (λ its. TakesFor wait.next its.next) (others_of wait waits)
   others_taken wait waits h =
-      let kept = All-filter (is_other (ssrc_of wait)) (Takes wait) waits h in
+      let kept = All-filter (is_other (ssrc_of wait)) (TakesIts wait) waits h in
       let passes = filter_passes (is_other (ssrc_of wait)) waits in
       λ k d inside. kept k d inside (not-true _ (passes k d inside))
 
@@ -376,7 +377,7 @@ module _ (delay moment : ℕ) where
       let same = length-map (others_of wait waits) ssrc_of in
       omega (arith, more, same)
 
-  members_heard : (wait : Wait) (waits : List Wait) → AreApart waits → All (Takes wait) waits →
+  members_heard : (wait : Wait) (waits : List Wait) → AreApart waits → All (TakesIts wait) waits →
       AreHeard is_member wait.next.setup wait.next.outcome (map ssrc_of (others_of wait waits))
   members_heard wait waits apart h =
       let own = wait.next in
@@ -391,7 +392,7 @@ module _ (delay moment : ℕ) where
   role_is true wait is = is
   role_is false wait is = not-true (load_at wait.next).we_sent is
 
-  role_heard : (wait : Wait) (waits : List Wait) → AreApart waits → All (Takes wait) waits →
+  role_heard : (wait : Wait) (waits : List Wait) → AreApart waits → All (TakesIts wait) waits →
       AreHeard (has_role (load_at wait.next).we_sent) wait.next.setup wait.next.outcome
       (map ssrc_of (others_of wait (waits_as (load_at wait.next).we_sent waits)))
   role_heard wait waits apart h =
@@ -399,7 +400,7 @@ module _ (delay moment : ℕ) where
       let role : Bool = (load_at own).we_sent in
       let those : List Wait = waits_as role waits in
       let kept = some_apart (reports_next_as role) waits apart in
-      let taken = others_taken wait those (All-filter (reports_next_as role) (Takes wait) waits h) in
+      let taken = others_taken wait those (All-filter (reports_next_as role) (TakesIts wait) waits h) in
       let alike = All-filter (is_other (ssrc_of wait)) (λ (its : Wait). reports_next_as role its ≡ true) those
       (filter_passes (reports_next_as role) waits) in
       record {

@@ -12,7 +12,7 @@ use Rattle.std.proofs.lemmas.Grind.{div_ceil_times}
 use Rattle.rtcp_timer.specs.Averages.{with_headers}
 use Rattle.rtcp_timer.specs.Loads.{interval_of}
 use Rattle.rtcp_timer.proofs.LawLemmas.{interval_has_minimum}
-use Rattle.rtcp_engine.specs.declared.changes.Change.{Change}
+use Rattle.rtcp_engine.specs.declared.changes.IdentifierChange.{IdentifierChange}
 use Rattle.rtcp_engine.specs.Setups.{Setup, IsUsable}
 use Rattle.rtcp_engine.specs.Acts.{Datagram, Act, arrived, rtp_sent, ticked, left, configured, forgotten}
 use Rattle.rtcp_engine.specs.OwnStreams.{has_sent}
@@ -78,7 +78,7 @@ module _ (Q : Parting → Type 0) where
   by_tick setup backoff moment word true is h = All-cons Q (parting_at moment setup backoff) [] (h is) (All-nil Q)
   by_tick setup backoff moment word false is h = All-nil Q
 
-  by_arrival : (setup : Setup) (changes : List Change) (outcome : Outcome) (backoff : Backoff)
+  by_arrival : (setup : Setup) (changes : List IdentifierChange) (outcome : Outcome) (backoff : Backoff)
       (moment peer word : ℕ) (datagram : Datagram) (change : Option NewIdentifier) →
       let session : Session = record { setup = setup; changes = changes; life = backing_off outcome backoff } in
       let act : Act = arrived moment peer word datagram in
@@ -89,7 +89,7 @@ module _ (Q : Parting → Type 0) where
   by_arrival setup changes outcome backoff moment peer word datagram (Some new) =
       none_of_change setup backoff moment (bye_octets setup) (has_sent outcome.own)
 
-  in_backoff : (setup : Setup) (changes : List Change) (outcome : Outcome) (backoff : Backoff) (act : Act) →
+  in_backoff : (setup : Setup) (changes : List IdentifierChange) (outcome : Outcome) (backoff : Backoff) (act : Act) →
       ((moment first_word second_word : ℕ) → act ≡ ticked moment first_word second_word →
       is_bye_due setup moment first_word backoff ≡ true → Q (parting_at moment setup backoff)) →
       All Q (parted_with setup backoff
@@ -107,7 +107,7 @@ module _ (Q : Parting → Type 0) where
   in_backoff setup changes outcome backoff (configured moment settings) h = All-nil Q
   in_backoff setup changes outcome backoff (forgotten moment ssrc) h = All-nil Q
 
-  in_life : (setup : Setup) (changes : List Change) (life : Life) (act : Act) →
+  in_life : (setup : Setup) (changes : List IdentifierChange) (life : Life) (act : Act) →
       ((outcome : Outcome) (backoff : Backoff) (moment first_word second_word : ℕ) →
       life ≡ backing_off outcome backoff → act ≡ ticked moment first_word second_word →
       is_bye_due setup moment first_word backoff ≡ true → Q (parting_at moment setup backoff)) →

@@ -15,7 +15,7 @@ use Rattle.rtcp_engine.specs.declared.refusal.Refusal.{Refusal}
 use Rattle.rtcp_engine.specs.declared.refusal.Refusal.TheVariants.{Backwards}
 use Rattle.rtcp_engine.specs.Setups.{Setup}
 use Rattle.rtcp_engine.specs.Acts.{Act, Datagram, rtcp, rtp, arrived, rtp_sent, ticked, left, configured, moment_of, forgotten}
-use Rattle.rtcp_engine.specs.declared.changes.Change.{Change}
+use Rattle.rtcp_engine.specs.declared.changes.IdentifierChange.{IdentifierChange}
 use Rattle.rtcp_engine.specs.Steps.{OutValue}
 use Rattle.rtcp_engine.specs.Sent.{Sent, is_report, reports_in, sent_with}
 use Rattle.rtcp_engine.specs.Outcomes.{Outcome, member_count, check_interval, interval_at}
@@ -164,7 +164,7 @@ sent_moments setup outcome t interval changes (Some out) =
     let report : Sent = record { moment = t; interval = interval; out = out; changes = changes } in
     one_moment setup outcome report (is_report report)
 
-moments_by : (setup : Setup) (changes : List Change) (act : Act) (life : Life) →
+moments_by : (setup : Setup) (changes : List IdentifierChange) (act : Act) (life : Life) →
     All (IsAt (moment_of act)) (decided_by (record { setup = setup; changes = changes; life = life }) act)
 moments_by setup changes (ticked moment first_word second_word) (present outcome) =
     let now = checked setup moment outcome in

@@ -34,7 +34,8 @@ pub(crate) fn push_sources<T: MemberTable>(
         (members_in_life (setup_at history) (life_at history)) (senders_in_life (setup_at history) (life_at history))
         (noted_in notes.now) states)) }
 {
-    push_counts(out, participant.members(), participant.senders())?;
+    let standing = participant.standing();
+    push_counts(out, standing.members, standing.senders)?;
     for state in participant.sources() {
         push_noted_row(out, &state, notes)?;
     }

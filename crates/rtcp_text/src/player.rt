@@ -6,7 +6,6 @@ use crate::answerer::Answerer;
 use crate::event_line::{EventBuffers, EventFault, read_event};
 use crate::fault::TextFault;
 use crate::text::push_reply;
-use arrayvec::ArrayVec;
 use rtcp_engine::Participant;
 use rtcp_members::MemberTable;
 use rtcp_wire::MAX_COMPOUND;
@@ -18,7 +17,7 @@ use std::alloc::{AllocError, Global};
 pub(crate) struct Player<T: MemberTable> {
     participant: Participant<T>,
     buffers: EventBuffers,
-    compound: ArrayVec<u8, MAX_COMPOUND>,
+    octets: [u8; MAX_COMPOUND],
 }
 
 impl<T: MemberTable> Player<T> {
@@ -29,7 +28,7 @@ impl<T: MemberTable> Player<T> {
         Player {
             participant,
             buffers: EventBuffers::new(alloc),
-            compound: ArrayVec::new(),
+            octets: [0; MAX_COMPOUND],
         }
     }
 }
@@ -52,8 +51,8 @@ impl<T: MemberTable + Drop> Answerer for Player<T> {
             }
             Err(EventFault::Memory) => return Err(TextFault::Memory),
         };
-        let reply = self.participant.tell_into(&event, &mut self.compound);
-        match push_reply(text, &reply, &self.compound) {
+        let reply = self.participant.tell_into(&event, &mut self.octets);
+        match push_reply(text, &reply, &self.octets) {
             Ok(()) => Ok(()),
             Err(AllocError) => Err(TextFault::Memory),
         }

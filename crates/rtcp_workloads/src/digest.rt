@@ -55,7 +55,7 @@ impl Digest {
     }
 
     /// Mixes what a call answered, and the compound that it wrote, if it did.
-    pub fn reply(&mut self, reply: &Reply, room: &[u8]) {
+    pub fn reply(&mut self, reply: &Reply, room: &[u8; 1472]) {
         match reply {
             Ok(told) => self.told(told, room),
             Err(refusal) => self.error(refusal),
@@ -77,16 +77,17 @@ impl Digest {
     }
 
     /// Mixes what a call that was taken answered.
-    fn told(&mut self, told: &Told, room: &[u8]) {
+    fn told(&mut self, told: &Told, room: &[u8; 1472]) {
+        let standing = told.standing;
         self.numbers(&[
-            pair(told.members, told.senders),
-            (u64::from(told.entries) << 1) ^ u64::from(told.others_changed),
-            told.next.unwrap_or(u64::MAX),
+            pair(standing.members, standing.senders),
+            (u64::from(standing.entries) << 1) ^ u64::from(told.others_changed),
+            standing.next.unwrap_or(u64::MAX),
             told.changed.map_or(u64::MAX, u64::from),
-            told.out.map_or(0, kind_number),
+            told.out.map_or(0, |out| kind_number(out.kind)),
         ]);
-        if told.out.is_some() {
-            self.octets(room);
+        if let Some(out) = told.out {
+            self.octets(&room[..out.size.min(1472)]);
         }
     }
 

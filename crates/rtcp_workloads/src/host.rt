@@ -11,7 +11,7 @@ use std::alloc::{AllocError, Global};
 #[derive(Drop)]
 pub struct Host {
     participant: Participant<HeapTable>,
-    room: ArrayVec<u8, 1472>,
+    room: [u8; 1472],
     next: u64,
 }
 
@@ -63,7 +63,7 @@ impl Host {
         let next = participant.next().unwrap_or(u64::MAX);
         Ok(Some(Host {
             participant,
-            room: ArrayVec::new(),
+            room: [0; 1472],
             next,
         }))
     }
@@ -80,10 +80,10 @@ impl Host {
         let reply = self
             .participant
             .arrive_rtp_into(now, peer, word, octets, &mut self.room);
-        digest.reply(&reply, self.room.as_slice());
+        digest.reply(&reply, &self.room);
         match reply {
             Ok(told) => {
-                self.next = told.next.unwrap_or(u64::MAX);
+                self.next = told.standing.next.unwrap_or(u64::MAX);
                 told.others_changed
             }
             Err(_) => false,
@@ -102,10 +102,10 @@ impl Host {
         let reply = self
             .participant
             .arrive_rtcp_into(now, peer, word, octets, &mut self.room);
-        digest.reply(&reply, self.room.as_slice());
+        digest.reply(&reply, &self.room);
         match reply {
             Ok(told) => {
-                self.next = told.next.unwrap_or(u64::MAX);
+                self.next = told.standing.next.unwrap_or(u64::MAX);
                 told.others_changed
             }
             Err(_) => false,
@@ -114,8 +114,10 @@ impl Host {
 
     /// The host sent a packet of 160 octets.
     pub fn sent(&mut self, now: u64, timestamp: u32, digest: &mut Digest) {
-        let reply = self.participant.sent_rtp_told(now, timestamp, 160);
-        digest.reply(&reply, &[]);
+        let reply = self
+            .participant
+            .sent_rtp_into(now, timestamp, 160, &mut self.room);
+        digest.reply(&reply, &self.room);
     }
 
     /// A tick. Returns whether who is there changed.
@@ -125,10 +127,10 @@ impl Host {
         let reply = self
             .participant
             .tick_into(now, first, second, &mut self.room);
-        digest.reply(&reply, self.room.as_slice());
+        digest.reply(&reply, &self.room);
         match reply {
             Ok(told) => {
-                self.next = told.next.unwrap_or(u64::MAX);
+                self.next = told.standing.next.unwrap_or(u64::MAX);
                 told.others_changed
             }
             Err(_) => false,
@@ -143,7 +145,7 @@ impl Host {
     /// Leaves.
     pub fn leave(&mut self, now: u64, word: u32, digest: &mut Digest) {
         let reply = self.participant.leave_into(now, word, &mut self.room);
-        digest.reply(&reply, self.room.as_slice());
+        digest.reply(&reply, &self.room);
     }
 
     /// Mixes who is there.

@@ -59,7 +59,7 @@ impl Call<'_> {
         alloc: Global,
         handle: &mut Handle,
         shift: u64,
-        step: &mut Step,
+        step: &mut HostStep,
         octets: &mut [u8; 1_472],
     ) -> u32 {
         let on = |moment: u64| moment.saturating_add(shift);
@@ -98,18 +98,18 @@ impl Call<'_> {
 pub(super) struct Row<'a> {
     pub(super) calls: &'a [Call<'a>],
     pub(super) status: u32,
-    pub(super) step: Step,
+    pub(super) step: HostStep,
     /// What the host's octets start with then. Where that is empty, they are as they were.
     pub(super) handed: &'a [u8],
     /// What is told of the sources then: from which SSRC on, the status, and the source as it then is.
-    pub(super) sources: &'a [(u64, u32, Source)],
+    pub(super) sources: &'a [(u64, u32, HostSource)],
 }
 
 impl Row<'_> {
     /// Each of its calls does what the row says, on a clock that is `shift` ahead.
     fn holds(&self, alloc: Global, handle: &mut Handle, shift: u64) -> bool {
         let next = self.step.next.saturating_add(shift);
-        let wanted = Step { next, ..self.step };
+        let wanted = HostStep { next, ..self.step };
         for call in self.calls {
             let (mut step, mut octets) = (UNTOLD, [7; 1_472]);
             let status = call.make(alloc, handle, shift, &mut step, &mut octets);
@@ -140,7 +140,7 @@ impl Row<'_> {
 }
 
 /// What is told at any time is what the last call told.
-fn shows(alloc: Global, handle: &mut Handle, step: &Step) -> bool {
+fn shows(alloc: Global, handle: &mut Handle, step: &HostStep) -> bool {
     jalwedd_members(alloc, handle) == step.members
         && jalwedd_senders(alloc, handle) == step.senders
         && jalwedd_next(alloc, handle) == step.next
@@ -149,8 +149,8 @@ fn shows(alloc: Global, handle: &mut Handle, step: &Step) -> bool {
 }
 
 /// A source on a clock that is `shift` ahead.
-fn later(source: &Source, shift: u64) -> Source {
-    Source {
+fn later(source: &HostSource, shift: u64) -> HostSource {
+    HostSource {
         heard: source.heard.saturating_add(shift),
         left: source.left.saturating_add(shift),
         told: source.told.saturating_add(shift),
@@ -159,7 +159,7 @@ fn later(source: &Source, shift: u64) -> Source {
 }
 
 /// What no call wrote.
-const UNTOLD: Step = Step {
+const UNTOLD: HostStep = HostStep {
     next: 99,
     members: 99,
     senders: 99,
@@ -172,7 +172,7 @@ const UNTOLD: Step = Step {
 };
 
 /// A source that no call wrote.
-pub(super) const NO_SOURCE: Source = Source {
+pub(super) const NO_SOURCE: HostSource = HostSource {
     heard: 99,
     ssrc: 99,
     ..NOBODY

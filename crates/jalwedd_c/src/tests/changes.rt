@@ -3,38 +3,38 @@
 use super::*;
 use crate::change::jalwedd_change;
 
-const MEMBER: Source = Source {
+const MEMBER: HostSource = HostSource {
     member: 1,
     ..NOBODY
 };
 
-const SENDER: Source = Source {
+const SENDER: HostSource = HostSource {
     sender: 1,
     ..MEMBER
 };
 
-const GONE: Source = Source { left: 7, ..NOBODY };
+const GONE: HostSource = HostSource { left: 7, ..NOBODY };
 
-const FIRST_MEMBER: Source = Source { ssrc: 1, ..MEMBER };
+const FIRST_MEMBER: HostSource = HostSource { ssrc: 1, ..MEMBER };
 
-const FIRST_SENDER: Source = Source { ssrc: 1, ..SENDER };
+const FIRST_SENDER: HostSource = HostSource { ssrc: 1, ..SENDER };
 
-const SECOND_GONE: Source = Source { ssrc: 2, ..GONE };
+const SECOND_GONE: HostSource = HostSource { ssrc: 2, ..GONE };
 
-const THIRD_MEMBER: Source = Source { ssrc: 3, ..MEMBER };
+const THIRD_MEMBER: HostSource = HostSource { ssrc: 3, ..MEMBER };
 
 /// Sources on probation, of which no more is told.
-const SECOND_UNKNOWN: Source = Source { ssrc: 2, ..NOBODY };
+const SECOND_UNKNOWN: HostSource = HostSource { ssrc: 2, ..NOBODY };
 
-const FIFTH_UNKNOWN: Source = Source { ssrc: 5, ..NOBODY };
+const FIFTH_UNKNOWN: HostSource = HostSource { ssrc: 5, ..NOBODY };
 
-const SIXTH_UNKNOWN: Source = Source { ssrc: 6, ..NOBODY };
+const SIXTH_UNKNOWN: HostSource = HostSource { ssrc: 6, ..NOBODY };
 
 /// The greatest SSRC.
 const LAST: u32 = u32::MAX;
 
 /// Any number but 0 is as 1.
-const LISTED: Source = Source {
+const LISTED: HostSource = HostSource {
     ssrc: 1,
     member: 7,
     sender: u32::MAX,
@@ -42,7 +42,7 @@ const LISTED: Source = Source {
 };
 
 /// No moment but 2^64 - 1 says that a source did not leave.
-const NOT_VALID: Source = Source {
+const NOT_VALID: HostSource = HostSource {
     ssrc: 1,
     sender: 1,
     left: 0,
@@ -51,35 +51,39 @@ const NOT_VALID: Source = Source {
 
 /// 1 timed out, 2 left, 3 began to send, 4 stopped, 5 came on probation, 6 is valid now, and 7 stays. The
 /// greatest SSRC joined.
-const BEFORE: &[Source] = &[
+const BEFORE: &[HostSource] = &[
     FIRST_MEMBER,
-    Source { ssrc: 2, ..SENDER },
+    HostSource { ssrc: 2, ..SENDER },
     THIRD_MEMBER,
-    Source { ssrc: 4, ..SENDER },
+    HostSource { ssrc: 4, ..SENDER },
     SIXTH_UNKNOWN,
-    Source { ssrc: 7, ..MEMBER },
+    HostSource { ssrc: 7, ..MEMBER },
 ];
 
-const AFTER: &[Source] = &[
+const AFTER: &[HostSource] = &[
     SECOND_GONE,
-    Source { ssrc: 3, ..SENDER },
-    Source { ssrc: 4, ..MEMBER },
+    HostSource { ssrc: 3, ..SENDER },
+    HostSource { ssrc: 4, ..MEMBER },
     FIFTH_UNKNOWN,
-    Source { ssrc: 6, ..MEMBER },
-    Source { ssrc: 7, ..MEMBER },
-    Source {
+    HostSource { ssrc: 6, ..MEMBER },
+    HostSource { ssrc: 7, ..MEMBER },
+    HostSource {
         ssrc: LAST,
         ..SENDER
     },
 ];
 
-const BOTH: &[Source] = &[FIRST_MEMBER, Source { ssrc: 9, ..SENDER }];
+const BOTH: &[HostSource] = &[FIRST_MEMBER, HostSource { ssrc: 9, ..SENDER }];
 
 /// A change by its SSRC, the roles before and after, and whether the source left.
 type Moved = (u32, u32, u32, u32);
 
 /// Two listings, and the changes between them.
-type Listings = (&'static [Source], &'static [Source], &'static [Moved]);
+type Listings = (
+    &'static [HostSource],
+    &'static [HostSource],
+    &'static [Moved],
+);
 
 static LISTINGS: [Listings; 11] = [
     (
@@ -99,10 +103,10 @@ static LISTINGS: [Listings; 11] = [
     // One that left and is then dropped, and one that left on probation, took no part.
     (
         &[SECOND_GONE, FIFTH_UNKNOWN],
-        &[Source { ssrc: 5, ..GONE }],
+        &[HostSource { ssrc: 5, ..GONE }],
         &[],
     ),
-    (&[], &[Source { ssrc: 1, ..GONE }, SECOND_UNKNOWN], &[]),
+    (&[], &[HostSource { ssrc: 1, ..GONE }, SECOND_UNKNOWN], &[]),
     // Nobody was listed before, or nobody is now.
     (&[], BOTH, &[(1, 0, 1, 0), (9, 0, 2, 0)]),
     (BOTH, &[], &[(1, 1, 0, 0), (9, 2, 0, 0)]),
@@ -114,13 +118,19 @@ static LISTINGS: [Listings; 11] = [
 ];
 
 /// Two listings, where to begin, the status, and the change as it is then.
-type Ask = (&'static [Source], &'static [Source], u64, u32, Moved);
+type Ask = (
+    &'static [HostSource],
+    &'static [HostSource],
+    u64,
+    u32,
+    Moved,
+);
 
-const RISING: &[Source] = &[FIRST_MEMBER, THIRD_MEMBER];
+const RISING: &[HostSource] = &[FIRST_MEMBER, THIRD_MEMBER];
 
-const TWICE: &[Source] = &[FIRST_MEMBER, FIRST_SENDER];
+const TWICE: &[HostSource] = &[FIRST_MEMBER, FIRST_SENDER];
 
-const FALLING: &[Source] = &[MEMBER, THIRD_MEMBER, Source { ssrc: 2, ..MEMBER }];
+const FALLING: &[HostSource] = &[MEMBER, THIRD_MEMBER, HostSource { ssrc: 2, ..MEMBER }];
 
 static ASKS: [Ask; 8] = [
     (BEFORE, AFTER, 2, 0, (2, 2, 0, 1)),
@@ -138,7 +148,7 @@ static ASKS: [Ask; 8] = [
 const UNTOLD: Moved = (99, 99, 99, 99);
 
 /// What a call tells: its status, and the change as it then is.
-fn told(before: &[Source], after: &[Source], from: u64) -> (u32, Moved) {
+fn told(before: &[HostSource], after: &[HostSource], from: u64) -> (u32, Moved) {
     let (ssrc, was, is, left) = UNTOLD;
     let mut change = RoleChange {
         ssrc,
@@ -151,7 +161,7 @@ fn told(before: &[Source], after: &[Source], from: u64) -> (u32, Moved) {
 }
 
 /// Begun with 0, the changes are those, one after the other, and no more.
-fn are(before: &[Source], after: &[Source], changes: &[Moved]) -> bool {
+fn are(before: &[HostSource], after: &[HostSource], changes: &[Moved]) -> bool {
     let mut from = 0;
     for change in changes {
         if told(before, after, from) != (0, *change) {

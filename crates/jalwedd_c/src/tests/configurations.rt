@@ -160,7 +160,7 @@ fn configurations(rt: HostRuntime) {
     let alloc = rt.alloc();
     for (number, (given, cname, items, wanted)) in ROWS.iter().enumerate() {
         let config = given.config();
-        let (mut handle, mut step) = (Handle::empty(alloc), Step { next: 99, ..BLANK });
+        let (mut handle, mut step) = (Handle::empty(alloc), HostStep { next: 99, ..BLANK });
         let status = jalwedd_new(alloc, &mut handle, &config, cname, items, 0, &mut step);
         let freed = jalwedd_free(alloc, &mut handle);
         assert_eq!(rt; status, *wanted, "row {number}");

@@ -5,31 +5,31 @@ use super::sessions::{BEGINS, BEGUN, BYE_OF_SEVEN, CLOCKS, ENDS, OF_FIVE, ROW, U
 use super::*;
 
 /// The role of another source changed.
-const ALONE_AGAIN: Step = Step {
+const ALONE_AGAIN: HostStep = HostStep {
     others_changed: 1,
     ..BEGUN
 };
 
-const WITH_ONE: Step = Step {
+const WITH_ONE: HostStep = HostStep {
     members: 2,
     entries: 1,
     others_changed: 1,
     ..BEGUN
 };
 
-const WITH_BOTH: Step = Step {
+const WITH_BOTH: HostStep = HostStep {
     members: 3,
     entries: 2,
     ..WITH_ONE
 };
 
 /// One of two has said goodbye.
-const WITHOUT_SEVEN: Step = Step {
+const WITHOUT_SEVEN: HostStep = HostStep {
     members: 2,
     ..WITH_BOTH
 };
 
-const SEVEN_GONE: Source = Source {
+const SEVEN_GONE: HostSource = HostSource {
     heard: 400_000,
     left: 400_000,
     ssrc: 7,
@@ -38,7 +38,7 @@ const SEVEN_GONE: Source = Source {
 
 /// Nobody is to be forgotten: the step says what the last one did, but that no role changed.
 const UNCHANGED: Row<'static> = Row {
-    step: Step {
+    step: HostStep {
         members: 2,
         entries: 2,
         ..BEGUN
@@ -47,7 +47,7 @@ const UNCHANGED: Row<'static> = Row {
     ..ROW
 };
 
-/// Source 7 is forgotten, and comes again. Once it has said goodbye its entry stays.
+/// HostSource 7 is forgotten, and comes again. Once it has said goodbye its entry stays.
 const FORGETTING: &[Row<'static>] = &[
     BEGINS,
     Row {
@@ -58,7 +58,7 @@ const FORGETTING: &[Row<'static>] = &[
     Row {
         calls: &[Call::Forget(299_999, 7)],
         status: 2,
-        step: Step {
+        step: HostStep {
             others_changed: 0,
             ..WITH_ONE
         },

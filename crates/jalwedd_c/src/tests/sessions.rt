@@ -47,32 +47,32 @@ const ELEVEN_OF_NINE: [u8; 12] = [0x80, 0, 0, 11, 0, 0, 0, 0, 0, 0, 0, 9];
 const TWELVE_OF_OURS: [u8; 12] = [0x80, 0, 0, 12, 0, 0, 0, 0, 0, 0, 0, 0xaa];
 
 /// The first interval is 2.5 s, of which the words 0 and 2^32 - 1 draw half and one and a half, over 1.21828.
-pub(super) const BEGUN: Step = Step {
+pub(super) const BEGUN: HostStep = HostStep {
     next: 1_026_037,
     members: 1,
     ssrc: 0xaa,
     ..BLANK
 };
 
-const BEGUN_LATE: Step = Step {
+const BEGUN_LATE: HostStep = HostStep {
     next: 3_078_111,
     ..BEGUN
 };
 
 /// One member sends RTP packets.
-pub(super) const ONE_SENDER: Step = Step {
+pub(super) const ONE_SENDER: HostStep = HostStep {
     senders: 1,
     ..BEGUN
 };
 
 /// It has left.
-const GONE: Step = Step {
+const GONE: HostStep = HostStep {
     ssrc: 0xaa,
     ..BLANK
 };
 
 /// It leaves with a BYE.
-const LEAVING: Step = Step {
+const LEAVING: HostStep = HostStep {
     kind: 2,
     size: 28,
     ..GONE
@@ -112,7 +112,7 @@ const TICKS_EARLY: Row<'static> = Row {
 
 const REPORTS: Row<'static> = Row {
     calls: &[Call::Tick(1_026_037)],
-    step: Step {
+    step: HostStep {
         next: 3_078_111,
         kind: 1,
         size: 40,
@@ -161,7 +161,7 @@ const AT_TEN_MINUTES: &[Call<'static>] = &[
 ];
 
 /// What is told where nobody is listed.
-pub(super) const UNLISTED: &[(u64, u32, Source)] = &[(0, 9, NO_SOURCE)];
+pub(super) const UNLISTED: &[(u64, u32, HostSource)] = &[(0, 9, NO_SOURCE)];
 
 /// What an empty handle tells.
 const EMPTY: Row<'static> = Row {
@@ -181,7 +181,7 @@ const REPORTING: &[Row<'static>] = &[
     REPORTS,
     Row {
         calls: &[Call::Rtcp(1_026_037, &OF_SEVEN)],
-        step: Step {
+        step: HostStep {
             next: 3_078_111,
             members: 2,
             entries: 1,
@@ -197,7 +197,7 @@ const REPORTING: &[Row<'static>] = &[
         ..ROW
     },
     Row {
-        step: Step {
+        step: HostStep {
             others_changed: 1,
             ..LEAVING
         },
@@ -218,7 +218,7 @@ const COLLIDING: &[Row<'static>] = &[
     BEGINS,
     Row {
         calls: &[Call::Rtp(0, 7, 0xbb, &TEN_OF_NINE)],
-        step: Step {
+        step: HostStep {
             entries: 1,
             ..BEGUN
         },
@@ -226,7 +226,7 @@ const COLLIDING: &[Row<'static>] = &[
     },
     Row {
         calls: &[Call::Rtp(0, 7, 0xbb, &ELEVEN_OF_NINE)],
-        step: Step {
+        step: HostStep {
             members: 2,
             senders: 1,
             entries: 1,
@@ -237,7 +237,7 @@ const COLLIDING: &[Row<'static>] = &[
     },
     Row {
         calls: &[Call::Rtp(0, 7, 0xbb, &TWELVE_OF_OURS)],
-        step: Step {
+        step: HostStep {
             members: 2,
             senders: 1,
             ssrc: 0xbb,
@@ -262,7 +262,7 @@ const OVERSIZED: &[Row<'static>] = &[
     },
     Row {
         calls: &[Call::Rtp(0, 7, 0, &LONGEST)],
-        step: Step {
+        step: HostStep {
             entries: 1,
             ..BEGUN
         },
@@ -280,7 +280,7 @@ const LISTED: &[Row<'static>] = &[
     BEGINS,
     Row {
         calls: &[Call::Rtp(100_000, 9, 0, &TEN_OF_NINE)],
-        step: Step {
+        step: HostStep {
             entries: 1,
             ..BEGUN
         },
@@ -288,7 +288,7 @@ const LISTED: &[Row<'static>] = &[
     },
     Row {
         calls: &[Call::Rtp(100_000, 9, 0, &ELEVEN_OF_NINE)],
-        step: Step {
+        step: HostStep {
             members: 2,
             entries: 1,
             others_changed: 1,
@@ -298,7 +298,7 @@ const LISTED: &[Row<'static>] = &[
     },
     Row {
         calls: &[Call::Rtcp(200_000, &OF_FIVE)],
-        step: Step {
+        step: HostStep {
             members: 3,
             entries: 2,
             others_changed: 1,
@@ -308,7 +308,7 @@ const LISTED: &[Row<'static>] = &[
     },
     Row {
         calls: &[Call::Rtcp(300_000, &OF_SEVEN)],
-        step: Step {
+        step: HostStep {
             members: 4,
             entries: 3,
             others_changed: 1,
@@ -318,7 +318,7 @@ const LISTED: &[Row<'static>] = &[
     },
     Row {
         calls: &[Call::Rtcp(400_000, &BYE_OF_SEVEN)],
-        step: Step {
+        step: HostStep {
             members: 3,
             entries: 3,
             others_changed: 1,
@@ -330,7 +330,7 @@ const LISTED: &[Row<'static>] = &[
     ENDS,
 ];
 
-const FIVE: Source = Source {
+const FIVE: HostSource = HostSource {
     heard: 400_000,
     told: 200_000,
     ntp: 0x0000_0009_8000_0000,
@@ -340,14 +340,14 @@ const FIVE: Source = Source {
     ..NOBODY
 };
 
-const SEVEN_GONE: Source = Source {
+const SEVEN_GONE: HostSource = HostSource {
     heard: 300_000,
     left: 400_000,
     ssrc: 7,
     ..NOBODY
 };
 
-const NINE: Source = Source {
+const NINE: HostSource = HostSource {
     heard: 100_000,
     received: 1,
     highest: 11,
@@ -405,7 +405,7 @@ const TOO_EARLY: &[Row<'static>] = &[
 ];
 
 const BEGUN_IN_TEN_MINUTES: Row<'static> = Row {
-    step: Step {
+    step: HostStep {
         next: 601_026_037,
         ..BEGUN
     },

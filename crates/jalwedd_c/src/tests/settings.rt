@@ -88,7 +88,7 @@ const TWELVE: [u8; 12] = [0x80, 97, 0, 12, 0, 0, 0, 0, 0, 0, 0, 9];
 
 const THIRTEEN: [u8; 12] = [0x80, 96, 0, 13, 0, 0, 0, 0, 0, 0, 0, 9];
 
-const WITH_NINE: Step = Step {
+const WITH_NINE: HostStep = HostStep {
     members: 2,
     entries: 1,
     ..ONE_SENDER
@@ -99,7 +99,7 @@ const HEARD: Row<'static> = Row {
     ..ROW
 };
 
-const NINE: Source = Source {
+const NINE: HostSource = HostSource {
     heard: 100_000,
     received: 1,
     highest: 11,
@@ -120,7 +120,7 @@ const COUNTED: &[Row<'static>] = &[
     },
     Row {
         calls: &[Call::Rtp(100_000, 9, 0, &TEN)],
-        step: Step {
+        step: HostStep {
             entries: 1,
             ..BEGUN
         },
@@ -128,7 +128,7 @@ const COUNTED: &[Row<'static>] = &[
     },
     Row {
         calls: &[Call::Rtp(100_000, 9, 0, &ELEVEN)],
-        step: Step {
+        step: HostStep {
             others_changed: 1,
             ..WITH_NINE
         },
@@ -140,7 +140,7 @@ const COUNTED: &[Row<'static>] = &[
         sources: &[(
             0,
             0,
-            Source {
+            HostSource {
                 received: 2,
                 highest: 12,
                 rate: 8_000,
@@ -158,7 +158,7 @@ const COUNTED: &[Row<'static>] = &[
         sources: &[(
             0,
             0,
-            Source {
+            HostSource {
                 received: 3,
                 highest: 13,
                 ..NINE
@@ -179,7 +179,7 @@ const PUT_OFF: &[Row<'static>] = &[
     },
     Row {
         calls: &[Call::Tick(1_026_037)],
-        step: Step {
+        step: HostStep {
             next: 1_231_245,
             ..BEGUN
         },

@@ -1,25 +1,27 @@
-//! What a participant answers to a call that was taken.
+//! Where a participant stands, and what it answers to a call that was taken.
 
 ghost use Rattle.std.specs.Prelude.{◌≡◌, ℕ, List};
 ghost use Rattle.rtcp_engine.specs.Leaving.{Life};
-ghost use Rattle.rtcp_engine.specs.Lives.{step_into};
+ghost use Rattle.rtcp_engine.specs.Lives.{standing_in_life, step_into};
+ghost use Rattle.rtcp_engine.specs.Promises.{SaysStanding};
 ghost use Rattle.rtcp_engine.specs.States.{IsAt};
-ghost use Rattle.rtcp_engine.specs.Views.{out_with, told_value};
+ghost use Rattle.rtcp_engine.specs.Views.{out_in, told_value};
 
 use super::{Participant, Phase};
-use crate::step::{Brought, Told};
+use crate::step::{Brought, Standing, Told};
 use rtcp_members::MemberTable;
 
 impl<T: MemberTable> Participant<T> {
-    /// The answer of a call that was taken, and brought this.
+    /// Who is there and when to call `tick` next: all that each answer tells of it.
     // Inlined, so that each call writes its answer once, where its caller keeps that.
     #[inline(always)]
-    pub(super) fn told(&self, brought: Brought) -> Told
-        ensures exact { (octets : List ℕ) (life : Life) → IsAt self.now life → told_value octets result
-            ≡ step_into self.now.presence.setup (out_with octets brought.out) brought.others_changed life }
-        ensures out { result.out ≡ brought.out }
+    pub fn standing(&self) -> Standing
+        ensures says { SaysStanding result self.now }
+        ensures in_life { (life : Life) → IsAt self.now life →
+            result ≡ standing_in_life self.now.presence.setup life }
     {
         let presence = &self.presence;
+        let ssrc = presence.ssrc();
         let (members, senders, entries, next) = match self.phase {
             Phase::Present => (
                 presence.member_count(),
@@ -30,14 +32,28 @@ impl<T: MemberTable> Participant<T> {
             Phase::BackingOff(members) => (members, 0, 0, Some(presence.next_moment())),
             Phase::Gone => (0, 0, 0, None),
         };
-        Told {
-            out: brought.out,
+        Standing {
             members,
             senders,
             entries,
+            ssrc,
             next,
+        }
+    }
+
+    /// The answer of a call that was taken, and brought this.
+    #[inline(always)]
+    pub(super) fn told(&self, brought: Brought) -> Told
+        ensures exact { (octets : List ℕ) (life : Life) → IsAt self.now life → told_value octets result
+            ≡ step_into self.now.presence.setup (out_in octets brought.out) brought.others_changed life }
+        ensures standing { SaysStanding result.standing self.now }
+        ensures out { result.out ≡ brought.out }
+    {
+        Told {
+            standing: self.standing(),
             changed: None,
             others_changed: brought.others_changed,
+            out: brought.out,
         }
     }
 }

@@ -1,32 +1,25 @@
 //! A participant from its leave until its BYE is sent (RFC 3550, 6.3.7).
 
-ghost use Rattle.std.specs.Prelude.{◌≡◌, ◌≤◌, ℕ, None, Some, Ok, false, Bool};
+ghost use Rattle.std.specs.Prelude.{◌≡◌, ◌≤◌, ℕ, Bool, Ok, None, false};
 ghost use Rattle.rtcp_engine.specs.Acts.{arrived, left, rtcp, ticked};
-ghost use Rattle.rtcp_engine.specs.Lives.{bye_out};
 ghost use Rattle.rtcp_engine.specs.States.{Acts, KeepsCapacity, HasOthers, leaving, taking_part};
-ghost use Rattle.rtcp_engine.specs.Views.{out_with};
-ghost use Rattle.rtcp_engine.specs.Reporting.{bye_octets};
+ghost use Rattle.rtcp_engine.specs.Views.{LeavesRest, out_in};
 
 use super::{FEW_MEMBERS, Participant, Phase};
 use crate::byes::{MAX_LEAVING, count_byes};
-use crate::step::OutKind;
-use arrayvec::ArrayVec;
+use crate::step::Written;
 use rtcp_members::MemberTable;
 use rtcp_wire::{Compound, MAX_COMPOUND};
 
 impl<T: MemberTable> Participant<T> {
     /// Leaves: silently, with a BYE at once, or into a backoff. If some other is a member, nobody is told of any more.
-    pub(super) fn depart(
-        &mut self,
-        w: u32,
-        octets: &mut ArrayVec<u8, MAX_COMPOUND>,
-    ) -> Option<OutKind>
+    pub(super) fn depart(&mut self, w: u32, octets: &mut [u8; MAX_COMPOUND]) -> Option<Written>
         requires phase { self.old.phase ≡ taking_part }
         ensures new { (others_changed : Bool) → HasOthers self.old.presence others_changed →
-            Acts self.old self.new (left self.old.presence.latest w) (out_with octets.new.items result)
+            Acts self.old self.new (left self.old.presence.latest w) (out_in octets.new result)
             others_changed }
         ensures within { KeepsCapacity self.new.presence }
-        ensures untouched { result ≡ None → octets.new ≡ octets.old }
+        ensures leaves { LeavesRest octets.old octets.new result }
     {
         if self.presence.is_unheard() {
             self.phase = Phase::Gone;
@@ -34,7 +27,7 @@ impl<T: MemberTable> Participant<T> {
         }
         if self.presence.member_count() <= FEW_MEMBERS {
             self.phase = Phase::Gone;
-            return Some(self.bye(octets));
+            return Some(self.presence.write_bye(octets));
         }
         self.presence.back_off(w);
         self.phase = Phase::BackingOff(1);
@@ -64,27 +57,18 @@ impl<T: MemberTable> Participant<T> {
         &mut self,
         w1: u32,
         members: u32,
-        octets: &mut ArrayVec<u8, MAX_COMPOUND>,
-    ) -> Option<OutKind>
+        octets: &mut [u8; MAX_COMPOUND],
+    ) -> Option<Written>
         requires phase { self.old.phase ≡ leaving members }
         ensures new { (w2 : ℕ) →
-            Acts self.old self.new (ticked self.old.presence.latest w1 w2) (out_with octets.new.items result) false }
+            Acts self.old self.new (ticked self.old.presence.latest w1 w2) (out_in octets.new result) false }
         ensures within { KeepsCapacity self.new.presence }
-        ensures untouched { result ≡ None → octets.new ≡ octets.old }
+        ensures leaves { LeavesRest octets.old octets.new result }
     {
         if !self.presence.expire_backoff(w1, members) {
             return None;
         }
         self.phase = Phase::Gone;
-        Some(self.bye(octets))
-    }
-
-    /// Writes the participant's BYE, to be sent.
-    fn bye(&self, octets: &mut ArrayVec<u8, MAX_COMPOUND>) -> OutKind
-        ensures { out_with octets.new.items (Some result)
-            ≡ Some (bye_out (bye_octets self.now.presence.setup)) }
-    {
-        self.presence.write_bye(octets);
-        OutKind::Bye
+        Some(self.presence.write_bye(octets))
     }
 }

@@ -1,32 +1,29 @@
-//! The calls of a participant whose compound goes into the caller's room: it is written there once, and nothing
-//! of its size is handed on. `octets` changes only where the reply says what was written: a refusal leaves it as
-//! it was, and so does a call without a compound.
+//! The calls of a participant, one for each event: each writes its compound, if it has one, to the start of the caller's
+//! octets, and tells of it. The octets after it stay as they were, so a call without a compound leaves all.
 
-ghost use Rattle.std.specs.Prelude.{◌≡◌, ◌≤◌, ◌<◌, ◌^◌, ℕ, List, None, Ok, length, true, false, Result, IfOk, IfSome, IsTrue, is_some};
-ghost use Rattle.rtcp_engine.specs.Acts.{arrived, configured, forgotten, left, rtcp, rtp_sent, ticked, rtcp_came, rtp, rtp_came, IsReading, IsRtpReading};
+ghost use Rattle.std.specs.Prelude.{◌≡◌, ◌≤◌, ◌<◌, ◌^◌, ℕ, List, None, Ok, false, Result, IfOk, IsTrue, is_some};
+ghost use Rattle.rtcp_engine.specs.Acts.{arrived, configured, forgotten, left, rtp_sent, ticked, rtcp_came, rtp_came, IsReading, IsRtpReading};
 ghost use Rattle.rtcp_engine.specs.Changes.{is_about};
 ghost use Rattle.rtcp_engine.specs.Histories.{History};
-ghost use Rattle.rtcp_engine.specs.Promises.{Spares, Takes, PassesOn};
+ghost use Rattle.rtcp_engine.specs.InTime.{IsOverdue};
+ghost use Rattle.rtcp_engine.specs.Promises.{SaysStanding, Spares, Takes, Tells};
 ghost use Rattle.rtcp_engine.specs.States.{Admits, KeepsCapacity, StandsAt, refusal_by};
-ghost use Rattle.rtcp_engine.specs.Views.{datagram_of, kind_told, reply_value, settings_value, size_of, told_value};
+ghost use Rattle.rtcp_engine.specs.Views.{datagram_of, out_told, reply_value, settings_value, size_of, told_value};
 ghost use Rattle.rtcp_wire.specs.declared.fault.WireFault.{WireFault as Fault};
 ghost use Rattle.rtcp_wire.specs.declared.rtp.fault.RtpFault.{RtpFault as HeadFault};
 ghost use Rattle.rtcp_wire.specs.Values.{RtcpPacket};
 ghost use Rattle.rtcp_wire.specs.RtpHeads.{RtpValue};
-ghost use Rattle.rtcp_engine.specs.InTime.{IsOverdue};
 
 use super::{Participant, Phase};
 use crate::arrival::Arrival;
 use crate::refusal::Refusal;
 use crate::settings::Settings;
 use crate::step::{Brought, NOTHING, Reply, Told};
-use arrayvec::ArrayVec;
 use rtcp_members::MemberTable;
 use rtcp_wire::{Compound, MAX_COMPOUND, RtpHead};
 
 impl<T: MemberTable> Participant<T> {
-    /// [`arrive_rtcp`](Participant::arrive_rtcp), where the BYE of an SSRC that is given up replaces what stood
-    /// in `octets`.
+    /// [`arrive_rtcp`](Participant::arrive_rtcp), with the BYE of an SSRC that is given up in `octets`.
     ///
     /// # Errors
     ///
@@ -37,13 +34,12 @@ impl<T: MemberTable> Participant<T> {
         peer: u64,
         w: u32,
         bytes: &[u8],
-        octets: &mut ArrayVec<u8, MAX_COMPOUND>,
+        octets: &mut [u8; MAX_COMPOUND],
     ) -> Reply
         ensures takes { (reading : Result (List RtcpPacket) Fault) → IsReading bytes.now reading →
-            Takes self.old (rtcp_came now peer w bytes.now reading) (reply_value octets.new.items result)
-            self.new }
+            Takes self.old (rtcp_came now peer w bytes.now reading) (reply_value octets.new result) self.new }
         ensures spares { Spares self.old result self.new }
-        ensures untouched { kind_told result ≡ None → octets.new ≡ octets.old }
+        ensures tells { Tells octets.old octets.new result self.new }
     {
         if let Some(refusal) = self.refusal(now) {
             return Err(refusal);
@@ -61,36 +57,7 @@ impl<T: MemberTable> Participant<T> {
         Ok(self.arrive_as_other(now, &datagram))
     }
 
-    /// [`arrive_rtcp`](Participant::arrive_rtcp) of a datagram that changes no identifier. That never has a
-    /// compound: so it takes no room for one, nor a word for a new SSRC. `None` where none of E1 to E5 applies,
-    /// the datagram names the own SSRC and its peer may change that: then the participant is unchanged, and
-    /// `arrive_rtcp_into` takes the datagram.
-    ///
-    /// # Errors
-    ///
-    /// The first of E1 to E5 and E7 that applies. Then the participant is unchanged.
-    pub fn arrive_rtcp_told(&mut self, now: u64, peer: u64, bytes: &[u8]) -> Option<Reply>
-        ensures takes { (w : ℕ) (room : List ℕ) (reading : Result (List RtcpPacket) Fault) → w < 2 ^ 32 →
-            IsReading bytes.now reading → IfSome result (λ reply.
-            Takes self.old (rtcp_came now peer w bytes.now reading) (reply_value room reply) self.new) }
-        ensures admitted { result ≡ None → refusal_by now self.old ≡ None }
-        ensures own { (reading : Result (List RtcpPacket) Fault) → IsReading bytes.now reading → result ≡ None →
-            is_about self.old.presence.setup.ssrc (rtcp (length bytes.now) reading) ≡ true }
-        ensures passes { PassesOn self.old peer result self.new }
-    {
-        if let Some(refusal) = self.refusal(now) {
-            return Some(Err(refusal));
-        }
-        let compound = match Compound::read(bytes) {
-            Ok(compound) => compound,
-            Err(fault) => return Some(Err(Refusal::Wire(fault))),
-        };
-        let datagram = Arrival::Rtcp(compound, bytes.len());
-        self.arrive_told(now, peer, &datagram)
-    }
-
-    /// [`arrive_rtp`](Participant::arrive_rtp), where the BYE of an SSRC that is given up replaces what stood
-    /// in `octets`.
+    /// [`arrive_rtp`](Participant::arrive_rtp), with the BYE of an SSRC that is given up in `octets`.
     ///
     /// # Errors
     ///
@@ -101,12 +68,12 @@ impl<T: MemberTable> Participant<T> {
         peer: u64,
         w: u32,
         bytes: &[u8],
-        octets: &mut ArrayVec<u8, MAX_COMPOUND>,
+        octets: &mut [u8; MAX_COMPOUND],
     ) -> Reply
         ensures takes { (reading : Result RtpValue HeadFault) → IsRtpReading bytes.now reading →
-            Takes self.old (rtp_came now peer w reading) (reply_value octets.new.items result) self.new }
+            Takes self.old (rtp_came now peer w reading) (reply_value octets.new result) self.new }
         ensures spares { Spares self.old result self.new }
-        ensures untouched { kind_told result ≡ None → octets.new ≡ octets.old }
+        ensures tells { Tells octets.old octets.new result self.new }
     {
         if let Some(refusal) = self.refusal(now) {
             return Err(refusal);
@@ -123,54 +90,32 @@ impl<T: MemberTable> Participant<T> {
         Ok(self.arrive_as_other(now, &packet))
     }
 
-    /// [`arrive_rtp`](Participant::arrive_rtp) of a packet that changes no identifier. That never has a compound:
-    /// so it takes no room for one, nor a word for a new SSRC. `None` where none of E1 to E4 and E6 applies, the
-    /// packet comes from the own SSRC and its peer may change that: then the participant is unchanged, and
-    /// `arrive_rtp_into` takes the packet.
-    ///
-    /// # Errors
-    ///
-    /// The first of E1 to E4, E6 and E7 that applies. Then the participant is unchanged.
-    pub fn arrive_rtp_told(&mut self, now: u64, peer: u64, bytes: &[u8]) -> Option<Reply>
-        ensures takes { (w : ℕ) (room : List ℕ) (reading : Result RtpValue HeadFault) → w < 2 ^ 32 →
-            IsRtpReading bytes.now reading → IfSome result (λ reply.
-            Takes self.old (rtp_came now peer w reading) (reply_value room reply) self.new) }
-        ensures admitted { result ≡ None → refusal_by now self.old ≡ None }
-        ensures own { (reading : Result RtpValue HeadFault) → IsRtpReading bytes.now reading → result ≡ None →
-            is_about self.old.presence.setup.ssrc (rtp reading) ≡ true }
-        ensures passes { PassesOn self.old peer result self.new }
-    {
-        if let Some(reason) = self.refusal(now) {
-            return Some(Err(reason));
-        }
-        let head = match RtpHead::read(bytes) {
-            Ok(head) => head,
-            Err(fault) => return Some(Err(Refusal::Rtp(fault))),
-        };
-        let packet = Arrival::Rtp(head);
-        self.arrive_told(now, peer, &packet)
-    }
-
-    /// [`sent_rtp`](Participant::sent_rtp), which never has a compound: so it takes no room for one.
+    /// [`sent_rtp`](Participant::sent_rtp), which never has a compound.
     ///
     /// # Errors
     ///
     /// The first of E1 to E4 that applies. Then the participant is unchanged.
-    pub fn sent_rtp_told(&mut self, now: u64, rtp_ts: u32, octets: u32) -> Reply
-        ensures takes { (room : List ℕ) →
-            Takes self.old (rtp_sent now rtp_ts octets) (reply_value room result) self.new }
-        ensures empty { kind_told result ≡ None }
+    pub fn sent_rtp_into(
+        &mut self,
+        now: u64,
+        rtp_ts: u32,
+        size: u32,
+        octets: &mut [u8; MAX_COMPOUND],
+    ) -> Reply
+        ensures takes { Takes self.old (rtp_sent now rtp_ts size) (reply_value octets.new result) self.new }
         ensures spares { Spares self.old result self.new }
+        ensures empty { out_told result ≡ None }
+        ensures tells { Tells octets.old octets.new result self.new }
     {
         if let Some(refusal) = self.refusal(now) {
             return Err(refusal);
         }
         self.take_call(now);
-        self.take_sent(now, rtp_ts, octets);
+        self.take_sent(now, rtp_ts, size);
         Ok(self.told(NOTHING))
     }
 
-    /// [`tick`](Participant::tick), where a report or the BYE replaces what stood in `octets`.
+    /// [`tick`](Participant::tick), with a report or the BYE in `octets`.
     ///
     /// # Errors
     ///
@@ -180,13 +125,13 @@ impl<T: MemberTable> Participant<T> {
         now: u64,
         w1: u32,
         w2: u32,
-        octets: &mut ArrayVec<u8, MAX_COMPOUND>,
+        octets: &mut [u8; MAX_COMPOUND],
     ) -> Reply
-        ensures takes { Takes self.old (ticked now w1 w2) (reply_value octets.new.items result) self.new }
+        ensures takes { Takes self.old (ticked now w1 w2) (reply_value octets.new result) self.new }
         ensures not_too_late { (history : History) → StandsAt self.old history →
             IsOverdue history (ticked now w1 w2) → IfOk result (λ told. IsTrue (is_some told.out)) }
         ensures spares { Spares self.old result self.new }
-        ensures untouched { kind_told result ≡ None → octets.new ≡ octets.old }
+        ensures tells { Tells octets.old octets.new result self.new }
     {
         if let Some(refusal) = self.refusal(now) {
             return Err(refusal);
@@ -196,15 +141,15 @@ impl<T: MemberTable> Participant<T> {
         Ok(self.told(brought))
     }
 
-    /// [`leave`](Participant::leave), where the BYE replaces what stood in `octets`.
+    /// [`leave`](Participant::leave), with the BYE in `octets`.
     ///
     /// # Errors
     ///
     /// The first of E1 to E4 that applies. Then the participant and `octets` are unchanged.
-    pub fn leave_into(&mut self, now: u64, w: u32, octets: &mut ArrayVec<u8, MAX_COMPOUND>) -> Reply
-        ensures takes { Takes self.old (left now w) (reply_value octets.new.items result) self.new }
+    pub fn leave_into(&mut self, now: u64, w: u32, octets: &mut [u8; MAX_COMPOUND]) -> Reply
+        ensures takes { Takes self.old (left now w) (reply_value octets.new result) self.new }
         ensures spares { Spares self.old result self.new }
-        ensures untouched { kind_told result ≡ None → octets.new ≡ octets.old }
+        ensures tells { Tells octets.old octets.new result self.new }
     {
         if let Some(refusal) = self.refusal(now) {
             return Err(refusal);
@@ -214,16 +159,22 @@ impl<T: MemberTable> Participant<T> {
         Ok(self.told(brought))
     }
 
-    /// [`configure`](Participant::configure), which never has a compound: so it takes no room for one.
+    /// [`configure`](Participant::configure), which never has a compound.
     ///
     /// # Errors
     ///
     /// The first of E1 to E4 and E8 that applies. Then the participant is unchanged.
-    pub fn configure_told(&mut self, now: u64, settings: &Settings) -> Reply
-        ensures takes { (room : List ℕ) →
-            Takes self.old (configured now (settings_value settings.now)) (reply_value room result) self.new }
-        ensures empty { kind_told result ≡ None }
+    pub fn configure_into(
+        &mut self,
+        now: u64,
+        settings: &Settings,
+        octets: &mut [u8; MAX_COMPOUND],
+    ) -> Reply
+        ensures takes { Takes self.old (configured now (settings_value settings.now)) (reply_value octets.new result)
+            self.new }
         ensures spares { Spares self.old result self.new }
+        ensures empty { out_told result ≡ None }
+        ensures tells { Tells octets.old octets.new result self.new }
     {
         if let Some(refusal) = self.refusal(now) {
             return Err(refusal);
@@ -237,15 +188,16 @@ impl<T: MemberTable> Participant<T> {
         Ok(told)
     }
 
-    /// [`forget`](Participant::forget), which never has a compound: so it takes no room for one.
+    /// [`forget`](Participant::forget), which never has a compound.
     ///
     /// # Errors
     ///
     /// The first of E1 to E4 that applies. Then the participant is unchanged.
-    pub fn forget_told(&mut self, now: u64, ssrc: u32) -> Reply
-        ensures takes { (room : List ℕ) → Takes self.old (forgotten now ssrc) (reply_value room result) self.new }
-        ensures empty { kind_told result ≡ None }
+    pub fn forget_into(&mut self, now: u64, ssrc: u32, octets: &mut [u8; MAX_COMPOUND]) -> Reply
+        ensures takes { Takes self.old (forgotten now ssrc) (reply_value octets.new result) self.new }
         ensures spares { Spares self.old result self.new }
+        ensures empty { out_told result ≡ None }
+        ensures tells { Tells octets.old octets.new result self.new }
     {
         if let Some(refusal) = self.refusal(now) {
             return Err(refusal);
@@ -270,25 +222,6 @@ impl<T: MemberTable> Participant<T> {
         }
     }
 
-    /// Takes a datagram that was read and changes no identifier: `None` where it names the participant's SSRC, and its
-    /// peer may change that.
-    #[inline(always)]
-    fn arrive_told(&mut self, now: u64, peer: u64, arrival: &Arrival<'_>) -> Option<Reply>
-        requires admitted { refusal_by now self.old ≡ None }
-        requires in_order { Admits self.old.presence now }
-        requires size { size_of arrival.now ≤ 65535 }
-        requires within { KeepsCapacity self.old.presence }
-        ensures takes { (w : ℕ) (room : List ℕ) → w < 2 ^ 32 → IfSome result (λ reply.
-            Takes self.old (arrived now peer w (datagram_of arrival.now)) (reply_value room reply) self.new) }
-        ensures own { result ≡ None → is_about self.old.presence.setup.ssrc (datagram_of arrival.now) ≡ true }
-        ensures passes { PassesOn self.old peer result self.new }
-    {
-        if self.is_named_by(arrival) {
-            return self.own_refusal(peer);
-        }
-        Some(Ok(self.arrive_as_other(now, arrival)))
-    }
-
     /// Whether a datagram names the participant's SSRC.
     // Inlined, as `Arrival::is_of`.
     #[inline(always)]
@@ -310,6 +243,7 @@ impl<T: MemberTable> Participant<T> {
         ensures takes { (peer w : ℕ) (room : List ℕ) → w < 2 ^ 32 →
             Takes self.old (arrived now peer w (datagram_of arrival.now)) (Ok (told_value room result)) self.new }
         ensures empty { result.out ≡ None }
+        ensures standing { SaysStanding result.standing self.new }
         ensures within { KeepsCapacity self.new.presence }
     {
         self.take_call(now);

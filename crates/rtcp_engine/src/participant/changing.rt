@@ -1,22 +1,19 @@
 //! A change of the participant's identifier, for a datagram that names it (RFC 3550, 8.2).
 
-ghost use Rattle.std.specs.Prelude.{◌≡◌, ◌≤◌, ◌<◌, None, Some, Err, length, map, if◌then◌else◌, true};
-ghost use Rattle.rtcp_engine.specs.declared.changes.Change.{Change};
-ghost use Rattle.rtcp_engine.specs.declared.refusal.Refusal.TheVariants.{OwnSsrc};
-ghost use Rattle.rtcp_engine.specs.Identities.{may_change, is_among};
+ghost use Rattle.std.specs.Prelude.{◌≡◌, ◌≤◌, ◌<◌, length, true};
+ghost use Rattle.rtcp_engine.specs.Identities.{is_among};
 ghost use Rattle.rtcp_engine.specs.Acts.{arrived};
 ghost use Rattle.rtcp_engine.specs.Changes.{Session, changed_to, identifiers, is_about, is_taken as is_taken_of, new_identifier};
 ghost use Rattle.rtcp_engine.specs.Histories.{History, session_at};
 ghost use Rattle.rtcp_engine.specs.Lives.{own_bye};
-ghost use Rattle.rtcp_engine.specs.Promises.{Spares, Takes};
+ghost use Rattle.rtcp_engine.specs.Promises.{Spares, Takes, Tells};
 ghost use Rattle.rtcp_engine.specs.States.{Admits, IsIn, KeepsCapacity, StandsAt, over, refusal_by};
-ghost use Rattle.rtcp_engine.specs.Views.{NamesFewer, datagram_of, kind_told, out_with, reply_value, size_of};
+ghost use Rattle.rtcp_engine.specs.Views.{LeavesRest, NamesFewer, datagram_of, out_in, reply_value, size_of};
 
 use super::Participant;
 use crate::arrival::Arrival;
 use crate::refusal::Refusal;
-use crate::step::{Brought, OutKind, Reply};
-use arrayvec::ArrayVec;
+use crate::step::{Brought, Reply, Written};
 use rtcp_members::MemberTable;
 use rtcp_wire::MAX_COMPOUND;
 
@@ -25,18 +22,6 @@ use rtcp_wire::MAX_COMPOUND;
 const MAX_TRIES: u32 = 1 << 17;
 
 impl<T: MemberTable> Participant<T> {
-    /// The refusal of a datagram that names the participant's SSRC, unless its peer may change that.
-    #[cold]
-    pub(super) fn own_refusal(&self, peer: u64) -> Option<Reply>
-        ensures { result ≡ (if may_change (map (λ (change : Change). change.peer) self.now.changes) peer
-            then None else Some (Err OwnSsrc)) }
-    {
-        if self.changes.allows(peer) {
-            return None;
-        }
-        Some(Err(Refusal::OwnSsrc))
-    }
-
     /// Takes a datagram that names the participant's SSRC, after a change of that, or refuses it.
     #[cold]
     pub(super) fn arrive_as_own(
@@ -45,7 +30,7 @@ impl<T: MemberTable> Participant<T> {
         peer: u64,
         w: u32,
         arrival: Arrival<'_>,
-        octets: &mut ArrayVec<u8, MAX_COMPOUND>,
+        octets: &mut [u8; MAX_COMPOUND],
     ) -> Reply
         requires own { is_about self.old.presence.setup.ssrc (datagram_of arrival) ≡ true }
         requires admitted { refusal_by now self.old ≡ None }
@@ -53,9 +38,9 @@ impl<T: MemberTable> Participant<T> {
         requires size { size_of arrival ≤ 65535 }
         requires few { NamesFewer arrival }
         ensures takes { Takes self.old (arrived now peer w (datagram_of arrival.entry))
-            (reply_value octets.new.items result) self.new }
+            (reply_value octets.new result) self.new }
         ensures spares { Spares self.old result self.new }
-        ensures untouched { kind_told result ≡ None → octets.new ≡ octets.old }
+        ensures tells { Tells octets.old octets.new result self.new }
     {
         if !self.changes.allows(peer) {
             return Err(Refusal::OwnSsrc);
@@ -106,22 +91,17 @@ impl<T: MemberTable> Participant<T> {
 
     /// Takes another SSRC, as a datagram of this peer names the present one. The BYE of that one is written,
     /// if something was sent under it.
-    fn change(
-        &mut self,
-        peer: u64,
-        ssrc: u32,
-        octets: &mut ArrayVec<u8, MAX_COMPOUND>,
-    ) -> Option<OutKind>
+    fn change(&mut self, peer: u64, ssrc: u32, octets: &mut [u8; MAX_COMPOUND]) -> Option<Written>
         requires room { length self.old.changes < 8 }
         requires present { self.old.phase ≡ over → ⊥ }
         ensures out { (session : Session) → IsIn self.old session →
-            out_with octets.new.items result ≡ own_bye session.setup session.life }
+            out_in octets.new result ≡ own_bye session.setup session.life }
         ensures new { (session : Session) → IsIn self.old session →
             IsIn self.new (changed_to (record { peer = peer; ssrc = ssrc }) session) }
         ensures latest { self.new.presence.latest ≡ self.old.presence.latest }
         ensures calls { self.new.presence.calls ≡ self.old.presence.calls }
         ensures within { KeepsCapacity self.new.presence }
-        ensures untouched { result ≡ None → octets.new ≡ octets.old }
+        ensures leaves { LeavesRest octets.old octets.new result }
     {
         self.changes.add(peer, self.presence.ssrc());
         self.presence.change_identifier(ssrc, octets)

@@ -5,14 +5,13 @@ ghost use Rattle.std.specs.Prelude.{◌≡◌, ◌≤◌, ◌<◌, ◌-◌, ℕ,
 ghost use Rattle.rtcp_engine.specs.Acts.{arrived, configured, forgotten, left, rtp_sent, ticked};
 ghost use Rattle.rtcp_engine.specs.Refused.{settings_error};
 ghost use Rattle.rtcp_engine.specs.States.{Acts, Admits, KeepsCapacity, called};
-ghost use Rattle.rtcp_engine.specs.Views.{datagram_of, out_with, settings_value, size_of};
+ghost use Rattle.rtcp_engine.specs.Views.{LeavesRest, datagram_of, out_in, settings_value, size_of};
 ghost use Rattle.rtcp_members.specs.Tables.{HasFew};
 
 use super::{Participant, Phase};
 use crate::arrival::Arrival;
 use crate::settings::Settings;
 use crate::step::{Brought, NOTHING};
-use arrayvec::ArrayVec;
 use rtcp_members::MemberTable;
 use rtcp_wire::MAX_COMPOUND;
 
@@ -65,17 +64,12 @@ impl<T: MemberTable> Participant<T> {
     }
 
     /// Writes a report or the BYE, if it is due.
-    pub(super) fn take_tick(
-        &mut self,
-        w1: u32,
-        w2: u32,
-        octets: &mut ArrayVec<u8, MAX_COMPOUND>,
-    ) -> Brought
+    pub(super) fn take_tick(&mut self, w1: u32, w2: u32, octets: &mut [u8; MAX_COMPOUND]) -> Brought
         requires reports { self.old.presence.reports < self.old.presence.calls }
         ensures new { Acts self.old self.new (ticked self.old.presence.latest w1 w2)
-            (out_with octets.new.items result.out) result.others_changed }
+            (out_in octets.new result.out) result.others_changed }
         ensures within { KeepsCapacity self.new.presence }
-        ensures untouched { result.out ≡ None → octets.new ≡ octets.old }
+        ensures leaves { LeavesRest octets.old octets.new result.out }
     {
         match self.phase {
             Phase::Present => self.presence.tick(w1, w2, octets),
@@ -88,11 +82,11 @@ impl<T: MemberTable> Participant<T> {
     }
 
     /// Leaves, if it has not left yet.
-    pub(super) fn take_leave(&mut self, w: u32, octets: &mut ArrayVec<u8, MAX_COMPOUND>) -> Brought
+    pub(super) fn take_leave(&mut self, w: u32, octets: &mut [u8; MAX_COMPOUND]) -> Brought
         ensures new { Acts self.old self.new (left self.old.presence.latest w)
-            (out_with octets.new.items result.out) result.others_changed }
+            (out_in octets.new result.out) result.others_changed }
         ensures within { KeepsCapacity self.new.presence }
-        ensures untouched { result.out ≡ None → octets.new ≡ octets.old }
+        ensures leaves { LeavesRest octets.old octets.new result.out }
     {
         match self.phase {
             Phase::Present => {

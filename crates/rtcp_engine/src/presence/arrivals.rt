@@ -3,7 +3,7 @@
 ghost use Rattle.std.specs.Prelude.{◌≡◌, ◌≤◌, ◌<◌, ◌-◌, ◌^◌};
 ghost use Rattle.rtcp_members.specs.Tables.{HasFew};
 ghost use Rattle.rtcp_engine.specs.Arrivals.{with_compound, with_datagram, with_facts_of, with_media, with_packet};
-ghost use Rattle.rtcp_engine.specs.States.{Admits, Does, KeepsCapacity, Moves, with_call};
+ghost use Rattle.rtcp_engine.specs.States.{Admits, Does, KeepsCapacity, MovesOthers, with_call};
 ghost use Rattle.rtcp_engine.specs.Views.{datagram_of, size_of};
 
 use super::Presence;
@@ -43,7 +43,7 @@ impl<T: MemberTable> Presence<T> {
         requires reports { self.old.reports < self.old.calls }
         requires few { HasFew (self.old.calls - 1) self.old.table }
         ensures new { Does self.old self.new (λ setup. with_datagram setup now (datagram_of arrival.now)) }
-        ensures moved { Moves self.old result (λ setup. with_datagram setup now (datagram_of arrival.now)) }
+        ensures moved { MovesOthers self.old result (λ setup. with_datagram setup now (datagram_of arrival.now)) }
     {
         match arrival {
             Arrival::Rtcp(compound, size) => self.take_compound(now, *size, compound),
@@ -56,7 +56,7 @@ impl<T: MemberTable> Presence<T> {
         requires order { self.old.latest ≡ now }
         requires size { size ≤ 65535 }
         ensures new { Does self.old self.new (λ setup. with_compound setup now size compound.now) }
-        ensures moved { Moves self.old result (λ setup. with_compound setup now size compound.now) }
+        ensures moved { MovesOthers self.old result (λ setup. with_compound setup now size compound.now) }
     {
         let moved = self.take_facts(now, size, compound);
         self.recount();
@@ -67,7 +67,7 @@ impl<T: MemberTable> Presence<T> {
     fn take_facts(&mut self, now: u64, size: usize, compound: &Compound<'_>) -> bool
         requires size { size ≤ 65535 }
         ensures new { Does self.old self.new (λ setup. with_facts_of now size compound.now) }
-        ensures moved { Moves self.old result (λ setup. with_facts_of now size compound.now) }
+        ensures moved { MovesOthers self.old result (λ setup. with_facts_of now size compound.now) }
     {
         let moved = apply_packets(&mut self.table, compound.packets(), now);
         self.average.add(size as u32);
@@ -81,7 +81,7 @@ impl<T: MemberTable> Presence<T> {
         requires reports { self.old.reports < self.old.calls }
         requires few { HasFew (self.old.calls - 1) self.old.table }
         ensures new { Does self.old self.new (λ setup. with_media setup now head.now) }
-        ensures moved { Moves self.old result (λ setup. with_media setup now head.now) }
+        ensures moved { MovesOthers self.old result (λ setup. with_media setup now head.now) }
     {
         let rate = self.config.rate_of(head);
         apply_media(&mut self.table, head, self.config.ssrc, rate, now)

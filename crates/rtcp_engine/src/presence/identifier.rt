@@ -1,14 +1,13 @@
 //! What a participant does as it changes its identifier (RFC 3550, 8.2).
 
-ghost use Rattle.std.specs.Prelude.{◌≡◌, None, is_some, option_map};
+ghost use Rattle.std.specs.Prelude.{◌≡◌, is_some, option_map};
 ghost use Rattle.std.specs.FinMap as map;
 ghost use Rattle.rtcp_engine.specs.Lives.{bye_out};
 ghost use Rattle.rtcp_engine.specs.States.{KeepsCapacity, own_bye_in, after_change, with_own_bye};
-ghost use Rattle.rtcp_engine.specs.Views.{out_with};
+ghost use Rattle.rtcp_engine.specs.Views.{LeavesRest, out_in};
 
 use super::Presence;
-use crate::step::OutKind;
-use arrayvec::ArrayVec;
+use crate::step::Written;
 use rtcp_members::MemberTable;
 use rtcp_wire::MAX_COMPOUND;
 
@@ -32,10 +31,10 @@ impl<T: MemberTable> Presence<T> {
     pub(crate) fn change_identifier(
         &mut self,
         ssrc: u32,
-        octets: &mut ArrayVec<u8, MAX_COMPOUND>,
-    ) -> Option<OutKind>
-        ensures bye { out_with octets.new.items result ≡ option_map bye_out (own_bye_in self.old) }
-        ensures untouched { result ≡ None → octets.new ≡ octets.old }
+        octets: &mut [u8; MAX_COMPOUND],
+    ) -> Option<Written>
+        ensures bye { out_in octets.new result ≡ option_map bye_out (own_bye_in self.old) }
+        ensures leaves { LeavesRest octets.old octets.new result }
         ensures new { self.new ≡ after_change ssrc self.old }
         ensures within { KeepsCapacity self.new }
     {
@@ -46,16 +45,16 @@ impl<T: MemberTable> Presence<T> {
     }
 
     /// Writes the BYE of the present SSRC, if something was sent under it. It moves the average.
-    fn bye_if_heard(&mut self, octets: &mut ArrayVec<u8, MAX_COMPOUND>) -> Option<OutKind>
-        ensures bye { out_with octets.new.items result ≡ option_map bye_out (own_bye_in self.old) }
-        ensures untouched { result ≡ None → octets.new ≡ octets.old }
+    fn bye_if_heard(&mut self, octets: &mut [u8; MAX_COMPOUND]) -> Option<Written>
+        ensures bye { out_in octets.new result ≡ option_map bye_out (own_bye_in self.old) }
+        ensures leaves { LeavesRest octets.old octets.new result }
         ensures new { self.new ≡ with_own_bye self.old }
     {
         if !self.own.is_heard() {
             return None;
         }
-        self.write_bye(octets);
-        self.average.add(octets.len() as u32);
-        Some(OutKind::Bye)
+        let bye = self.write_bye(octets);
+        self.average.add(bye.size as u32);
+        Some(bye)
     }
 }

@@ -1,12 +1,15 @@
 //! What a participant does as it leaves (RFC 3550, 6.3.7).
 
-ghost use Rattle.std.specs.Prelude.{◌≡◌, ◌≤◌, ◌<◌, ◌*◌, ◌^◌, ℕ, length};
+ghost use Rattle.std.specs.Prelude.{◌≡◌, ◌≤◌, ◌<◌, ◌*◌, ◌^◌, ℕ, Some, length};
 ghost use Rattle.rtcp_engine.specs.Leaving.{Backoff, after_wait, backoff_from, is_bye_due, is_unheard, leaving_count, leaving_interval, leaving_load, with_farewell_of};
+ghost use Rattle.rtcp_engine.specs.Lives.{bye_out};
 ghost use Rattle.rtcp_engine.specs.Outcomes.{Outcome};
 ghost use Rattle.rtcp_engine.specs.Reporting.{bye_octets};
 ghost use Rattle.rtcp_engine.specs.States.{Agrees, DoesWaiting, KeepsCapacity, Stays, Waits};
+ghost use Rattle.rtcp_engine.specs.Views.{LeavesRest, out_in};
 
 use super::Presence;
+use crate::step::{OutKind, Written};
 use arrayvec::ArrayVec;
 use rtcp_members::MemberTable;
 use rtcp_report::{bye_size, write_bye};
@@ -22,11 +25,15 @@ impl<T: MemberTable> Presence<T> {
     }
 
     /// Writes the compound with the participant's BYE.
-    pub(crate) fn write_bye(&self, octets: &mut ArrayVec<u8, MAX_COMPOUND>)
-        ensures octets { octets.new.items ≡ bye_octets self.now.setup }
-        ensures small { length octets.new.items ≤ 284 }
+    pub(crate) fn write_bye(&self, octets: &mut [u8; MAX_COMPOUND]) -> Written
+        ensures out { out_in octets.new (Some result) ≡ Some (bye_out (bye_octets self.now.setup)) }
+        ensures size { result.size ≡ length (bye_octets self.now.setup) }
+        ensures leaves { LeavesRest octets.old octets.new (Some result) }
+        ensures small { result.size ≤ 284 }
     {
-        write_bye(self.config.ssrc, &self.config.cname, octets);
+        let mut compound = ArrayVec::new();
+        write_bye(self.config.ssrc, &self.config.cname, &mut compound);
+        Written::into_octets(OutKind::Bye, compound.as_slice(), octets)
     }
 
     /// Begins to back off at the moment of the latest call, with a random word for the draw.

@@ -1,15 +1,15 @@
 //! What a participant does as time passes (RFC 3550, 6.3.4 to 6.3.6).
 
-ghost use Rattle.std.specs.Prelude.{◌≡◌, ◌≤◌, ◌<◌, ◌-◌, ◌^◌, ◌*◌, length, Option, None, option_map};
+ghost use Rattle.std.specs.Prelude.{◌≡◌, ◌≤◌, ◌<◌, ◌-◌, ◌^◌, ◌*◌, length, Option, Some, option_map};
 ghost use Rattle.rtcp_wire.specs.Writing.{written_all};
 ghost use Rattle.rtcp_members.specs.Pending.{after_blocks, last_reported as last_of};
 ghost use Rattle.rtcp_report.specs.Sizes.{reported_rows, report_of};
 ghost use Rattle.rtcp_engine.specs.Setups.{IsUsable};
 ghost use Rattle.rtcp_engine.specs.Lives.{report_out};
-ghost use Rattle.rtcp_engine.specs.Views.{setup_of, out_with};
-ghost use Rattle.rtcp_engine.specs.States.{Agrees, Does, Moves};
+ghost use Rattle.rtcp_engine.specs.Views.{LeavesRest, out_in, reporter_of, setup_of};
+ghost use Rattle.rtcp_engine.specs.States.{Agrees, Does, MovesOthers};
 ghost use Rattle.rtcp_engine.specs.Outcomes.{Outcome, check_interval, check_load};
-ghost use Rattle.rtcp_engine.specs.Reporting.{report_octets, reporter_by};
+ghost use Rattle.rtcp_engine.specs.Reporting.{report_octets};
 ghost use Rattle.rtcp_engine.specs.Ticks.{with_recount, without_silent, checked, is_report_due, report_due, with_report, drawn_anew, reported, tried_at, after_check, after_tick};
 
 use super::Presence;
@@ -17,7 +17,7 @@ use crate::config::Config;
 use crate::extra::extra_item;
 use crate::own::OwnStream;
 use crate::pace::slowed;
-use crate::step::{Brought, OutKind};
+use crate::step::{Brought, OutKind, Written};
 use crate::table::check;
 use arrayvec::ArrayVec;
 use rtcp_members::MemberTable;
@@ -31,19 +31,14 @@ const GOODBYE_TIME: u64 = 5_000_000;
 impl<T: MemberTable> Presence<T> {
     /// Drops those who are silent for too long at the moment of the latest call, and writes a report if one is due,
     /// with two random words: `w1` for the draw that decides it, and `w2` for that of the next interval.
-    pub(crate) fn tick(
-        &mut self,
-        w1: u32,
-        w2: u32,
-        octets: &mut ArrayVec<u8, MAX_COMPOUND>,
-    ) -> Brought
+    pub(crate) fn tick(&mut self, w1: u32, w2: u32, octets: &mut [u8; MAX_COMPOUND]) -> Brought
         requires reports { self.old.reports < self.old.calls }
-        ensures report { (outcome : Outcome) → Agrees self.old outcome → out_with octets.new.items result.out
+        ensures report { (outcome : Outcome) → Agrees self.old outcome → out_in octets.new result.out
             ≡ option_map report_out (report_due self.old.setup self.old.latest w1
             (checked self.old.setup self.old.latest outcome)) }
         ensures new { Does self.old self.new (λ setup. after_tick setup self.old.latest w1 w2) }
-        ensures moved { Moves self.old result.others_changed (λ setup. after_tick setup self.old.latest w1 w2) }
-        ensures untouched { result.out ≡ None → octets.new ≡ octets.old }
+        ensures moved { MovesOthers self.old result.others_changed (λ setup. after_tick setup self.old.latest w1 w2) }
+        ensures leaves { LeavesRest octets.old octets.new result.out }
     {
         let others_changed = self.check_members();
         Brought {
@@ -56,7 +51,7 @@ impl<T: MemberTable> Presence<T> {
     /// others is a member or who sends.
     fn check_members(&mut self) -> bool
         ensures new { Does self.old self.new (λ setup. checked setup self.old.latest) }
-        ensures moved { Moves self.old result (λ setup. checked setup self.old.latest) }
+        ensures moved { MovesOthers self.old result (λ setup. checked setup self.old.latest) }
         ensures reports { self.new.reports ≡ self.old.reports }
     {
         let moved = self.drop_silent();
@@ -67,7 +62,7 @@ impl<T: MemberTable> Presence<T> {
     /// Drops those who are silent for too long, the participant among the senders too.
     fn drop_silent(&mut self) -> bool
         ensures new { Does self.old self.new (λ setup. without_silent setup self.old.latest) }
-        ensures moved { Moves self.old result (λ setup. without_silent setup self.old.latest) }
+        ensures moved { MovesOthers self.old result (λ setup. without_silent setup self.old.latest) }
         ensures reports { self.new.reports ≡ self.old.reports }
     {
         let now = self.latest;
@@ -123,19 +118,18 @@ impl<T: MemberTable> Presence<T> {
         &mut self,
         w1: u32,
         w2: u32,
-        octets: &mut ArrayVec<u8, MAX_COMPOUND>,
-    ) -> Option<OutKind>
+        octets: &mut [u8; MAX_COMPOUND],
+    ) -> Option<Written>
         requires reports { self.old.reports < self.old.calls }
-        ensures report { (outcome : Outcome) → Agrees self.old outcome → out_with octets.new.items result
+        ensures report { (outcome : Outcome) → Agrees self.old outcome → out_in octets.new result
             ≡ option_map report_out (report_due self.old.setup self.old.latest w1 outcome) }
         ensures new { Does self.old self.new (λ setup. after_check setup self.old.latest w1 w2) }
-        ensures untouched { result ≡ None → octets.new ≡ octets.old }
+        ensures leaves { LeavesRest octets.old octets.new result }
     {
         if !self.try_report(w1) {
             return None;
         }
-        self.send_report(w2, octets);
-        Some(OutKind::Report)
+        Some(self.send_report(w2, octets))
     }
 
     /// Whether a report is due. If its moment has come, it is put off until it is sent.
@@ -156,14 +150,19 @@ impl<T: MemberTable> Presence<T> {
     }
 
     /// Writes the report, and draws the interval after it.
-    fn send_report(&mut self, w2: u32, octets: &mut ArrayVec<u8, MAX_COMPOUND>)
+    // Kept out of line, as a tick without a report needs no room for one.
+    #[inline(never)]
+    fn send_report(&mut self, w2: u32, octets: &mut [u8; MAX_COMPOUND]) -> Written
         requires reports { self.old.reports < self.old.calls }
-        ensures report { (outcome : Outcome) → Agrees self.old outcome →
-            octets.new.items ≡ report_octets self.old.setup self.old.latest outcome }
+        ensures report { (outcome : Outcome) → Agrees self.old outcome → out_in octets.new (Some result)
+            ≡ Some (report_out (report_octets self.old.setup self.old.latest outcome)) }
         ensures new { Does self.old self.new (λ setup. reported setup self.old.latest w2) }
+        ensures leaves { LeavesRest octets.old octets.new (Some result) }
     {
-        self.make_report(octets);
+        let mut compound = ArrayVec::new();
+        self.make_report(&mut compound);
         self.draw_next(w2);
+        Written::into_octets(OutKind::Report, compound.as_slice(), octets)
     }
 
     /// Draws the next interval.
@@ -183,49 +182,55 @@ impl<T: MemberTable> Presence<T> {
         ensures new { Does self.old self.new (λ setup. with_report setup self.old.latest) }
     {
         let number = self.reports + 1;
-        write_numbered(
-            &self.config,
-            &self.own,
-            &mut self.table,
-            &mut self.cursor,
+        let report = NumberedReport {
+            config: &self.config,
+            own: &self.own,
             number,
-            self.latest,
-            octets,
-        );
+            moment: self.latest,
+        };
+        write_numbered(&report, &mut self.table, &mut self.cursor, octets);
         self.reports = number;
         self.average.add(octets.len() as u32);
         self.own.reported();
     }
 }
 
-/// Writes the report with this number, at the moment `now`: the cursor is left at its last source.
+/// What a report is made from, beside the table and the cursor.
+#[derive(Clone, Copy)]
+struct NumberedReport<'a> {
+    config: &'a Config,
+    own: &'a OwnStream,
+    /// How many reports there are with this one.
+    number: u64,
+    moment: u64,
+}
+
+/// Writes a report. The cursor is left at its last source.
 fn write_numbered<T: MemberTable>(
-    config: &Config,
-    own: &OwnStream,
+    report: &NumberedReport<'_>,
     table: &mut T,
     cursor: &mut Option<u32>,
-    number: u64,
-    now: u64,
     octets: &mut ArrayVec<u8, MAX_COMPOUND>,
 )
-    requires usable { IsUsable (setup_of config.now) }
-    requires some { 0 < number }
-    ensures octets { octets.new.items ≡ written_all (report_of
-        (reporter_by (setup_of config.now) own.now number now) config.now.limit now cursor.old
-        (T.content table.old)) }
+    requires usable { IsUsable (setup_of report.now.config.now) }
+    requires some { 0 < report.now.number }
+    ensures octets { octets.new.items ≡ written_all (report_of (reporter_of report.now)
+        report.now.config.now.limit report.now.moment cursor.old (T.content table.old)) }
     ensures within { length octets.new.items ≤ 1472 }
-    ensures content { T.content table.new ≡ after_blocks (reported_rows
-        (reporter_by (setup_of config.now) own.now number now) config.now.limit cursor.old (T.content table.old))
-        (T.content table.old) }
-    ensures cursor { cursor.new ≡ last_of cursor.old (reported_rows
-        (reporter_by (setup_of config.now) own.now number now) config.now.limit cursor.old
-        (T.content table.old)) }
+    ensures content { T.content table.new ≡ after_blocks (reported_rows (reporter_of report.now)
+        report.now.config.now.limit cursor.old (T.content table.old)) (T.content table.old) }
+    ensures cursor { cursor.new ≡ last_of cursor.old (reported_rows (reporter_of report.now)
+        report.now.config.now.limit cursor.old (T.content table.old)) }
 {
+    let config = report.config;
     let sender = Sender {
         ssrc: config.ssrc,
         cname: &config.cname,
-        sr: own.report(config.ntp_base, config.rate, now),
+        sr: report
+            .own
+            .report(config.ntp_base, config.rate, report.moment),
     };
-    let extra = extra_item(&config.extras, number);
-    write_report(&sender, table, now, config.limit, cursor, extra, octets);
+    let extra = extra_item(&config.extras, report.number);
+    let (now, limit) = (report.moment, config.limit);
+    write_report(&sender, table, now, limit, cursor, extra, octets);
 }

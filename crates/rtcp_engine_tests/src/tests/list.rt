@@ -24,7 +24,7 @@ fn rooms(rt: HostRuntime) {
     rooms::report_in_place::<ListTable>(&rt);
     rooms::byes_in_place::<ListTable>(&rt);
     rooms::left_alone::<ListTable>(&rt);
-    rooms::asked_for_last::<ListTable>(&rt);
+    rooms::changed_last::<ListTable>(&rt);
 }
 
 /// A damaged report, alone and with a name, while the participant is present and in a backoff.

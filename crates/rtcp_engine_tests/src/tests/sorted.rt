@@ -31,7 +31,7 @@ fn rooms(rt: HostRuntime) {
     rooms::report_in_place::<SortedTable>(&rt);
     rooms::byes_in_place::<SortedTable>(&rt);
     rooms::left_alone::<SortedTable>(&rt);
-    rooms::asked_for_last::<SortedTable>(&rt);
+    rooms::changed_last::<SortedTable>(&rt);
 }
 
 /// A damaged report, alone and with a name, while the participant is present and in a backoff.

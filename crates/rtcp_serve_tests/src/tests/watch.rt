@@ -7,7 +7,7 @@ ghost use Rattle.rtcp_serve.specs.Links.{Telling as TellingValue, GrowsBy, telli
 ghost use Rattle.rtcp_serve.specs.Serving.{event_at};
 ghost use Rattle.rtcp_serve_tests.specs.declared.tests.watch.Happening.TheVariants.{Came, SentRtp, Tick, Leave};
 
-use rtcp_engine::{Answer, Event, Reply, Told};
+use rtcp_engine::{Answer, Event, Reply, Standing, Told, Written};
 use rtcp_serve::Port;
 use std::alloc::{AllocError, Global};
 
@@ -165,7 +165,7 @@ fn happening_of(alloc: Global, event: &Event<'_>) -> Result<Happening, AllocErro
     }
 }
 
-/// An answer without its compound, and the octets of that.
+/// An answer without its compound, and the octets of that. An answer has no SSRC: 0 stands in its place.
 fn reply_of(alloc: Global, answer: &Answer) -> Result<(Reply, Vec<u8>), AllocError>
     ensures { IfOk result (λ noted. reply_value noted.1.items noted.0 ≡ answer_value answer.now) }
 {
@@ -175,19 +175,26 @@ fn reply_of(alloc: Global, answer: &Answer) -> Result<(Reply, Vec<u8>), AllocErr
     };
     let (out, octets) = match &step.out {
         Some(out) => (
-            Some(out.kind),
+            Some(Written {
+                kind: out.kind,
+                size: out.bytes.len(),
+            }),
             Vec::from_slice(alloc, out.bytes.as_slice())?,
         ),
         None => (None, Vec::new(alloc)),
     };
-    let told = Told {
-        out,
+    let standing = Standing {
         members: step.members,
         senders: step.senders,
         entries: step.entries,
+        ssrc: 0,
         next: step.next,
-        changed: step.changed,
+    };
+    let told = Told {
         others_changed: step.others_changed,
+        changed: step.changed,
+        out,
+        standing,
     };
     Ok((Ok(told), octets))
 }

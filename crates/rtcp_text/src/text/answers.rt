@@ -1,7 +1,7 @@
 //! The text of what a participant answers, as `rtcp replay` shows it.
 
-ghost use Rattle.std.specs.Prelude.{◌≡◌, ◌+◌, ◌≤◌, ◌++◌, OnOk, codes, drop, option_map};
-ghost use Rattle.rtcp_engine.specs.Views.{answer_value, out_value, out_with, reply_value, step_value, told_value};
+ghost use Rattle.std.specs.Prelude.{◌≡◌, ◌+◌, ◌≤◌, ◌++◌, OnOk, Some, codes, drop, option_map};
+ghost use Rattle.rtcp_engine.specs.Views.{answer_value, out_in, out_told, out_value, reply_value, size_written, step_value, told_value};
 ghost use Rattle.rtcp_engine.specs.declared.refusal.Refusal.TheVariants.{Settings};
 ghost use Rattle.rtcp_text.specs.AnswerText.{answer_text, changed_text, counts_text, kind_text, next_text, out_text, refusal_text, rtp_fault_text, start_text, step_text};
 
@@ -9,8 +9,8 @@ use super::digits::{push_octets, push_word};
 use super::push_fault_words;
 use super::tail::Tail;
 use crate::fault::config_name;
-use rtcp_engine::{Answer, ConfigError, Out, OutKind, Refusal, Reply, Step, Told};
-use rtcp_wire::RtpFault;
+use rtcp_engine::{Answer, ConfigError, Out, OutKind, Refusal, Reply, Step, Told, Written};
+use rtcp_wire::{MAX_COMPOUND, RtpFault};
 use std::alloc::AllocError;
 
 /// Appends the line for the start of a session, with the moment of its first tick.
@@ -36,8 +36,13 @@ pub fn push_answer(out: &mut Vec<u8>, answer: &Answer) -> Result<(), AllocError>
     Ok(())
 }
 
-/// Appends the line for a reply, whose compound, if it has one, has these octets.
-pub(crate) fn push_reply(out: &mut Vec<u8>, reply: &Reply, octets: &[u8]) -> Result<(), AllocError>
+/// Appends the line for a reply, whose compound, if it has one, stands at the start of these octets.
+pub(crate) fn push_reply(
+    out: &mut Vec<u8>,
+    reply: &Reply,
+    octets: &[u8; MAX_COMPOUND],
+) -> Result<(), AllocError>
+    requires { size_written (out_told reply.now) ≤ 1472 }
     ensures { OnOk result (out.new.items ≡ out.old.items ++ answer_text (reply_value octets.now reply.now)) }
 {
     match reply {
@@ -48,11 +53,13 @@ pub(crate) fn push_reply(out: &mut Vec<u8>, reply: &Reply, octets: &[u8]) -> Res
     Ok(())
 }
 
-/// Appends the text of a call that was taken, whose compound, if it has one, has these octets.
-fn push_told(out: &mut Vec<u8>, told: &Told, octets: &[u8]) -> Result<(), AllocError>
+/// Appends the text of a call that was taken, whose compound, if it has one, stands at the start of these octets.
+fn push_told(out: &mut Vec<u8>, told: &Told, octets: &[u8; MAX_COMPOUND]) -> Result<(), AllocError>
+    requires { size_written told.now.out ≤ 1472 }
     ensures { OnOk result (out.new.items ≡ out.old.items ++ step_text (told_value octets.now told.now)) }
 {
-    push_taken(out, told.members, told.senders, told.next)?;
+    let standing = told.standing;
+    push_taken(out, standing.members, standing.senders, standing.next)?;
     push_written(out, told.out, octets)?;
     push_changed(out, told.changed)
 }
@@ -122,26 +129,35 @@ fn push_out(out: &mut Vec<u8>, sent: &Option<Out>) -> Result<(), AllocError>
     ensures { OnOk result (out.new.items ≡ out.old.items ++ out_text (option_map out_value sent.now)) }
 {
     match sent {
-        Some(sent) => push_written(out, Some(sent.kind), &sent.bytes),
-        None => push_written(out, None, &[]),
+        Some(sent) => push_compound(out, sent.kind, &sent.bytes),
+        None => out.extend_from_slice(b"-"),
     }
 }
 
-/// Appends what a compound to send is and its octets, or a hyphen where there is none.
-fn push_written(out: &mut Vec<u8>, kind: Option<OutKind>, octets: &[u8]) -> Result<(), AllocError>
-    ensures { OnOk result (out.new.items ≡ out.old.items ++ out_text (out_with octets.now kind)) }
+/// Appends what a compound to send is and its octets, which stand at the start of these, or a hyphen where there is
+/// none.
+fn push_written(
+    out: &mut Vec<u8>,
+    written: Option<Written>,
+    octets: &[u8; MAX_COMPOUND],
+) -> Result<(), AllocError>
+    requires { size_written written ≤ 1472 }
+    ensures { OnOk result (out.new.items ≡ out.old.items ++ out_text (out_in octets.now written)) }
 {
-    match kind {
-        Some(kind) => {
-            out.extend_from_slice(kind_name(kind).as_bytes())?;
-            out.push(b':')?;
-            push_octets(out, octets)
-        }
-        None => {
-            out.push(b'-')?;
-            Ok(())
-        }
+    match written {
+        Some(sent) => push_compound(out, sent.kind, &octets[..sent.size]),
+        None => out.extend_from_slice(b"-"),
     }
+}
+
+/// Appends what a compound to send is and its octets.
+fn push_compound(out: &mut Vec<u8>, kind: OutKind, octets: &[u8]) -> Result<(), AllocError>
+    ensures { OnOk result (out.new.items
+        ≡ out.old.items ++ out_text (Some (record { kind = kind; octets = octets.now }))) }
+{
+    out.extend_from_slice(kind_name(kind).as_bytes())?;
+    out.push(b':')?;
+    push_octets(out, octets)
 }
 
 /// Appends the new SSRC, where the call changed it.

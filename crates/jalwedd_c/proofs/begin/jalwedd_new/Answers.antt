@@ -3,7 +3,7 @@ use Rattle.std.proofs.Common.{◌≡◌, ℕ, Option, Some, None, inl, inr, refl
 use Rattle.rtcp_engine.specs.Refused.{error_in}
 use Rattle.rtcp_engine.specs.States.{StandsAt}
 use Rattle.rtcp_engine.specs.Taken.{begun}
-use Rattle.jalwedd_host.specs.declared.session.Session.{Session}
+use Rattle.jalwedd_host.specs.declared.session.HostSession.{HostSession}
 use Rattle.jalwedd_host.specs.Answers.{IsBlank}
 use Rattle.jalwedd_host.specs.Configs.{setup_given}
 use Rattle.jalwedd_host.specs.Handles.{KeepsWithin, Leads, LeadsTo}
@@ -21,7 +21,8 @@ returns-clause-begins c taken =
     let leads : Leads (record { participant = c.with_table.result; start = config.start }) config.start history =
     record { stands = stands; counts = refl; range = c.if-config-ge-START_LIMIT.false } in
     record {
-      stands = subst (λ (h : Option Session). LeadsTo h config.start history) (sym (c.begin.ensures.begun taken)) leads;
+      stands = subst (λ (h : Option HostSession). LeadsTo h config.start history) (sym (c.begin.ensures.begun taken))
+          leads;
       shows = c.begin.ensures.shows config.start history leads taken;
     }
 

@@ -1,5 +1,5 @@
 -- The moment is counted from the start of the session that is held, and the settings are those that were filled in.
-use Rattle.std.proofs.Common.{◌≡◌, ◌∙◌, ℕ, [], refl, subst}
+use Rattle.std.proofs.Common.{◌≡◌, ◌∙◌, ℕ, refl, subst}
 use Rattle.rtcp_engine.specs.Acts.{configured}
 use Rattle.rtcp_engine.specs.Setups.{SettingsValue}
 use Rattle.jalwedd_host.specs.Configs.{settings_given}
@@ -20,13 +20,14 @@ returns-clause-serves c start moment history fits leads told =
     let same = same_moment _ _ start history holds c.deref.ensures _ _ moment c.in-Some-moment_of.ensures told in
     let settings = settings_given c.args.settings.now c.args.items.now in
     let given = c.in_default-fill_settings.ensures.given refl in
-    let takes = c.configure_told-reply.ensures.takes [] in
-    subst (λ (m : ℕ). Serves start history (configured m settings) c.put_back.new.self.owned.held
-    c.put_back.result c.put_back.new.step c.args.octets.now c.put_back.new.octets) same
+    subst (λ (m : ℕ). Serves start history (configured m settings) c.put_back.new.self.owned.held c.put_back.result
+    c.put_back.new.step c.args.octets.now c.configure_into-reply.new.octets) same
     (subst (λ (s : SettingsValue). Serves start history (configured c.in-Some-moment_of.moment s)
-    c.put_back.new.self.owned.held c.put_back.result c.put_back.new.step c.args.octets.now c.put_back.new.octets) given
-    (serves _ _ _ start history holds c.deref_mut.ensures.value refl _ _ _ _ takes refl _ put.held _ _ _ _ put.status
-    put.handed put.shown))
+    c.put_back.new.self.owned.held c.put_back.result c.put_back.new.step c.args.octets.now
+    c.configure_into-reply.new.octets) given
+    (serves _ _ _ start history holds c.deref_mut.ensures.value refl _ _ _ _ c.configure_into-reply.ensures.takes _
+    put.held _ _ (put.status _)
+    (put.handed _ _ c.configure_into-reply.ensures.tells.leaves) put.shown))
 
 pub returns-in-Some-fill_settings-clause-turns_away : goal.returns-in-Some-fill_settings-clause-turns_away
 returns-in-Some-fill_settings-clause-turns_away c status is =

@@ -1,5 +1,5 @@
 -- The moment is counted from the start of the session that is held.
-use Rattle.std.proofs.Common.{ℕ, [], refl, subst}
+use Rattle.std.proofs.Common.{ℕ, refl, subst}
 use Rattle.rtcp_engine.specs.Acts.{forgotten}
 use Rattle.jalwedd_host.specs.Promises.{Serves}
 use Rattle.jalwedd_host.proofs.LawLemmas.{session_of}
@@ -16,7 +16,8 @@ returns-clause-serves c start moment history leads told =
     let put = c.put_back.ensures in
     let holds = session_of _ _ start history c.in-Some.ensures.gives leads in
     let same = same_moment _ _ start history holds c.deref.ensures _ _ moment c.in-Some-moment_of.ensures told in
-    subst (λ (m : ℕ). Serves start history (forgotten m c.args.ssrc) c.put_back.new.self.owned.held
-    c.put_back.result c.put_back.new.step c.args.octets.now c.put_back.new.octets) same
-    (serves _ _ _ start history holds c.deref_mut.ensures.value refl _ _ _ _ (c.forget_told-reply.ensures.takes [])
-    refl _ put.held _ _ _ _ put.status put.handed put.shown)
+    subst (λ (m : ℕ). Serves start history (forgotten m c.args.ssrc) c.put_back.new.self.owned.held c.put_back.result
+    c.put_back.new.step c.args.octets.now c.forget_into-reply.new.octets) same
+    (serves _ _ _ start history holds c.deref_mut.ensures.value refl _ _ _ _ c.forget_into-reply.ensures.takes _
+    put.held _ _ (put.status _)
+    (put.handed _ _ c.forget_into-reply.ensures.tells.leaves) put.shown)

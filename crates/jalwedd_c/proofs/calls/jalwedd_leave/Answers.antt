@@ -1,5 +1,5 @@
 -- The moment is counted from the start of the session that is held.
-use Rattle.std.proofs.Common.{◌≡◌, ℕ, refl, subst}
+use Rattle.std.proofs.Common.{ℕ, refl, subst}
 use Rattle.rtcp_engine.specs.Acts.{left}
 use Rattle.jalwedd_host.specs.Promises.{Serves}
 use Rattle.jalwedd_host.proofs.LawLemmas.{session_of}
@@ -14,10 +14,10 @@ returns-in_default-moment_of-clause-early c =
 pub returns-clause-serves : goal.returns-clause-serves
 returns-clause-serves c start moment history leads told =
     let put = c.put_back.ensures in
-    let room : c.deref-2.result.now ≡ c.leave_into-reply.new.octets.items = cc in
     let holds = session_of _ _ start history c.in-Some.ensures.gives leads in
     let same = same_moment _ _ start history holds c.deref.ensures _ _ moment c.in-Some-moment_of.ensures told in
-    subst (λ (m : ℕ). Serves start history (left m c.args.word) c.put_back.new.self.owned.held
-    c.put_back.result c.put_back.new.step c.args.octets.now c.put_back.new.octets) same
-    (serves _ _ _ start history holds c.deref_mut.ensures.value refl _ _ _ _ (c.leave_into-reply.ensures.takes) room _
-    put.held _ _ _ _ put.status put.handed put.shown)
+    subst (λ (m : ℕ). Serves start history (left m c.args.word) c.put_back.new.self.owned.held c.put_back.result
+    c.put_back.new.step c.args.octets.now c.leave_into-reply.new.octets) same
+    (serves _ _ _ start history holds c.deref_mut.ensures.value refl _ _ _ _ c.leave_into-reply.ensures.takes _ put.held
+    _ _ (put.status _)
+    (put.handed _ _ c.leave_into-reply.ensures.tells.leaves) put.shown)

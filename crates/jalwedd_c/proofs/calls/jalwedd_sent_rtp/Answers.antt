@@ -1,5 +1,5 @@
 -- The moment is counted from the start of the session that is held.
-use Rattle.std.proofs.Common.{ℕ, [], refl, subst}
+use Rattle.std.proofs.Common.{ℕ, refl, subst}
 use Rattle.rtcp_engine.specs.Acts.{rtp_sent}
 use Rattle.jalwedd_host.specs.Promises.{Serves}
 use Rattle.jalwedd_host.proofs.LawLemmas.{session_of}
@@ -17,6 +17,8 @@ returns-clause-serves c start moment history leads told =
     let holds = session_of _ _ start history c.in-Some.ensures.gives leads in
     let same = same_moment _ _ start history holds c.deref.ensures _ _ moment c.in-Some-moment_of.ensures told in
     subst (λ (m : ℕ). Serves start history (rtp_sent m c.args.timestamp c.args.size) c.put_back.new.self.owned.held
-    c.put_back.result c.put_back.new.step c.args.octets.now c.put_back.new.octets) same
-    (serves _ _ _ start history holds c.deref_mut.ensures.value refl _ _ _ _ (c.sent_rtp_told-reply.ensures.takes [])
-    refl _ put.held _ _ _ _ put.status put.handed put.shown)
+    c.put_back.result
+    c.put_back.new.step c.args.octets.now c.sent_rtp_into-reply.new.octets) same
+    (serves _ _ _ start history holds c.deref_mut.ensures.value refl _ _ _ _ c.sent_rtp_into-reply.ensures.takes _
+    put.held _ _ (put.status _)
+    (put.handed _ _ c.sent_rtp_into-reply.ensures.tells.leaves) put.shown)

@@ -1,5 +1,5 @@
 -- The moment is counted from the start of the session that is held.
-use Rattle.std.proofs.Common.{◌≡◌, ℕ, rules, sym, refl, subst}
+use Rattle.std.proofs.Common.{rules, ℕ, refl, subst, sym}
 use Rattle.rtcp_engine.specs.Acts.{ticked}
 use Rattle.rtcp_engine.specs.InTime.{IsOverdue}
 use Rattle.jalwedd_host.specs.Promises.{Serves}
@@ -15,13 +15,14 @@ returns-in_default-moment_of-clause-early c =
 pub returns-clause-serves : goal.returns-clause-serves
 returns-clause-serves c start moment history leads told =
     let put = c.put_back.ensures in
-    let room : c.deref-2.result.now ≡ c.tick_into-reply.new.octets.items = cc in
     let holds = session_of _ _ start history c.in-Some.ensures.gives leads in
     let same = same_moment _ _ start history holds c.deref.ensures _ _ moment c.in-Some-moment_of.ensures told in
     subst (λ (m : ℕ). Serves start history (ticked m c.args.first_word c.args.second_word)
-    c.put_back.new.self.owned.held c.put_back.result c.put_back.new.step c.args.octets.now c.put_back.new.octets) same
-    (serves _ _ _ start history holds c.deref_mut.ensures.value refl _ _ _ _ (c.tick_into-reply.ensures.takes) room _
-    put.held _ _ _ _ put.status put.handed put.shown)
+    c.put_back.new.self.owned.held c.put_back.result
+    c.put_back.new.step c.args.octets.now c.tick_into-reply.new.octets) same
+    (serves _ _ _ start history holds c.deref_mut.ensures.value refl _ _ _ _ c.tick_into-reply.ensures.takes _ put.held
+    _ _ (put.status _)
+    (put.handed _ _ c.tick_into-reply.ensures.tells.leaves) put.shown)
 
 pub returns-clause-not_too_late : goal.returns-clause-not_too_late
 returns-clause-not_too_late c start moment history leads told overdue =
@@ -31,4 +32,6 @@ returns-clause-not_too_late c start moment history leads told overdue =
     let late = subst (λ (m : ℕ). IsOverdue history (ticked m c.args.first_word c.args.second_word)) (sym same)
     overdue in
     let hands = c.tick_into-reply.ensures.not_too_late history from.stands late in
-    search (rules, hands)
+    let handed = c.put_back.ensures.handed _ _ c.tick_into-reply.ensures.tells.leaves in
+    let status = c.put_back.ensures.status c.tick_into-reply.new.octets in
+    search (rules, hands, handed, status)

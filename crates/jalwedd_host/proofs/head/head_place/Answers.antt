@@ -1,14 +1,9 @@
 -- What is told of a head is what its octets say, and its parts stand there.
-use Rattle.std.proofs.Common.{◌≡◌, Bool, true, false, length, refl, sym, ap, ◌∙◌}
+use Rattle.std.proofs.Common.{length, refl, sym, ap, ◌∙◌}
 use Rattle.std.proofs.lemmas.Iterator.Consumers.{count_from_yields_List, YieldsList-from_first}
-use Rattle.std.specs.Int.{from_bool}
 use Rattle.jalwedd_host.specs.Answers.{one_if}
+use Rattle.jalwedd_host.proofs.Options.{bit_number}
 use Rattle.jalwedd_host.proofs.head.head_place.Goals as goal
-
--- a bit as a number
-bit_number : (bit : Bool) → from_bool bit ≡ one_if bit
-bit_number true = refl
-bit_number false = refl
 
 pub returns : goal.returns
 returns c = λ spelled. record {

@@ -3,7 +3,7 @@ use Rattle.std.proofs.Common.{◌≡◌}
 use Rattle.jalwedd_host.proofs.Held.{leads_as}
 use Rattle.jalwedd_host.proofs.handle.Handle.put_back.Goals as goal
 
-pub returns-clause-shown : goal.returns-clause-shown
-returns-clause-shown c start history leads =
+pub returns-in-Ok-clause-shown : goal.returns-in-Ok-clause-shown
+returns-in-Ok-clause-shown c start history leads =
     let same : c.args.session.value ≡ c.deref.result.now = cc in
-    c.step.ensures.shown start history (leads_as _ _ start history same leads)
+    c.step_told.ensures.shown start history (leads_as _ _ start history same leads)

@@ -1,5 +1,5 @@
 use Rattle.std.proofs.Common.{◌∙◌, Option, Some, None, map, ap, sym, subst}
-use Rattle.rtcp_engine.specs.declared.changes.Change.{Change}
+use Rattle.rtcp_engine.specs.declared.changes.IdentifierChange.{IdentifierChange}
 use Rattle.rtcp_engine.specs.declared.refusal.Refusal.TheVariants.{OwnSsrc}
 use Rattle.rtcp_engine.specs.Acts.{arrived}
 use Rattle.rtcp_engine.specs.Changes.{NewIdentifier, changed_by}
@@ -8,10 +8,9 @@ use Rattle.rtcp_engine.specs.Identities.{may_change}
 use Rattle.rtcp_engine.specs.Lives.{step_into}
 use Rattle.rtcp_engine.specs.States.{Acts, IsIn, ParticipantValue, StandsAt}
 use Rattle.rtcp_engine.specs.Steps.{OutValue}
-use Rattle.rtcp_engine.specs.Views.{datagram_of, out_with, told_value}
-use Rattle.rtcp_engine.proofs.ActLemmas.{Takes, acted_stands, acted_step, answered, refuses}
+use Rattle.rtcp_engine.specs.Views.{datagram_of, out_in, told_value}
+use Rattle.rtcp_engine.proofs.ActLemmas.{IsTaken, acted_stands, acted_step, answered, refuses}
 use Rattle.rtcp_engine.proofs.Arriving.{changing, is_own, may_is, refused_as_own}
-use Rattle.rtcp_engine.proofs.Bounded.{bounds_after}
 use Rattle.rtcp_engine.proofs.Changing.{or_none}
 use Rattle.rtcp_engine.proofs.LifeLemmas.{is_there}
 use Rattle.rtcp_engine.proofs.AnswerLemmas.{taken_history}
@@ -21,12 +20,12 @@ pub returns-then-not-allows-clause-takes : goal.returns-then-not-allows-clause-t
 returns-then-not-allows-clause-takes g c =
     let p = c.args.self.now in
     let arrival = c.args.arrival in
-    let listed = sym (ap (λ (x : ParticipantValue). may_change (map (λ (change : Change). change.peer) x.changes)
+    let listed = sym (ap (λ (x : ParticipantValue). may_change
+    (map (λ (change : IdentifierChange). change.peer) x.changes)
     c.args.peer) c.self.view_is) ∙ sym c.allows.ensures.exact ∙ c.if-not-allows.true in
     refuses p (arrived c.args.now c.args.peer c.args.w (datagram_of arrival)) OwnSsrc
     (λ h stands. refused_as_own p h c.args.now c.args.peer c.args.w arrival stands c.requires.admitted
     (is_own p h (datagram_of arrival) stands c.requires.own) (sym (may_is p h c.args.peer stands) ∙ listed))
-    c.ranges.w.fits
 
 pub free_ssrc-ssrc-requires : goal.free_ssrc-ssrc-requires
 free_ssrc-ssrc-requires g c = record { few = c.requires.few }
@@ -39,11 +38,12 @@ returns-clause-takes g c =
     let arrival = c.args.arrival in
     let act = arrived c.args.now c.args.peer c.args.w (datagram_of arrival) in
     let new : NewIdentifier = record { peer = c.args.peer; ssrc = c.free_ssrc-ssrc.result } in
-    let octets = c.change-out.new.octets.items in
-    let bye = out_with octets c.change-out.result in
-    let listed = sym (ap (λ (x : ParticipantValue). may_change (map (λ (change : Change). change.peer) x.changes)
+    let octets = c.change-out.new.octets in
+    let bye = out_in octets c.change-out.result in
+    let listed = sym (ap (λ (x : ParticipantValue). may_change
+    (map (λ (change : IdentifierChange). change.peer) x.changes)
     c.args.peer) c.self.view_is) ∙ sym c.allows.ensures.exact ∙ c.if-not-allows.false in
-    let changes : (h : History) → StandsAt p h → Takes h act (Some new) = λ h stands.
+    let changes : (h : History) → StandsAt p h → IsTaken h act (Some new) = λ h stands.
     changing p h c.args.now c.args.peer c.args.w new.ssrc arrival stands c.requires.admitted
     (is_own p h (datagram_of arrival) stands c.requires.own) (sym (may_is p h c.args.peer stands) ∙ listed)
     (c.free_ssrc-ssrc.ensures h stands (is_there c.args.now p c.requires.admitted)) in
@@ -61,5 +61,4 @@ returns-clause-takes g c =
           ∙ ap (λ (out : Option OutValue). step_into q.presence.setup out c.take_datagram-others_changed.result
           life) (sym (or_none bye))));
       stands = λ h stands. subst (StandsAt q) (taken_history h act (changes h stands).taken) (after h stands);
-      bounded = λ h stands. bounds_after h act c.ranges.w.fits stands.is_history;
     }

@@ -14,7 +14,7 @@ use Rattle.rtcp_engine.proofs.participant.Participant.arrive_rtcp_into.Goals as 
 pub returns-in-Some-clause-takes : goal.returns-in-Some-clause-takes
 returns-in-Some-clause-takes g c reading is =
     call_refused (rtcp_came c.args.now c.args.peer c.args.w c.args.bytes.now reading)
-    (sym c.refusal.ensures.exact ∙ c.in-Some.is) c.ranges.w.fits
+    (sym c.refusal.ensures.exact ∙ c.in-Some.is)
 
 pub returns-in-Err-clause-takes : goal.returns-in-Err-clause-takes
 returns-in-Err-clause-takes g c reading is =
@@ -25,8 +25,7 @@ returns-in-Err-clause-takes g c reading is =
     (rtcp_came c.args.now c.args.peer c.args.w c.args.bytes.now r) (Err reason) p)
     (one_reading-once c.args.bytes.now (Err c.in-Err.fault) reading (c.in-Err.ensures.refused c.in-Err.fault refl)
     is)
-    (fault_answered c.args.now c.args.peer c.args.w datagram (sym c.refusal.ensures.exact ∙ c.in_default.is) refl
-    c.ranges.w.fits)
+    (fault_answered c.args.now c.args.peer c.args.w datagram (sym c.refusal.ensures.exact ∙ c.in_default.is) refl)
 
 pub arrive_as_own-reply-requires-clause-few : goal.arrive_as_own-reply-requires-clause-few
 arrive_as_own-reply-requires-clause-few g c = few_named c.args.bytes.now c.in-Ok.compound c.in-Ok.ensures.accepted
@@ -35,7 +34,7 @@ pub returns-then-is_named_by-clause-takes : goal.returns-then-is_named_by-clause
 returns-then-is_named_by-clause-takes g c reading is =
     subst (λ (r : Result (List RtcpPacket) WireFault). Takes c.args.self.now
     (rtcp_came c.args.now c.args.peer c.args.w c.args.bytes.now r)
-    (reply_value c.arrive_as_own-reply.new.octets.items c.arrive_as_own-reply.result) c.arrive_as_own-reply.new.self)
+    (reply_value c.arrive_as_own-reply.new.octets c.arrive_as_own-reply.result) c.arrive_as_own-reply.new.self)
     (one_reading-once c.args.bytes.now (Ok c.in-Ok.compound) reading c.in-Ok.ensures.accepted is)
     c.arrive_as_own-reply.ensures.takes
 
@@ -43,6 +42,6 @@ pub returns-clause-takes : goal.returns-clause-takes
 returns-clause-takes g c reading is =
     subst (λ (r : Result (List RtcpPacket) WireFault). Takes c.args.self.now
     (rtcp_came c.args.now c.args.peer c.args.w c.args.bytes.now r)
-    (Ok (told_value c.args.octets.now.items c.arrive_as_other.result)) c.arrive_as_other.new.self)
+    (Ok (told_value c.args.octets.now c.arrive_as_other.result)) c.arrive_as_other.new.self)
     (one_reading-once c.args.bytes.now (Ok c.in-Ok.compound) reading c.in-Ok.ensures.accepted is)
-    (c.arrive_as_other.ensures.takes c.args.peer c.args.w c.args.octets.now.items c.ranges.w.fits)
+    (c.arrive_as_other.ensures.takes c.args.peer c.args.w c.args.octets.now c.ranges.w.fits)

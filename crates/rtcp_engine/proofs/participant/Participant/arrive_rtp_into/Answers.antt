@@ -12,7 +12,7 @@ use Rattle.rtcp_engine.proofs.participant.Participant.arrive_rtp_into.Goals as g
 pub returns-in-Some-clause-takes : goal.returns-in-Some-clause-takes
 returns-in-Some-clause-takes g c reading is =
     call_refused (rtp_came c.args.now c.args.peer c.args.w reading)
-    (sym c.refusal.ensures.exact ∙ c.in-Some.is) c.ranges.w.fits
+    (sym c.refusal.ensures.exact ∙ c.in-Some.is)
 
 pub returns-in-Err-clause-takes : goal.returns-in-Err-clause-takes
 returns-in-Err-clause-takes g c reading is =
@@ -22,5 +22,4 @@ returns-in-Err-clause-takes g c reading is =
     subst (λ (r : Result RtpValue RtpFault). Takes p (rtp_came c.args.now c.args.peer c.args.w r) (Err reason) p)
     (one_reading-rtp_once c.args.bytes.now (Err c.in-Err.fault) reading
     (c.in-Err.ensures.refused c.in-Err.fault refl) is)
-    (fault_answered c.args.now c.args.peer c.args.w datagram (sym c.refusal.ensures.exact ∙ c.in_default.is) refl
-    c.ranges.w.fits)
+    (fault_answered c.args.now c.args.peer c.args.w datagram (sym c.refusal.ensures.exact ∙ c.in_default.is) refl)

@@ -1,10 +1,9 @@
--- The step is what was told: it has no compound.
-use Rattle.std.proofs.Common.{[]}
-use Rattle.rtcp_engine.proofs.ActLemmas.{retold}
+-- The answer is the reply, with the compound of the room.
+use Rattle.rtcp_engine.proofs.ActLemmas.{respared, retold}
 use Rattle.rtcp_engine.proofs.participant.Participant.configure.Goals as goal
 
-pub returns-in-Ok-clause-takes : goal.returns-in-Ok-clause-takes
-returns-in-Ok-clause-takes g c = retold c.step.ensures.value (c.in-Ok.ensures.takes c.new-octets.result.items)
+pub returns-clause-takes : goal.returns-clause-takes
+returns-clause-takes g c = retold c.answer_with.ensures c.configure_into-reply.ensures.takes
 
-pub returns-in-Err-clause-takes : goal.returns-in-Err-clause-takes
-returns-in-Err-clause-takes g c = c.in-Err.ensures.takes []
+pub returns-clause-spares : goal.returns-clause-spares
+returns-clause-spares g c = respared _ _ _ c.answer_with.ensures c.configure_into-reply.ensures.spares

@@ -45,7 +45,7 @@ returns-then-member_count-le-FEW_MEMBERS-clause-new g c others there =
     leaves false (λ o. true) c.self.view_is c.requires.phase there (same_stays c.self.inside.presence) refl
     (λ o agrees. sym (c.is_unheard.ensures o agrees) ∙ c.if-is_unheard.false)
     (λ o agrees. le-leb _ 50 (subst (λ (n : ℕ). n ≤ 50) (c.member_count.ensures.exact o agrees)
-    c.if-member_count-le-FEW_MEMBERS.true)) (λ o agrees. refl) (λ o. c.bye.ensures)
+    c.if-member_count-le-FEW_MEMBERS.true)) (λ o agrees. refl) (λ o. c.write_bye.ensures.out)
 
 pub returns-clause-new : goal.returns-clause-new
 returns-clause-new g c others there =

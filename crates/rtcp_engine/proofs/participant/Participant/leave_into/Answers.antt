@@ -6,7 +6,7 @@ use Rattle.rtcp_engine.proofs.participant.Participant.leave_into.Goals as goal
 
 pub returns-in-Some-clause-takes : goal.returns-in-Some-clause-takes
 returns-in-Some-clause-takes g c =
-    call_refused (left c.args.now c.args.w) (sym c.refusal.ensures.exact ∙ c.in-Some.is) c.ranges.w.fits
+    call_refused (left c.args.now c.args.w) (sym c.refusal.ensures.exact ∙ c.in-Some.is)
 
 pub returns-clause-takes : goal.returns-clause-takes
 returns-clause-takes g c =
@@ -15,4 +15,4 @@ returns-clause-takes g c =
     (λ session. refl))
     (outside_at (λ (x : ParticipantValue). left x.presence.latest c.args.w) c.take_call.ensures.new
     c.take_leave-brought.ensures.new)
-    (c.told.ensures.exact c.take_leave-brought.new.octets.items) c.ranges.w.fits
+    (c.told.ensures.exact c.take_leave-brought.new.octets) c.ranges.w.fits

@@ -8,7 +8,6 @@ use Rattle.rtcp_engine.proofs.participant.Participant.tick_into.Goals as goal
 pub returns-in-Some-clause-takes : goal.returns-in-Some-clause-takes
 returns-in-Some-clause-takes g c =
     call_refused (ticked c.args.now c.args.w1 c.args.w2) (sym c.refusal.ensures.exact ∙ c.in-Some.is)
-    (c.ranges.w1.fits, c.ranges.w2.fits)
 
 pub returns-clause-takes : goal.returns-clause-takes
 returns-clause-takes g c =
@@ -17,9 +16,9 @@ returns-clause-takes g c =
     (λ session. refl))
     (outside_at (λ (x : ParticipantValue). ticked x.presence.latest c.args.w1 c.args.w2) c.take_call.ensures.new
     c.take_tick-brought.ensures.new)
-    (c.told.ensures.exact c.take_tick-brought.new.octets.items) (c.ranges.w1.fits, c.ranges.w2.fits)
+    (c.told.ensures.exact c.take_tick-brought.new.octets) (c.ranges.w1.fits, c.ranges.w2.fits)
 
 pub returns-clause-not_too_late : goal.returns-clause-not_too_late
 returns-clause-not_too_late g c history h late =
-    sends_if_late history c.args.now c.args.w1 c.args.w2 c.take_tick-brought.new.octets.items (Ok c.told.result)
+    sends_if_late history c.args.now c.args.w1 c.args.w2 c.take_tick-brought.new.octets (Ok c.told.result)
     (c.ranges.w1.fits, c.ranges.w2.fits) h.is_history ((returns-clause-takes g c).answer history h) late

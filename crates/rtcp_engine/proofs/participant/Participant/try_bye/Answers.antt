@@ -46,6 +46,7 @@ returns-clause-new g c w2 =
     subst (λ (b : Bool). IsAt q (if b then gone outcome else backing_off outcome
     (after_wait setup c.self.inside.presence.latest c.args.w1 backoff))) (sym due) refl)
     (λ outcome backoff waits count.
-    c.bye.ensures ∙ ap (λ (st : Setup). Some (bye_out (bye_octets st))) c.expire_backoff.ensures.new.stays.setup
+    c.write_bye.ensures.out ∙ ap (λ (st : Setup). Some (bye_out (bye_octets st)))
+    c.expire_backoff.ensures.new.stays.setup
     ∙ ap (λ (b : Bool). if b then Some (bye_out (bye_octets setup)) else None)
     (sym c.if-not-expire_backoff.false ∙ c.expire_backoff.ensures.due outcome backoff waits count)))

@@ -2,7 +2,7 @@ use Rattle.std.proofs.Common.{◌≡◌, ℕ, ◌∙◌, sym, subst}
 use Rattle.rtcp_members.specs.Traces.{horizons_at}
 use Rattle.rtcp_members.specs.Tables.{TableValue, after_check}
 use Rattle.rtcp_engine.specs.OwnStreams.{Adds, check_passed}
-use Rattle.rtcp_engine.specs.States.{Moves}
+use Rattle.rtcp_engine.specs.States.{MovesOthers}
 use Rattle.rtcp_engine.specs.Ticks.{horizons_of, without_silent}
 use Rattle.rtcp_engine.proofs.Soundness.{IsKept, check_kept, no_call, kept}
 use Rattle.rtcp_engine.proofs.StepLemmas.{at_latest, does_at, drops, inside_interval}
@@ -36,7 +36,7 @@ returns-clause-new g c =
 
 pub returns-clause-moved : goal.returns-clause-moved
 returns-clause-moved g c =
-    at_latest c.self.view_is (λ t. Moves c.args.self.now c.check-moved.result (λ setup. without_silent setup t))
+    at_latest c.self.view_is (λ t. MovesOthers c.args.self.now c.check-moved.result (λ setup. without_silent setup t))
     (moves_check c.self.view_is c.self.inside.latest c.check_interval-td.result c.check-moved.result
     (inside_interval c.self.view_is c.check_interval-td.ensures.exact)
     (c.check-moved.ensures.moved ∙ (λ i. check_moves

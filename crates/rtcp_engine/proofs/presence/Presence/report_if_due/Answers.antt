@@ -1,5 +1,5 @@
-use Rattle.std.proofs.Common.{◌∙◌, ap, sym, option_map}
-use Rattle.rtcp_engine.specs.Lives.{report_out}
+use Rattle.std.proofs.Common.{◌∙◌, Some, sym}
+use Rattle.rtcp_engine.specs.Views.{out_in}
 use Rattle.rtcp_engine.proofs.StepLemmas.{puts_off, reports_now, hands_out}
 use Rattle.rtcp_engine.proofs.presence.Presence.report_if_due.Goals as goal
 
@@ -10,8 +10,9 @@ returns-then-not-try_report-clause-new g c =
 
 pub returns-clause-report : goal.returns-clause-report
 returns-clause-report g c outcome agrees =
-    ap (option_map report_out) (hands_out c.args.w1 c.send_report.new.octets.items (λ o a. sym c.if-not-try_report.false
-    ∙ c.try_report.ensures.due o a) c.try_report.ensures.new c.send_report.ensures.report outcome agrees)
+    hands_out c.args.w1 (out_in c.send_report.new.octets (Some c.send_report.result))
+    (λ o a. sym c.if-not-try_report.false ∙ c.try_report.ensures.due o a) c.try_report.ensures.new
+    c.send_report.ensures.report outcome agrees
 
 pub returns-clause-new : goal.returns-clause-new
 returns-clause-new g c =

@@ -14,8 +14,8 @@ returns-in-Ok-push_reply g c =
       c.in-Ok.ensures.event,
       found.1,
       λ history stands. (
-        answer_shown _ _ _ (answer_of history found.0) (rw c.deref.ensures.0 at c.in-Ok-push_reply.ensures)
-            c.requires.empty (takes.answer history stands),
+        answer_shown _ _ _ (answer_of history found.0) c.in-Ok-push_reply.ensures c.requires.empty
+            (takes.answer history stands),
         takes.stands history stands,
       ),
     )
