@@ -1,20 +1,17 @@
--- What was sent keeps its bounds after one act more.
+-- A tick that comes late is answered by a compound.
 use Rattle.std.proofs.Common.{◌≡◌, ℕ, List, false, true, IsTrue, is_some, Option, Some, None, Result, Ok, Err, IfOk, refl, ap, ◌∙◌}
 use Rattle.rtcp_engine.specs.declared.refusal.Refusal.{Refusal}
-use Rattle.rtcp_engine.specs.declared.step.OutKind.{OutKind}
 use Rattle.rtcp_engine.specs.declared.step.Told.{Told}
-use Rattle.rtcp_engine.specs.Acts.{Act, ticked}
+use Rattle.rtcp_engine.specs.declared.step.Written.{Written}
+use Rattle.rtcp_engine.specs.Acts.{ticked}
 use Rattle.rtcp_engine.specs.Histories.{History, brought_by, session_at}
 use Rattle.rtcp_engine.specs.Refusals.{refusal_after}
 use Rattle.rtcp_engine.specs.Steps.{AnswerValue, OutValue, StepValue, answer_unless}
 use Rattle.rtcp_engine.specs.InTime.{IsOverdue}
-use Rattle.rtcp_engine.specs.Views.{reply_value, out_with, told_value}
-use Rattle.rtcp_engine.specs.Answers.{answer_of, followed_by, step_by}
+use Rattle.rtcp_engine.specs.Views.{reply_value, out_in, told_value}
+use Rattle.rtcp_engine.specs.Answers.{answer_of, step_by}
 use Rattle.rtcp_engine.specs.Taken.{HasWords, IsHistory}
-use Rattle.rtcp_engine.specs.Spacing.{KeepsBounds}
 use Rattle.rtcp_engine.proofs.Waiting.{in_time_after}
-use Rattle.rtcp_engine.proofs.LawLemmas.{sent_compounds_keep_apart}
-use Rattle.rtcp_engine.proofs.Following.{is_history_after}
 
 abbrev taken : StepValue → AnswerValue
 taken step = Ok step
@@ -31,7 +28,7 @@ sends_if_late history moment first_word second_word octets (Err refusal) words i
 sends_if_late history moment first_word second_word octets (Ok told) words is answer late =
     handed_out (refusal_after history (ticked moment first_word second_word)) refl answer
   where
-    some_before : (out : Option OutKind) (found : Option OutValue) → out_with octets out ≡ found →
+    some_before : (out : Option Written) (found : Option OutValue) → out_in octets out ≡ found →
         IsTrue (is_some found) → IsTrue (is_some out)
     some_before (Some out) found same some = refl
     some_before None found same some = absurd (none_is_no_some (ap is_some same ∙ some))
@@ -47,8 +44,3 @@ sends_if_late history moment first_word second_word octets (Ok told) words is an
         (same_out (told_value octets told) (step_by history (ticked moment first_word second_word)) same)
         (in_time_after history (ticked moment first_word second_word) is none words late)
     handed_out (Some refusal) some same = absurd cc
-
-pub bounds_after : (history : History) (act : Act) → HasWords act → IsHistory history →
-    KeepsBounds (followed_by history act)
-bounds_after history act words is = sent_compounds_keep_apart (followed_by history act)
-    (is_history_after history act words is)

@@ -17,6 +17,7 @@ mod LeavingRows
 mod LifeLemmas
 mod RolesChanged
 mod OneMore
+mod HandingOver
 mod Pacing
 mod Past
 mod OneClock

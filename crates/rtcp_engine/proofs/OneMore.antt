@@ -1,6 +1,6 @@
 -- One event more of a run.
-use Rattle.std.proofs.Common.{◌≡◌, ℕ, zero, suc, ◌+◌, ◌<◌, List, [], ◌∷◌, ◌++◌, length, take, false, Result, Ok, Err, refl, ap, ◌∙◌, arith}
-use Rattle.std.specs.Result.{is_err, OnOk}
+use Rattle.std.proofs.Common.{◌≡◌, ℕ, zero, suc, ◌+◌, ◌<◌, List, [], ◌∷◌, ◌++◌, length, take, true, false, Result, Ok, Err, refl, ap, ◌∙◌, arith}
+use Rattle.std.specs.Result.{is_err, OnErr, OnOk}
 use Rattle.std.proofs.Math.ListN.{get_or}
 use Rattle.std.proofs.lemmas.List.{take_more}
 use Rattle.rtcp_engine.specs.declared.event.Event.{Event}
@@ -38,6 +38,10 @@ act_of_place (event ∷ events) (act ∷ acts) (suc place) d e h within = act_of
 pub of_no_error : {A B : Type 0} {P : Type 0} (result : Result A B) → is_err result ≡ false → OnOk result P → P
 of_no_error (Ok x) none h = h
 of_no_error (Err x) none h = absurd cc
+
+pub of_error : {A B : Type 0} {P : Type 0} (result : Result A B) → is_err result ≡ true → OnErr result P → P
+of_error (Ok x) some h = absurd cc
+of_error (Err x) some h = h
 
 -- the act of the event at a place, with those of the events before
 pub record NextAct (events : List Event) (acts : List Act) (told place : ℕ) : Type 0 where

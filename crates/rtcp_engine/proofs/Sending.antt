@@ -241,7 +241,7 @@ tick_by setup t first_word second_word leave now sent false passed usable fits d
 
 -- the BYE with which a participant is gone
 last_bye : (setup : Setup) (leave : Option ℕ) (asked t interval : ℕ) → IsUsable setup → leave ≡ Some asked →
-    (t ≡ asked) ⊎ (HalfPasses asked t interval × (asked + 1026037 ≤ t))
+    ((t ≡ asked) × (interval ≡ 0)) ⊎ (HalfPasses asked t interval × (asked + 1026037 ≤ t))
     → IsLast setup.limit leave (record {
       moment = t;
       interval = interval;
@@ -268,7 +268,7 @@ leave_by setup t u word leave outcome sent true few usable order h = inl h.kept
 leave_by setup t u word leave outcome sent false true usable order h =
     inr (
       last_bye setup (option_or leave (Some u)) u u 0 usable (ap (λ (l : Option ℕ). option_or l (Some u)) h.stays)
-          (inl refl),
+          (inl (refl, refl)),
       h.kept,
     )
 leave_by setup t u word leave outcome sent false false usable order h = record {

@@ -184,8 +184,9 @@ last_leave_counts : ((history : History) → IsHistory history →
     EndsWithBye (last_leave history.acts) (sent_at history)) → ⊥
 last_leave_counts law = late ((law asked_again asked_again_stands).1 refl)
   where
-    late : (◌≡◌ {A = ℕ} 11026037 11000000) ⊎ ((100000 * 2500000 ≤ 2 * 121828 * 26037) × (12026037 ≤ 11026037)) → ⊥
-    late (inl same) = omega (arith, same)
+    late : ((◌≡◌ {A = ℕ} 11026037 11000000) × (◌≡◌ {A = ℕ} 2500000 0))
+        ⊎ ((100000 * 2500000 ≤ 2 * 121828 * 26037) × (12026037 ≤ 11026037)) → ⊥
+    late (inl same) = omega (arith, same.0)
     late (inr later) = omega (arith, later.1)
 
 -- ---- What is told of a source that was heard at the latest call

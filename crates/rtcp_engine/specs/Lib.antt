@@ -18,6 +18,7 @@ pub mod Answers
 pub mod Sent
 pub mod Spacing
 pub mod InTime
+pub mod Runs
 pub mod Views
 pub mod Taken
 pub mod Pacing

@@ -47,12 +47,13 @@ abbrev pub first_leave : List Act → Option ℕ
 first_leave [] = None
 first_leave (act ∷ earlier) = option_or (first_leave earlier) (leave_moment act)
 
--- A BYE comes at the moment of a leave; or in a backoff, once half its interval over 1.21828 has passed, which is at
--- least 1,026,037 microseconds.
+-- A BYE comes at the moment of a leave, and waits for nothing; or in a backoff, once half its interval over 1.21828 has
+-- passed, which is at least 1,026,037 microseconds.
 abbrev pub IsLate : (leave : Option ℕ) → Sent → Type 0
 IsLate None bye = ⊥
 IsLate (Some leave) bye =
-    (bye.moment ≡ leave) ⊎ (HalfPasses leave bye.moment bye.interval × (leave + 1026037 ≤ bye.moment))
+    ((bye.moment ≡ leave) × (bye.interval ≡ 0))
+    ⊎ (HalfPasses leave bye.moment bye.interval × (leave + 1026037 ≤ bye.moment))
 
 -- the BYE with which the participant leaves
 abbrev pub is_last_bye : Sent → Bool
@@ -86,19 +87,23 @@ AllFit limit sent = All (λ compound. length compound.out.octets ≤ limit) sent
 
 -- ---- All together
 
--- What holds of all that was sent over a history, the BYEs included (RFC 3550, 6.2, 6.3, 8.2).
-pub record KeepsBounds (history : History) : Type 0 where
+-- What holds of all that was sent over a session, the BYEs included, by the moment of its first leave and the limit of
+-- its compounds (RFC 3550, 6.2, 6.3, 8.2).
+pub record AreBounded (leave : Option ℕ) (most : ℕ) (sent : List Sent) : Type 0 where
   -- Two successive reports lie at least half the interval then computed for the later one apart, over 1.21828.
-  pub spaced : AreSpaced (reports_in (sent_at history))
+  pub spaced : AreSpaced (reports_in sent)
   -- None comes before 1,026,037 microseconds.
-  pub first : All (λ report. 1026037 ≤ report.moment) (reports_in (sent_at history))
+  pub first : All (λ report. 1026037 ≤ report.moment) (reports_in sent)
   -- In a window of any width at most one more lies than 2,052,074 microseconds fit into it.
-  pub window : (from width : ℕ) →
-      count_within from width (reports_in (sent_at history)) ≤ 1 + width / 2052074
+  pub window : (from width : ℕ) → count_within from width (reports_in sent) ≤ 1 + width / 2052074
   -- There is at most one BYE of leaving, nothing comes after it, and it comes at the moment of the leave, or after a
   -- backoff: no sooner than half its interval after the leave, over 1.21828, and than 1,026,037 microseconds.
-  pub leaves_once : EndsWithBye (first_leave history.acts) (sent_at history)
+  pub leaves_once : EndsWithBye leave sent
   -- At most eight identifiers are given up with a BYE.
-  pub few_changes : HasFewChanges (sent_at history)
+  pub few_changes : HasFewChanges sent
   -- No compound passes the limit.
-  pub limit : AllFit history.setup.limit (sent_at history)
+  pub limit : AllFit most sent
+
+-- What was sent over a history keeps its bounds.
+abbrev pub KeepsBounds : History → Type 0
+KeepsBounds history = AreBounded (first_leave history.acts) history.setup.limit (sent_at history)

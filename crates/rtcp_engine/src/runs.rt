@@ -6,8 +6,7 @@ ghost use Rattle.rtcp_engine.specs.Outcomes.{one_if};
 ghost use Rattle.rtcp_engine.specs.Histories.{History};
 ghost use Rattle.rtcp_engine.specs.Answers.{answers_to, followed_by_all};
 ghost use Rattle.rtcp_engine.specs.Views.{AreActsOf};
-ghost use Rattle.rtcp_engine.specs.Spacing.{KeepsBounds};
-ghost use Rattle.rtcp_engine.specs.InTime.{AllInTime};
+ghost use Rattle.rtcp_engine.specs.Runs.{HandsOver, taken_since};
 ghost use Rattle.rtcp_engine.specs.States.{KeepsCapacity, StandsAt};
 
 use crate::event::Event;
@@ -61,17 +60,12 @@ pub fn run<T: MemberTable, S: Sink>(
     // The table never passes its capacity.
     ensures within { KeepsCapacity participant.old.presence → KeepsCapacity participant.new.presence }
 
-    // All that was sent over the whole history keeps its bounds: reports lie apart, the first one too, and few lie
-    // in a window; the BYE of leaving comes last, and few identifiers are given up; no compound passes the limit.
-    ensures bounded { (history : History) (acts : List Act) → StandsAt participant.old history →
-        AreActsOf events.now acts → KeepsBounds (followed_by_all history (take result.taken acts)) }
-
-    // Each tick of the whole history that came late sent a report, or in a backoff the BYE: late by the longest
-    // draw from the greatest interval computed since the last report, or the start, and as long after the last
-    // fall of the members; in a backoff, since the leave.
-    ensures not_too_late { (history : History) (acts : List Act) → StandsAt participant.old history →
-        AreActsOf events.now acts → let told = followed_by_all history (take result.taken acts) in
-        AllInTime told.setup told.word told.acts }
+    // The compounds of the answers that the sink took, each at the moment of its event, keep the bounds, together with
+    // all that was sent before: reports lie apart, the first one too, and few lie in a window; the BYE of leaving comes
+    // last, and nothing but refusals after it; few identifiers are given up; no compound passes the limit.
+    ensures sends { (history : History) (acts : List Act) → StandsAt participant.old history →
+        AreActsOf events.now acts → HandsOver history (take (result.taken - one_if result.stopped) acts)
+        (taken_since (S.content sink.old) (S.content sink.new)) }
 {
     let mut taken = 0;
     'events: for event in events {

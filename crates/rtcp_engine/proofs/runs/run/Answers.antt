@@ -1,13 +1,14 @@
-use Rattle.std.proofs.Common.{◌++◌, ◌+◌, ◌∙◌, List, [], ◌∷◌, length, take, ap, sym, subst, arith}
+use Rattle.std.proofs.Common.{◌≡◌, ◌++◌, ◌+◌, ◌-◌, ◌∙◌, ℕ, List, [], ◌∷◌, length, take, ap, sym, subst, arith}
 use Rattle.std.proofs.lemmas.List.{append_assoc, length-append}
 use Rattle.rtcp_engine.specs.Histories.{History}
 use Rattle.rtcp_engine.specs.Steps.{AnswerValue}
 use Rattle.rtcp_engine.specs.Answers.{answer_of, answers_to, followed_by_all}
 use Rattle.rtcp_engine.specs.declared.event.Event.{Event}
 use Rattle.rtcp_engine.specs.Views.{answer_value, IsActOf}
+use Rattle.rtcp_engine.specs.Runs.{HandsOver, taken_since}
 use Rattle.rtcp_engine.specs.States.{StandsAt}
-use Rattle.rtcp_engine.proofs.LawLemmas.{sent_compounds_keep_apart, sends_in_time}
-use Rattle.rtcp_engine.proofs.OneMore.{answers_more, followed_more, next_act, of_no_error}
+use Rattle.rtcp_engine.proofs.HandingOver.{hands_over}
+use Rattle.rtcp_engine.proofs.OneMore.{answers_more, followed_more, next_act, of_error, of_no_error}
 use Rattle.rtcp_engine.proofs.runs.run.Goals as goal
 
 pub returns-then-is_err-clause-stands : goal.returns-then-is_err-clause-stands
@@ -20,21 +21,21 @@ returns-then-is_err-clause-stands g c history acts h are =
     ((c.tell-answer.ensures.takes next.act (subst (λ (event : Event). IsActOf event next.act) (sym c.event-item.is)
     (next.is_act c.event-item.result))).stands told (c.events.invariant.stands history acts h are))
 
-pub returns-then-is_err-clause-not_too_late : goal.returns-then-is_err-clause-not_too_late
-returns-then-is_err-clause-not_too_late g c history acts h are =
-    sends_in_time _ (returns-then-is_err-clause-stands g c history acts h are).is_history
+pub returns-then-is_err-clause-sends : goal.returns-then-is_err-clause-sends
+returns-then-is_err-clause-sends g c history acts h are =
+    let some = sym c.is_err.ensures.value ∙ c.if-is_err.true in
+    let one_less : c.events.taken ≡ c.events.taken + 1 - 1 = omega arith in
+    let given = taken_since (g.S.Sink.content c.args.sink.now) (g.S.Sink.content c.put.new.self) in
+    subst (λ (n : ℕ). HandsOver history (take n acts) given) one_less (hands_over history _ _ _
+    (of_error c.put.result some c.put.ensures.lost ∙ c.events.invariant.told history acts h are)
+    (c.events.invariant.stands history acts h are).is_history)
 
-pub returns-then-is_err-clause-bounded : goal.returns-then-is_err-clause-bounded
-returns-then-is_err-clause-bounded g c history acts h are = sent_compounds_keep_apart _
-    (returns-then-is_err-clause-stands g c history acts h are).is_history
-
-pub returns-clause-not_too_late : goal.returns-clause-not_too_late
-returns-clause-not_too_late g c history acts h are =
-    sends_in_time _ (c.events.invariant.stands history acts h are).is_history
-
-pub returns-clause-bounded : goal.returns-clause-bounded
-returns-clause-bounded g c history acts h are = sent_compounds_keep_apart _
-    (c.events.invariant.stands history acts h are).is_history
+pub returns-clause-sends : goal.returns-clause-sends
+returns-clause-sends g c history acts h are =
+    let all : c.events.taken ≡ c.events.taken - 0 = omega arith in
+    let given = taken_since (g.S.Sink.content c.args.sink.now) (g.S.Sink.content c.events.sink) in
+    subst (λ (n : ℕ). HandsOver history (take n acts) given) all (hands_over history _ _ _
+    (c.events.invariant.told history acts h are) (c.events.invariant.stands history acts h are).is_history)
 
 pub events-preserved : goal.events-preserved
 events-preserved g c =
