@@ -63,8 +63,7 @@ greatest_by setup act (gone outcome) before = before
 
 -- The greatest of the deterministic intervals computed since the newest report: for the draw that followed it, and at
 -- each tick since, after its check. Before the first report, since the start; after a leave, since that. A report is
--- one
--- that an act brings (`out_by`).
+-- what an act brings (`out_by`).
 abbrev pub greatest_interval : Setup → (word : ℕ) → List Act → ℕ
 greatest_interval setup word [] = interval_at setup nothing_yet
 greatest_interval setup word (act ∷ earlier) =

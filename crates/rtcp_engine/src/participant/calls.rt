@@ -50,9 +50,7 @@ impl<T: MemberTable> Participant<T> {
         };
         let datagram = Arrival::Rtcp(compound, bytes.len());
         if self.is_named_by(&datagram) {
-            // Not returned at once: the compiler would keep every answer on the stack for this call.
-            let reply = self.arrive_as_own(now, peer, w, datagram, octets);
-            return reply;
+            return self.arrive_as_own(now, peer, w, datagram, octets);
         }
         Ok(self.arrive_as_other(now, &datagram))
     }
@@ -84,8 +82,7 @@ impl<T: MemberTable> Participant<T> {
         };
         let packet = Arrival::Rtp(head);
         if self.is_named_by(&packet) {
-            let reply = self.arrive_as_own(now, peer, w, packet, octets);
-            return reply;
+            return self.arrive_as_own(now, peer, w, packet, octets);
         }
         Ok(self.arrive_as_other(now, &packet))
     }

@@ -1,7 +1,7 @@
 //! A change of the participant's identifier, for a datagram that names it (RFC 3550, 8.2).
 
-ghost use Rattle.std.specs.Prelude.{◌≡◌, ◌≤◌, ◌<◌, length, true};
-ghost use Rattle.rtcp_engine.specs.Identities.{is_among};
+ghost use Rattle.std.specs.Prelude.{◌≡◌, ◌≤◌, ◌<◌, length, map, true};
+ghost use Rattle.rtcp_engine.specs.Identities.{is_among, may_change};
 ghost use Rattle.rtcp_engine.specs.Acts.{arrived};
 ghost use Rattle.rtcp_engine.specs.Changes.{Session, changed_to, identifiers, is_about, is_taken as is_taken_of, new_identifier};
 ghost use Rattle.rtcp_engine.specs.Histories.{History, session_at};
@@ -23,7 +23,8 @@ const MAX_TRIES: u32 = 1 << 17;
 
 impl<T: MemberTable> Participant<T> {
     /// Takes a datagram that names the participant's SSRC, after a change of that, or refuses it.
-    #[cold]
+    // Inlined, so that a refusal costs no call: a peer that is refused may send such a datagram again and again.
+    #[inline(always)]
     pub(super) fn arrive_as_own(
         &mut self,
         now: u64,
@@ -45,6 +46,32 @@ impl<T: MemberTable> Participant<T> {
         if !self.changes.allows(peer) {
             return Err(Refusal::OwnSsrc);
         }
+        // Not returned at once: the compiler would keep every answer on the stack for this call.
+        let reply = self.arrive_after_change(now, peer, w, arrival, octets);
+        reply
+    }
+
+    /// Takes such a datagram after a change of the SSRC, where its peer may bring one.
+    #[cold]
+    fn arrive_after_change(
+        &mut self,
+        now: u64,
+        peer: u64,
+        w: u32,
+        arrival: Arrival<'_>,
+        octets: &mut [u8; MAX_COMPOUND],
+    ) -> Reply
+        requires own { is_about self.old.presence.setup.ssrc (datagram_of arrival) ≡ true }
+        requires admitted { refusal_by now self.old ≡ None }
+        requires in_order { Admits self.old.presence now }
+        requires size { size_of arrival ≤ 65535 }
+        requires few { NamesFewer arrival }
+        requires allowed { may_change (map (λ change. change.peer) self.old.changes) peer ≡ true }
+        ensures takes { Takes self.old (arrived now peer w (datagram_of arrival.entry))
+            (reply_value octets.new result) self.new }
+        ensures spares { Spares self.old result self.new }
+        ensures tells { Tells octets.old octets.new result self.new }
+    {
         let ssrc = self.free_ssrc(w, &arrival);
         let out = self.change(peer, ssrc, octets);
         self.take_call(now);

@@ -1,19 +1,12 @@
-use Rattle.std.proofs.Common.{◌∙◌, Option, Some, None, map, ap, sym, subst}
+use Rattle.std.proofs.Common.{◌∙◌, map, ap, sym}
 use Rattle.rtcp_engine.specs.declared.changes.IdentifierChange.{IdentifierChange}
 use Rattle.rtcp_engine.specs.declared.refusal.Refusal.TheVariants.{OwnSsrc}
 use Rattle.rtcp_engine.specs.Acts.{arrived}
-use Rattle.rtcp_engine.specs.Changes.{NewIdentifier, changed_by}
-use Rattle.rtcp_engine.specs.Histories.{History, session_at, with_act}
 use Rattle.rtcp_engine.specs.Identities.{may_change}
-use Rattle.rtcp_engine.specs.Lives.{step_into}
-use Rattle.rtcp_engine.specs.States.{Acts, IsIn, ParticipantValue, StandsAt}
-use Rattle.rtcp_engine.specs.Steps.{OutValue}
-use Rattle.rtcp_engine.specs.Views.{datagram_of, out_in, told_value}
-use Rattle.rtcp_engine.proofs.ActLemmas.{IsTaken, acted_stands, acted_step, answered, refuses}
-use Rattle.rtcp_engine.proofs.Arriving.{changing, is_own, may_is, refused_as_own}
-use Rattle.rtcp_engine.proofs.Changing.{or_none}
-use Rattle.rtcp_engine.proofs.LifeLemmas.{is_there}
-use Rattle.rtcp_engine.proofs.AnswerLemmas.{taken_history}
+use Rattle.rtcp_engine.specs.States.{ParticipantValue}
+use Rattle.rtcp_engine.specs.Views.{datagram_of}
+use Rattle.rtcp_engine.proofs.ActLemmas.{refuses}
+use Rattle.rtcp_engine.proofs.Arriving.{is_own, may_is, refused_as_own}
 use Rattle.rtcp_engine.proofs.participant.Participant.arrive_as_own.Goals as goal
 
 pub returns-then-not-allows-clause-takes : goal.returns-then-not-allows-clause-takes
@@ -26,39 +19,3 @@ returns-then-not-allows-clause-takes g c =
     refuses p (arrived c.args.now c.args.peer c.args.w (datagram_of arrival)) OwnSsrc
     (λ h stands. refused_as_own p h c.args.now c.args.peer c.args.w arrival stands c.requires.admitted
     (is_own p h (datagram_of arrival) stands c.requires.own) (sym (may_is p h c.args.peer stands) ∙ listed))
-
-pub free_ssrc-ssrc-requires : goal.free_ssrc-ssrc-requires
-free_ssrc-ssrc-requires g c = record { few = c.requires.few }
-
-pub returns-clause-takes : goal.returns-clause-takes
-returns-clause-takes g c =
-    let p = c.args.self.now in
-    let mid = c.change-out.new.self in
-    let q = c.take_datagram-others_changed.new.self in
-    let arrival = c.args.arrival in
-    let act = arrived c.args.now c.args.peer c.args.w (datagram_of arrival) in
-    let new : NewIdentifier = record { peer = c.args.peer; ssrc = c.free_ssrc-ssrc.result } in
-    let octets = c.change-out.new.octets in
-    let bye = out_in octets c.change-out.result in
-    let listed = sym (ap (λ (x : ParticipantValue). may_change
-    (map (λ (change : IdentifierChange). change.peer) x.changes)
-    c.args.peer) c.self.view_is) ∙ sym c.allows.ensures.exact ∙ c.if-not-allows.false in
-    let changes : (h : History) → StandsAt p h → IsTaken h act (Some new) = λ h stands.
-    changing p h c.args.now c.args.peer c.args.w new.ssrc arrival stands c.requires.admitted
-    (is_own p h (datagram_of arrival) stands c.requires.own) (sym (may_is p h c.args.peer stands) ∙ listed)
-    (c.free_ssrc-ssrc.ensures h stands (is_there c.args.now p c.requires.admitted)) in
-    let there : (h : History) → StandsAt p h → IsIn mid (changed_by (Some new) (session_at h)) =
-    λ h stands. c.change-out.ensures.new (session_at h) stands.session in
-    let acts = subst (λ (x : ParticipantValue). Acts x q act None c.take_datagram-others_changed.result)
-    c.take_call.ensures.new (c.take_datagram-others_changed.ensures.new c.args.peer c.args.w) in
-    let after : (h : History) → StandsAt p h → StandsAt q (with_act h act) = λ h stands. acted_stands h
-    (Some new) stands (changes h stands) c.ranges.w.fits (there h stands) c.change-out.ensures.calls acts in
-    record {
-      answer = λ h stands. answered h act _ (changes h stands).taken
-          (acted_step h (Some new) bye (told_value octets c.told-told.result) (changes h stands) (there h stands) acts
-          (after h stands) (c.change-out.ensures.out (session_at h) stands.session)
-          (λ life at. c.told-told.ensures.exact octets life at
-          ∙ ap (λ (out : Option OutValue). step_into q.presence.setup out c.take_datagram-others_changed.result
-          life) (sym (or_none bye))));
-      stands = λ h stands. subst (StandsAt q) (taken_history h act (changes h stands).taken) (after h stands);
-    }

@@ -27,16 +27,16 @@ returns-in-Err-clause-takes g c reading is =
     is)
     (fault_answered c.args.now c.args.peer c.args.w datagram (sym c.refusal.ensures.exact ∙ c.in_default.is) refl)
 
-pub arrive_as_own-reply-requires-clause-few : goal.arrive_as_own-reply-requires-clause-few
-arrive_as_own-reply-requires-clause-few g c = few_named c.args.bytes.now c.in-Ok.compound c.in-Ok.ensures.accepted
+pub arrive_as_own-requires-clause-few : goal.arrive_as_own-requires-clause-few
+arrive_as_own-requires-clause-few g c = few_named c.args.bytes.now c.in-Ok.compound c.in-Ok.ensures.accepted
 
 pub returns-then-is_named_by-clause-takes : goal.returns-then-is_named_by-clause-takes
 returns-then-is_named_by-clause-takes g c reading is =
     subst (λ (r : Result (List RtcpPacket) WireFault). Takes c.args.self.now
     (rtcp_came c.args.now c.args.peer c.args.w c.args.bytes.now r)
-    (reply_value c.arrive_as_own-reply.new.octets c.arrive_as_own-reply.result) c.arrive_as_own-reply.new.self)
+    (reply_value c.arrive_as_own.new.octets c.arrive_as_own.result) c.arrive_as_own.new.self)
     (one_reading-once c.args.bytes.now (Ok c.in-Ok.compound) reading c.in-Ok.ensures.accepted is)
-    c.arrive_as_own-reply.ensures.takes
+    c.arrive_as_own.ensures.takes
 
 pub returns-clause-takes : goal.returns-clause-takes
 returns-clause-takes g c reading is =
