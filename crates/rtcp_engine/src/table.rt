@@ -1,10 +1,10 @@
 //! What arrives, applied to a table of members, and whether that changes who is a member or who sends.
 
-ghost use Rattle.std.specs.Prelude.{◌≡◌, ◌≤◌, ◌<◌, ◌+◌, ◌^◌, ℕ, IfSome, IsTrue};
+ghost use Rattle.std.specs.Prelude.{◌≡◌, ◌≤◌, ◌<◌, ◌+◌, ◌^◌, ◌∷◌, [], ℕ, false};
 ghost use Rattle.std.specs.FinMap as map;
-ghost use Rattle.rtcp_wire.specs.Facts.{is_media, subject};
-ghost use Rattle.rtcp_members.specs.Roles.{check_moves, forgetting_moves, counts_differ, facts_move};
-ghost use Rattle.rtcp_members.specs.Tables.{HasFew, IsFew, after_check, after_forgetting, after_fact, after_facts, counted, members_in, senders_in};
+ghost use Rattle.rtcp_wire.specs.Facts.{is_media};
+ghost use Rattle.rtcp_members.specs.Roles.{check_moves, facts_move, forgetting_moves};
+ghost use Rattle.rtcp_members.specs.Tables.{HasFew, after_check, after_forgetting, after_facts, counted, members_in, senders_in};
 ghost use Rattle.rtcp_members.specs.Traces.{horizons_at};
 ghost use Rattle.rtcp_engine.specs.Arrivals.{facts_of_csrcs, facts_of_media, media_fact};
 
@@ -41,8 +41,8 @@ pub(crate) fn apply_media<T: MemberTable>(
 {
     let octets = head.payload().len() as u64;
     let packet = Fact::Media(head.ssrc(), head.sequence(), head.timestamp(), octets, rate);
-    let effect = apply_fact(table, packet, t);
-    if !effect.counted {
+    let effect = table.apply_fact(packet, t);
+    if !effect.applied.counted {
         return effect.moved;
     }
     let others = apply_csrcs(table, head, own, t);
@@ -60,8 +60,8 @@ fn apply_csrcs<T: MemberTable>(table: &mut T, head: &RtpHead<'_>, own: u32, t: u
     let mut moved = false;
     'csrcs: for csrc in head.csrcs() {
         if csrc != own {
-            let effect = apply_said(table, Fact::Heard(csrc), t);
-            moved |= effect.moved;
+            let by_this = apply_said(table, Fact::Heard(csrc), t);
+            moved |= by_this;
         }
     }
     moved
@@ -94,44 +94,18 @@ pub(crate) fn forget<T: MemberTable>(table: &mut T, ssrc: u32) -> bool
     RoleCounts::of(table) != before
 }
 
-/// What a fact did.
-#[derive(Clone, Copy)]
-pub(crate) struct Effect {
-    /// whether it was an RTP packet that was counted
-    pub(crate) counted: bool,
-    /// whether it changed who is a member or who sends
-    pub(crate) moved: bool,
-}
-
-/// Applies a fact of any kind. As code it stands here once, where that of `apply_fact` is made for each place.
+/// Applies a fact of any kind. As code it stands here once, where `MemberTable::apply_fact` is made for each place.
 #[inline(never)]
-pub(crate) fn apply_said<T: MemberTable>(table: &mut T, fact: Fact, t: u64) -> Effect
-    requires { IsTrue (is_media fact) → IfSome (map.get (T.content table.old).entries (subject fact)) IsFew }
-    ensures content { T.content table.new ≡ after_fact fact t (T.content table.old) }
-    ensures counted { result.counted ≡ counted (T.content table.old) fact }
-    ensures moved { result.moved ≡ counts_differ (T.content table.old) (T.content table.new) }
+pub(crate) fn apply_said<T: MemberTable>(table: &mut T, fact: Fact, t: u64) -> bool
+    requires { is_media fact ≡ false }
+    ensures content { T.content table.new ≡ after_facts (fact ∷ []) t (T.content table.old) }
+    ensures moved { result ≡ facts_move (fact ∷ []) t (T.content table.old) }
 {
-    apply_fact(table, fact, t)
+    table.apply_fact(fact, t).moved
 }
 
-/// Applies a fact.
-#[inline(always)]
-fn apply_fact<T: MemberTable>(table: &mut T, fact: Fact, t: u64) -> Effect
-    requires { IsTrue (is_media fact) → IfSome (map.get (T.content table.old).entries (subject fact)) IsFew }
-    ensures content { T.content table.new ≡ after_fact fact t (T.content table.old) }
-    ensures counted { result.counted ≡ counted (T.content table.old) fact }
-    ensures moved { result.moved ≡ counts_differ (T.content table.old) (T.content table.new) }
-{
-    let before = RoleCounts::of(table);
-    let applied = table.apply(fact, t);
-    Effect {
-        counted: applied.counted,
-        moved: RoleCounts::of(table) != before,
-    }
-}
-
-/// How many sources of a table are members, and how many send. A fact changes who they are where it changes one of
-/// these numbers, as it is about one source, and so does a check, as it adds nobody.
+/// How many sources of a table are members, and how many send. A check changes who they are where it changes one of
+/// these numbers, as it adds nobody, and so does a dismissal.
 #[derive(Clone, Copy, PartialEq, Eq)]
 struct RoleCounts {
     members: u32,

@@ -4,6 +4,7 @@ mod Naming
 mod Capacity
 mod Staying
 mod Measuring
+mod Moving
 mod TraceStepLemmas
 mod Following
 mod Packets

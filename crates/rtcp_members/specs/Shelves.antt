@@ -1,5 +1,5 @@
 -- Entries by rising SSRC on a shelf, and the cells in which they lie.
-use Rattle.std.specs.Prelude.{ℕ, Bool, ◌≡◌, ◌≤◌, List, set, slice_index_or, Option, Some}
+use Rattle.std.specs.Prelude.{ℕ, Bool, not, ◌≡◌, ◌==◌, ◌&&◌, ◌≤◌, List, set, slice_index_or, Option, Some}
 use Rattle.std.specs.List.{insert}
 use Rattle.std.specs.Borrow.{Lends, Fml, RattleType, MutBor, Array}
 use Rattle.rtcp_wire.specs.declared.fact.Fact.{Fact}
@@ -10,13 +10,13 @@ use Rattle.rtcp_source.specs.Blocks.{block_for}
 use Rattle.rtcp_members.specs.declared.cells.Cell.{Cell}
 use Rattle.rtcp_members.specs.declared.entry.Entry.{Entry}
 use Rattle.rtcp_members.specs.declared.counts.Counts.{Counts}
-use Rattle.rtcp_members.specs.declared.table.Applied.{Applied}
+use Rattle.rtcp_members.specs.declared.table.Effect.{Effect}
 use Rattle.rtcp_members.specs.Pending.{reported_entry}
 use Rattle.rtcp_members.specs.Standing.{AreCounts}
 use Rattle.rtcp_members.specs.Tables.{counted_of, entry_after, entry_with_fact, new_entry, place_of}
 use Rattle.rtcp_members.specs.contracts.cells.Cell.{the_row}
-use Rattle.rtcp_members.specs.Entries.{EntryValue}
-use Rattle.rtcp_members.specs.ListViews.{entry_value}
+use Rattle.rtcp_members.specs.Entries.{EntryValue, is_member, is_sender}
+use Rattle.rtcp_members.specs.ListViews.{entry_value, tally_of}
 use Rattle.rtcp_members.specs.Heaps.{in_order, IsIndexed}
 use denote.RawPtr.{Ptr}
 
@@ -45,12 +45,15 @@ pub record IsChanged (change : EntryValue → EntryValue) (entries next : List E
   pub value : (d : Entry) → entry_value entry ≡ change (entry_value (slice_index_or entries at d))
 
 -- What a fact makes of the entry of a rank, and what is returned of it.
-pub record TakesFact (fact : Fact) (moment : ℕ) (entries next : List Entry) (at : ℕ) (applied : Applied) :
+pub record TakesFact (fact : Fact) (moment : ℕ) (entries next : List Entry) (at : ℕ) (effect : Effect) :
     Type 0 where
   pub changed : IsChanged (entry_with_fact fact moment) entries next at
   pub place : (d : Entry) (room : Bool) →
-      applied.place ≡ place_of fact (Some (entry_value (slice_index_or entries at d))) room
-  pub counted : (d : Entry) → applied.counted ≡ counted_of fact (Some (entry_value (slice_index_or entries at d)))
+      effect.applied.place ≡ place_of fact (Some (entry_value (slice_index_or entries at d))) room
+  pub counted : (d : Entry) →
+      effect.applied.counted ≡ counted_of fact (Some (entry_value (slice_index_or entries at d)))
+  pub moved : effect.moved ≡ not ((tally_of is_member next == tally_of is_member entries)
+      && (tally_of is_sender next == tally_of is_sender entries))
 
 -- An entry for the source of a fact is put into a gap, as the fact makes it.
 pub record Joins (fact : Fact) (moment : ℕ) (entries next : List Entry) (gap : ℕ) : Type 0 where

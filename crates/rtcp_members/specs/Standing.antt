@@ -1,5 +1,5 @@
 -- Up to which moments a check leaves entries as they are.
-use Rattle.std.specs.Prelude.{ℕ, ◌≡◌, ◌≤◌, ◌+◌, true, List, All, Option, Some, None}
+use Rattle.std.specs.Prelude.{ℕ, ◌≡◌, ◌≤◌, ◌+◌, ◌==◌, ◌&&◌, not, Bool, true, List, All, Option, Some, None}
 use Rattle.rtcp_wire.specs.declared.fact.Fact.{Fact}
 use Rattle.rtcp_wire.specs.declared.fact.Fact.TheVariants.{Heard, Told, Named, Gone, Media}
 use Rattle.rtcp_members.specs.declared.bounds.Bounds.{Bounds}
@@ -48,6 +48,10 @@ pub record AreCounts (counts : Counts) (entries : List Entry) : Type 0 where
   pub members : counts.members ≡ tally_of is_member entries
   pub senders : counts.senders ≡ tally_of is_sender entries
   pub due : counts.due ≡ tally_of is_due entries
+
+-- The members or the senders are not as many as before.
+abbrev pub roles_differ : (before after : Counts) → Bool
+roles_differ before after = not ((after.members == before.members) && (after.senders == before.senders))
 
 -- An entry counts among these.
 pub record IsAmong (entry : Entry) (counts : Counts) : Type 0 where

@@ -9,11 +9,11 @@ ghost use Rattle.rtcp_source.specs.Blocks.{block_for};
 ghost use Rattle.rtcp_members.specs.Entries.{is_member, is_sender};
 ghost use Rattle.rtcp_members.specs.Pending.{is_due, reported_entry};
 ghost use Rattle.rtcp_members.specs.ListViews.{entry_value, lapsed, tally_of, weight_of};
-ghost use Rattle.rtcp_members.specs.Standing.{AreRecounted, IsAmong, IsOneMore};
+ghost use Rattle.rtcp_members.specs.Standing.{AreRecounted, IsAmong, IsOneMore, roles_differ};
 ghost use Rattle.rtcp_members.specs.Tables.{IsFew, counted_of, entry_with_fact, place_of};
 
 use crate::entry::Entry;
-use crate::table::Applied;
+use crate::table::Effect;
 use rtcp_wire::{Block, Fact};
 
 /// How many members, senders and sources with news there are: of a table, 1,024 at most.
@@ -74,23 +74,35 @@ impl Counts {
 
     /// A fact comes to an entry that is counted, which is counted anew unless it surely counts as it did.
     #[inline(always)]
-    pub(crate) fn apply(&mut self, entry: &mut Entry, fact: Fact, t: u64) -> Applied
+    pub(crate) fn apply(&mut self, entry: &mut Entry, fact: Fact, t: u64) -> Effect
         requires few { IsTrue (is_media fact) → IsFew (entry_value entry.old) }
         requires among { IsAmong entry.old self.old }
         requires room { (self.old.members ≤ 1024) × (self.old.senders ≤ 1024) × (self.old.due ≤ 1024) }
-        ensures place { (room : Bool) → result.place ≡ place_of fact (Some (entry_value entry.old)) room }
-        ensures counted { result.counted ≡ counted_of fact (Some (entry_value entry.old)) }
+        ensures place { (room : Bool) → result.applied.place ≡ place_of fact (Some (entry_value entry.old)) room }
+        ensures counted { result.applied.counted ≡ counted_of fact (Some (entry_value entry.old)) }
+        ensures moved { result.moved ≡ roles_differ self.old self.new }
         ensures ssrc { entry.new.ssrc ≡ entry.old.ssrc }
         ensures value { entry_value entry.new ≡ entry_with_fact fact t (entry_value entry.old) }
         ensures recounted { AreRecounted entry.old entry.new self.old self.new }
     {
         if entry.keeps_counts(fact) {
-            return entry.apply(fact, t);
+            let applied = entry.apply(fact, t);
+            let moved = false;
+            return Effect { applied, moved };
         }
+        let before = *self;
         self.remove(entry);
         let applied = entry.apply(fact, t);
         self.add(entry);
-        applied
+        let moved = self.moved_from(before);
+        Effect { applied, moved }
+    }
+
+    /// Whether the members or the senders are not as many as they were.
+    pub(crate) fn moved_from(&self, before: Counts) -> bool
+        ensures { result ≡ roles_differ before self.now }
+    {
+        self.members != before.members || self.senders != before.senders
     }
 
     /// The block of an entry that is counted, of which one is due, and after it none.

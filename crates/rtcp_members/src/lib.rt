@@ -47,4 +47,4 @@ pub use list_table::ListTable;
 pub use sorted_table::{HeapTable, SortedTable};
 pub use sources::Sources;
 pub use state::SourceState;
-pub use table::{Applied, Dropped, InlineTable, MemberTable, Place};
+pub use table::{Applied, Dropped, Effect, InlineTable, MemberTable, Place};

@@ -22,7 +22,7 @@ use crate::counts::Counts;
 use crate::entry::Entry;
 use crate::index::{entry_at, find, walk_to};
 use crate::state::SourceState;
-use crate::table::Applied;
+use crate::table::Effect;
 use rtcp_wire::{Block, Fact};
 use std::marker::Model;
 
@@ -138,7 +138,7 @@ impl<B: Blocks> Shelf<B> {
 
     /// A fact comes to the source of a rank.
     #[inline(always)]
-    pub(crate) fn apply(&mut self, at: usize, fact: Fact, t: u64) -> Applied
+    pub(crate) fn apply(&mut self, at: usize, fact: Fact, t: u64) -> Effect
         requires stands { at < length self.old.items }
         requires few { (d : Entry) → IsTrue (is_media fact) →
             IsFew (entry_value (slice_index_or self.old.items at d)) }
@@ -213,8 +213,8 @@ impl<B: Blocks> Shelf<B> {
         bounds_if_left(self.cells.as_slice(), self.used, silent, idle, gone)
     }
 
-    /// Drops the entries that do not outlast a check, and ends the sending of the idle ones. Returns the bounds of those
-    /// that stay.
+    /// Drops the entries that do not outlast a check, and ends the sending of the idle ones. Returns the bounds of
+    /// those that stay.
     pub(crate) fn drop_silent(&mut self, silent: u64, idle: u64, gone: u64) -> Bounds
         ensures items { self.new.items ≡ checked (horizons_at silent idle gone) self.old.items }
         ensures room { self.new.room ≡ self.old.room }
@@ -261,7 +261,7 @@ fn apply_at(
     at: usize,
     fact: Fact,
     t: u64,
-) -> Applied
+) -> Effect
     requires kept { IsCounted cells.old used counts.old }
     requires stands { at < used }
     requires few { (d : Entry) → IsTrue (is_media fact) →

@@ -18,7 +18,7 @@ use crate::bounds::Bounds;
 use crate::cells::Cell;
 use crate::shelf::Shelf;
 use crate::state::SourceState;
-use crate::table::{Applied, Dropped, InlineTable, MAX_CAPACITY, MemberTable, Place};
+use crate::table::{Applied, Dropped, Effect, InlineTable, MAX_CAPACITY, MemberTable, Place};
 use crate::walks::Walks;
 use arrayvec::ArrayVec;
 use rtcp_wire::{Block, Fact};
@@ -138,9 +138,14 @@ impl<B: Blocks> Sorted<B> {
 impl<B: Blocks> MemberTable for Sorted<B> {
     ghost content = { λ t. t };
 
-    // Inlined, with what it does to an entry, so that where the kind of a fact is known nothing is asked of it.
     #[inline(always)]
     fn apply(&mut self, fact: Fact, t: u64) -> Applied {
+        self.apply_fact(fact, t).applied
+    }
+
+    // Inlined, with what it does to an entry, so that where the kind of a fact is known nothing is asked of it.
+    #[inline(always)]
+    fn apply_fact(&mut self, fact: Fact, t: u64) -> Effect {
         self.bounds.lower(fact, t);
         let ssrc = fact.ssrc();
         let hint = if ssrc == self.last_ssrc {
@@ -156,12 +161,14 @@ impl<B: Blocks> MemberTable for Sorted<B> {
             }
             Err(gap) => {
                 self.last_rank = gap as u16;
-                let capacity = u32::from(self.capacity);
+                let (capacity, before) = (u32::from(self.capacity), self.entries.counts());
                 let place = admit(&mut self.entries, capacity, gap, fact, t);
-                Applied {
+                let applied = Applied {
                     place,
                     counted: false,
-                }
+                };
+                let moved = self.entries.counts().moved_from(before);
+                Effect { applied, moved }
             }
         }
     }

@@ -9,6 +9,7 @@ ghost use Rattle.rtcp_members.specs.Tables.{TableValue, IsFew, no_members, place
 ghost use Rattle.rtcp_wire.specs.Views.{block_value};
 ghost use Rattle.rtcp_wire.specs.Writing.{IsWritableBlock};
 ghost use Rattle.rtcp_members.specs.Pending.{pending, first_ssrc, is_due_at, block_at, after_block};
+ghost use Rattle.rtcp_members.specs.Roles.{counts_differ};
 ghost use Rattle.rtcp_members.specs.Told.{state_above};
 ghost use Rattle.rtcp_members.specs.ListViews.{state_value};
 
@@ -43,6 +44,15 @@ pub struct Applied {
     pub counted: bool,
 }
 
+/// What a fact did.
+#[derive(Clone, Copy, Debug, PartialEq, Eq)]
+pub struct Effect {
+    /// What `apply` returns.
+    pub applied: Applied,
+    /// Whether it changed who is a member or who sends.
+    pub moved: bool,
+}
+
 /// What `check` returns.
 #[derive(Clone, Copy, Debug, PartialEq, Eq)]
 pub struct Dropped {
@@ -68,6 +78,21 @@ pub trait MemberTable {
         ensures place { result.place ≡ placed (content self.old) fact }
         ensures counted { result.counted ≡ counted (content self.old) fact }
         ensures content { content self.new ≡ after_fact fact t (content self.old) };
+
+    /// `apply`, for who follows members and senders: it tells, too, whether the fact changed who they are. A fact is
+    /// about one source, so it does where their numbers change.
+    fn apply_fact(&mut self, fact: Fact, t: u64) -> Effect
+        requires { IsTrue (is_media fact) → IfSome (map.get (content self.old).entries (subject fact)) IsFew }
+        ensures place { result.applied.place ≡ placed (content self.old) fact }
+        ensures counted { result.applied.counted ≡ counted (content self.old) fact }
+        ensures moved { result.moved ≡ counts_differ (content self.old) (content self.new) }
+        ensures content { content self.new ≡ after_fact fact t (content self.old) }
+    {
+        let (members, senders) = (self.members(), self.senders());
+        let applied = self.apply(fact, t);
+        let moved = self.members() != members || self.senders() != senders;
+        Effect { applied, moved }
+    }
 
     /// Drops those who are silent for too long (RFC 3550, 6.3.5): entries last seen before `silent_before`,
     /// and those that left before `gone_before`. A sender whose last counted packet lies before `data_before`

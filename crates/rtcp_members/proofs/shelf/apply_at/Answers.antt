@@ -6,6 +6,7 @@ use Rattle.rtcp_members.specs.Heaps.{no_entry}
 use Rattle.rtcp_members.specs.ListViews.{entry_value}
 use Rattle.rtcp_members.specs.Pending.{is_due}
 use Rattle.rtcp_members.specs.Tables.{IsFew, counted_of, entry_with_fact, place_of}
+use Rattle.rtcp_members.proofs.Moving.{moved_in_list}
 use Rattle.rtcp_members.proofs.Ranked.{IsAtRank, at_rank, read_ranked, among_ranked, few_counted, still_indexed, changed_ranked, recounted_ranked}
 use Rattle.rtcp_members.proofs.shelf.apply_at.Goals as goal
 use Rattle.rtcp_members.proofs.shelf.apply_at.Goals.{After-index-cells-place}
@@ -52,4 +53,7 @@ returns-clause-taken c =
           ∙ ap (λ (e : Entry). place_of c.args.fact (Some (entry_value e)) room) (read_ranked so d);
       counted = λ d. made.counted
           ∙ ap (λ (e : Entry). counted_of c.args.fact (Some (entry_value e))) (read_ranked so d);
+      moved = made.moved ∙ moved_in_list c.requires.kept.counted
+          (recounted_ranked so c.apply.new.entry made.ssrc c.args.counts.now c.apply.new.self
+          c.requires.kept.counted made.recounted);
     }

@@ -7,12 +7,13 @@ use Rattle.rtcp_members.specs.ListViews.{IsRankOf}
 use Rattle.rtcp_members.specs.SortedViews.{IsGapFor, IsSortedTable}
 use Rattle.rtcp_members.specs.Tables.{TableValue, after_fact, counted, counted_of, entry_with_fact, placed}
 use Rattle.rtcp_members.proofs.Applying.{counted_applied, place_applied}
+use Rattle.rtcp_members.proofs.Moving.{moved_in_list, moved_in_table}
 use Rattle.rtcp_members.proofs.Edits.{sorted_edited, table_edited, stand_with_fact}
 use Rattle.rtcp_members.proofs.BoundLemmas.{all_lower}
 use Rattle.rtcp_members.proofs.Searching.{none_in_gap}
-use Rattle.rtcp_members.proofs.sorted_table.SortedMemberTable.apply.Given.{Over}
-use Rattle.rtcp_members.proofs.sorted_table.SortedMemberTable.apply.Goals as goal
-use Rattle.rtcp_members.proofs.sorted_table.SortedMemberTable.apply.Goals.{In-Ok}
+use Rattle.rtcp_members.proofs.sorted_table.SortedMemberTable.apply_fact.Given.{Over}
+use Rattle.rtcp_members.proofs.sorted_table.SortedMemberTable.apply_fact.Goals as goal
+use Rattle.rtcp_members.proofs.sorted_table.SortedMemberTable.apply_fact.Goals.{In-Ok}
 
 -- ---- Where the source has an entry
 
@@ -25,12 +26,16 @@ returns-in-Ok g c =
     let stands = place g (goal.at.returns-in-Ok g c).In-Ok in
     let taken = c.apply.ensures.taken in
     record {
-      place = place_applied items c.in-Ok.at c.args.fact no_entry c.apply.result.place stands
+      place = place_applied items c.in-Ok.at c.args.fact no_entry c.apply.result.applied.place stands
           (taken.place no_entry) c.self.inside.capacity
           ∙ ap (λ (table : TableValue). placed table c.args.fact) c.self.view_is;
-      counted = counted_applied items c.in-Ok.at c.args.fact no_entry c.apply.result.counted stands
+      counted = counted_applied items c.in-Ok.at c.args.fact no_entry c.apply.result.applied.counted stands
           (taken.counted no_entry) c.self.inside.capacity
           ∙ ap (λ (table : TableValue). counted table c.args.fact) c.self.view_is;
+      moved = taken.moved ∙ moved_in_table c.self.inside.capacity items c.apply.new.self.items c.args.self.now
+          c.self.invariant.sorted.rising (sorted_edited (subject c.args.fact) items c.apply.new.self.items c.in-Ok.at
+          (entry_with_fact c.args.fact c.args.t) stands taken.changed c.self.inside.capacity
+          c.self.invariant.sorted).rising c.self.view_is;
       content = table_edited c.args.fact c.args.t items c.apply.new.self.items c.in-Ok.at stands
           taken.changed c.self.invariant.sorted.rising c.self.inside.capacity
           ∙ ap (after_fact c.args.fact c.args.t) c.self.view_is;
@@ -60,6 +65,14 @@ returns-in-Err-clause-counted g c =
     let gap = subst (λ ssrc. IsGapFor ssrc items c.in-Err.gap) c.ssrc-ssrc.ensures c.in-Err.ensures in
     ap (counted_of c.args.fact) (sym (none_in_gap (subject c.args.fact) items c.in-Err.gap gap))
     ∙ ap (λ (table : TableValue). counted table c.args.fact) c.self.view_is
+
+pub returns-in-Err-clause-moved : goal.returns-in-Err-clause-moved
+returns-in-Err-clause-moved g c =
+    let items : List Entry = c.self.inside.entries.items in
+    let next : List Entry = c.admit-place.new.entries.items in
+    c.moved_from-moved.ensures ∙ moved_in_list c.counts-before.ensures c.counts.ensures
+    ∙ moved_in_table c.self.inside.capacity items next c.args.self.now c.self.invariant.sorted.rising
+    c.admit-place.ensures.sorted.rising c.self.view_is
 
 pub invariant_of-self-in-Err : goal.invariant_of-self-in-Err
 invariant_of-self-in-Err g c =
