@@ -135,27 +135,30 @@ acts_from_backoff {p} {q} {act} {out} plain members phase stays changes lives ou
 }
 
 -- what one that backs off passes by
-pub acts_passing : {p : ParticipantValue} {act : Act} → IsPlain act → (members : ℕ) → p.phase ≡ leaving members →
-    ((setup : Setup) (outcome : Outcome) (backoff : Backoff) →
+pub acts_passing : {q p : ParticipantValue} {act : Act} → IsPlain act → (members : ℕ) → q ≡ p →
+    q.phase ≡ leaving members → ((setup : Setup) (outcome : Outcome) (backoff : Backoff) →
     while_backing_off setup act outcome backoff ≡ backing_off outcome backoff)
     → ((setup : Setup) (outcome : Outcome) (backoff : Backoff) → out_while_backing_off setup act outcome backoff ≡ None)
     → Acts p p act None false
-acts_passing {p} {act} plain members phase lives outs =
+acts_passing {q} {p} {act} plain members is at_phase lives outs =
+    let phase : p.phase ≡ leaving members = sym (ap (λ (x : ParticipantValue). x.phase) is) ∙ at_phase in
     acts_from_backoff plain members phase (same_stays p.presence) refl
     (λ outcome backoff waits count. subst (IsAt p) (sym (lives p.presence.setup outcome backoff))
     (phase ∙ ap leaving count, waits))
     (λ outcome backoff waits count. sym (outs p.presence.setup outcome backoff))
 
-pub acts_gone : {p : ParticipantValue} {act : Act} → IsPlain act → p.phase ≡ over → Acts p p act None false
-acts_gone {p} {act} plain phase = record {
-  setup = setup_stays act plain (same_stays p.presence);
-  latest = refl;
-  calls = refl;
-  changes = refl;
-  lives = at_gone p phase (λ life. IsAt p (lived p.presence.setup act life)) (λ outcome. phase);
-  hands_out = at_gone p phase (λ life. None ≡ out_by p.presence.setup act life) (λ outcome. refl);
-  others = at_gone p phase (λ life. false ≡ others_moved_by p.presence.setup act life) (λ outcome. refl);
-}
+pub acts_gone : {q p : ParticipantValue} {act : Act} → IsPlain act → q ≡ p → q.phase ≡ over → Acts p p act None false
+acts_gone {q} {p} {act} plain is at_phase =
+    let phase : p.phase ≡ over = sym (ap (λ (x : ParticipantValue). x.phase) is) ∙ at_phase in
+    record {
+      setup = setup_stays act plain (same_stays p.presence);
+      latest = refl;
+      calls = refl;
+      changes = refl;
+      lives = at_gone p phase (λ life. IsAt p (lived p.presence.setup act life)) (λ outcome. phase);
+      hands_out = at_gone p phase (λ life. None ≡ out_by p.presence.setup act life) (λ outcome. refl);
+      others = at_gone p phase (λ life. false ≡ others_moved_by p.presence.setup act life) (λ outcome. refl);
+    }
 
 -- ---- Settings
 

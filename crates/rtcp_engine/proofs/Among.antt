@@ -13,8 +13,3 @@ among_map {A} number_of (x ∷ list) number = ap (λ (b : Bool). (number_of x ==
 pub and_true : (a b : Bool) → b ≡ true → a ≡ (a && b)
 and_true true b is = sym is
 and_true false b is = refl
-
--- a number that is among the first or among the others
-pub or_assoc : (a b c : Bool) → ((a || b) || c) ≡ (a || (b || c))
-or_assoc true b c = refl
-or_assoc false b c = refl

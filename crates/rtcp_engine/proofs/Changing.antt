@@ -1,9 +1,9 @@
 -- What a change of identifier, and other settings, leave of a session.
-use Rattle.std.proofs.Common.{◌≡◌, ℕ, List, [], ◌∷◌, Option, Some, None, option_map, refl, sym, ap, ◌∙◌, subst}
+use Rattle.std.proofs.Common.{◌≡◌, ℕ, List, [], ◌∷◌, Option, Some, None, option_map, refl, ap, ◌∙◌}
 use Rattle.std.specs.Option.{option_or}
 use Rattle.rtcp_engine.specs.declared.config.ConfigError.{ConfigError}
 use Rattle.rtcp_engine.specs.declared.refusal.Refusal.TheVariants.{Settings}
-use Rattle.rtcp_engine.specs.Setups.{Setup, SettingsValue, IsUsable, settings_of, with_settings}
+use Rattle.rtcp_engine.specs.Setups.{Setup, IsUsable, settings_of, with_settings}
 use Rattle.rtcp_engine.specs.Acts.{Act, arrived, rtp_sent, ticked, left, configured, forgotten}
 use Rattle.rtcp_engine.specs.Identities.{with_ssrc}
 use Rattle.rtcp_engine.specs.Leaving.{Life, present, backing_off, gone}

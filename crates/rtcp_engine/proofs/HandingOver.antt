@@ -1,16 +1,16 @@
 -- The answers that a run hands over are those of a history that goes on.
-use Rattle.std.proofs.Common.{◌≡◌, ◌++◌, ◌&&◌, ℕ, not, Bool, true, false, List, [], ◌∷◌, length, drop, is_some, Option, Some, None, option_map, Ok, Err, if◌then◌else◌, refl, sym, ap, ◌∙◌, subst}
+use Rattle.std.proofs.Common.{◌≡◌, ◌++◌, ℕ, not, Bool, true, false, List, [], ◌∷◌, length, drop, is_some, Option, Some, None, option_map, Err, if◌then◌else◌, refl, sym, ap, ◌∙◌, subst}
 use Rattle.std.proofs.Math.Seq.{drop-append_seam}
 use Rattle.std.proofs.lemmas.Bool.{and_parts}
 use Rattle.std.proofs.lemmas.List.{append_assoc}
 use Rattle.std.specs.Option.{option_or}
 use Rattle.rtcp_engine.specs.declared.refusal.Refusal.{Refusal}
 use Rattle.rtcp_engine.specs.declared.refusal.Refusal.TheVariants.{Left}
-use Rattle.rtcp_engine.specs.Acts.{rtcp, rtp, Act, arrived, rtp_sent, ticked, left, configured, forgotten, moment_of}
+use Rattle.rtcp_engine.specs.Acts.{Act, arrived, rtp_sent, ticked, left, configured, forgotten, moment_of}
 use Rattle.rtcp_engine.specs.Answers.{answer_of, answers_to, followed_by, followed_by_all, step_by}
 use Rattle.rtcp_engine.specs.Changes.{NewIdentifier, Session, bye_of_change, change_by, changed_by}
 use Rattle.rtcp_engine.specs.Histories.{History, after_act, brought_by, life_at, session_at, with_act}
-use Rattle.rtcp_engine.specs.Leaving.{Life, present, backing_off, gone, is_bye_due, is_unheard, few_members, bye_at_once, left_at, after_waiting_tick, after_wait, backoff_from}
+use Rattle.rtcp_engine.specs.Leaving.{Life, present, backing_off, gone}
 use Rattle.rtcp_engine.specs.Lives.{bye_out, lived, out_by, report_out}
 use Rattle.rtcp_engine.specs.Outcomes.{Outcome}
 use Rattle.rtcp_engine.specs.Refusals.{refusal_after, refusal_in}
@@ -19,7 +19,7 @@ use Rattle.rtcp_engine.specs.Runs.{AreRefusals, EndAtGoodbye, HandsOver, handed_
 use Rattle.rtcp_engine.specs.Sent.{Sent, deciding_interval, handed_out, sent_at}
 use Rattle.rtcp_engine.specs.Setups.{Setup}
 use Rattle.rtcp_engine.specs.Spacing.{AreBounded, first_leave}
-use Rattle.rtcp_engine.specs.Steps.{AnswerValue, OutValue, answer_unless}
+use Rattle.rtcp_engine.specs.Steps.{AnswerValue, answer_unless}
 use Rattle.rtcp_engine.specs.Taken.{IsHistory}
 use Rattle.rtcp_engine.proofs.LawLemmas.{answers_hand_out_compounds, sent_compounds_keep_apart}
 

@@ -21,7 +21,7 @@ use Rattle.rtcp_engine.specs.Outcomes.{Outcome}
 use Rattle.rtcp_engine.proofs.LifeLemmas.{of_check, of_leave, of_wait}
 use Rattle.rtcp_engine.specs.Reporting.{reported_at}
 use Rattle.rtcp_engine.specs.Setups.{Setup, SettingsValue, settings_of, with_settings}
-use Rattle.rtcp_engine.specs.Ticks.{after_check, after_tick, checked, reported}
+use Rattle.rtcp_engine.specs.Ticks.{after_check, after_tick, checked}
 use Rattle.rtcp_engine.proofs.RolesChanged.{leave_moves}
 
 -- ---- Traces that go on

@@ -7,22 +7,20 @@ use Rattle.std.proofs.lemmas.List.Folds.{list_any-append}
 use Rattle.std.proofs.lemmas.Cmp.{nat_eq_equiv}
 use Rattle.std.specs.Cmp.{IsEquivalence}
 use Rattle.std.specs.List.{AllByRecursion, IsDistinct, list_any}
-use Rattle.std.specs.Option.{option_or}
 use Rattle.std.specs.Set.{is_member}
 use Rattle.rtcp_members.specs.Traces.{TraceStep, names}
 use Rattle.rtcp_members.specs.Stays.{stay_of}
 use Rattle.rtcp_members.specs.Entries.{entry_at, entry_of}
 use Rattle.rtcp_members.proofs.LawLemmas.{present_were_named_and_fit-named, present_were_named_and_fit-fit}
 use Rattle.rtcp_engine.specs.declared.changes.IdentifierChange.{IdentifierChange}
-use Rattle.rtcp_engine.specs.declared.refusal.Refusal.{Refusal}
 use Rattle.rtcp_engine.specs.declared.refusal.Refusal.TheVariants.{OwnSsrc}
 use Rattle.rtcp_engine.specs.Setups.{Setup}
 use Rattle.rtcp_engine.specs.Acts.{Datagram, Act, arrived, rtp_sent, ticked, left, configured, moment_of, forgotten}
 use Rattle.rtcp_engine.specs.Identities.{AreApart, first_free, is_among, may_change, most_changes}
 use Rattle.rtcp_engine.specs.Leaving.{Life, present, backing_off, gone}
 use Rattle.rtcp_engine.specs.Changes.{NewIdentifier, Session, change_by, changed_by, changing_peers, identifiers, is_about, is_in_table, is_taken, most_taken, named_by, new_identifier}
-use Rattle.rtcp_engine.specs.Histories.{History, brought_by, last_moment, life_at, session_at, session_for, session_of}
-use Rattle.rtcp_engine.specs.Refusals.{call_refusal, fault_in, refusal_after, refusal_if, refusal_in, refusal_of, refusal_of_content}
+use Rattle.rtcp_engine.specs.Histories.{History, brought_by, session_at, session_for, session_of}
+use Rattle.rtcp_engine.specs.Refusals.{fault_in, refusal_if, refusal_of_content}
 use Rattle.rtcp_engine.specs.Taken.{AllTaken, IsHistory}
 use Rattle.rtcp_engine.specs.Steps.{OutValue}
 use Rattle.rtcp_engine.specs.Sent.{Sent, deciding_interval, is_report, sent_over, sent_with}

@@ -13,7 +13,7 @@ use Rattle.rtcp_members.specs.Traces.{TraceStep, block_taken, fact_came, with_fa
 use Rattle.rtcp_report.specs.Traced.{with_blocks}
 use Rattle.rtcp_engine.specs.Setups.{Setup, ClockValue, rate_among}
 use Rattle.rtcp_engine.specs.Acts.{Act, arrived, configured, left, rtcp, rtp, rtp_sent, ticked, forgotten}
-use Rattle.rtcp_engine.specs.Arrivals.{after, facts_of_media, media_fact, rate_of}
+use Rattle.rtcp_engine.specs.Arrivals.{after, facts_of_media, media_fact}
 use Rattle.rtcp_engine.specs.Changes.{NewIdentifier, Session, change_by, changed_by}
 use Rattle.std.specs.List.{AllByRecursion}
 use Rattle.rtcp_engine.specs.Histories.{session_of, setup_after}
@@ -22,7 +22,7 @@ use Rattle.rtcp_engine.specs.Leaving.{Life, present, backing_off, gone}
 use Rattle.rtcp_engine.specs.Lives.{lived, with_new_ssrc}
 use Rattle.rtcp_engine.specs.Outcomes.{Outcome}
 use Rattle.rtcp_engine.specs.Reporting.{reported_at}
-use Rattle.rtcp_engine.specs.Ticks.{after_check, checked, reported}
+use Rattle.rtcp_engine.specs.Ticks.{checked}
 use Rattle.rtcp_engine.proofs.Changing.{same_but_name_and_settings}
 use Rattle.rtcp_engine.proofs.LifeLemmas.{of_check, of_leave, of_wait}
 

@@ -1,9 +1,9 @@
 -- Checks after a change of settings drop nobody sooner.
-use Rattle.std.proofs.Common.{◌≡◌, ℕ, ◌+◌, ◌-◌, ◌*◌, ◌<◌, ◌≤◌, ◌||◌, nat_lt, min, Bool, true, false, is_some, List, [], ◌∷◌, Option, Some, None, IfSome, Ok, Err, if◌then◌else◌, refl, sym, ap, ◌∙◌, subst, arith, inl, inr}
+use Rattle.std.proofs.Common.{◌≡◌, ℕ, ◌+◌, ◌-◌, ◌*◌, ◌<◌, ◌≤◌, ◌||◌, nat_lt, min, Bool, true, false, List, [], ◌∷◌, Option, Some, None, IfSome, Ok, Err, if◌then◌else◌, refl, sym, ap, ◌∙◌, subst, arith}
 use Rattle.std.proofs.lemmas.Bool.{ltb-false, lt-ltb, le-ltb}
 use Rattle.rtcp_members.specs.Entries.{members_at, senders_at}
 use Rattle.rtcp_members.specs.Stays.{is_before, is_removed}
-use Rattle.rtcp_members.specs.Tables.{TableValue, table_at, members_in, senders_in}
+use Rattle.rtcp_members.specs.Tables.{TableValue, table_at}
 use Rattle.rtcp_members.specs.Traces.{TraceStep}
 use Rattle.rtcp_members.proofs.LawLemmas as tables
 use Rattle.rtcp_timer.specs.declared.load.Load.{Load}
@@ -13,9 +13,8 @@ use Rattle.rtcp_engine.specs.declared.pace.Pace.{Pace}
 use Rattle.rtcp_engine.specs.Setups.{Setup, SettingsValue, IsUsable, with_settings}
 use Rattle.rtcp_engine.specs.Acts.{Act, arrived, rtcp, rtp, rtp_sent, ticked, left, configured, forgotten}
 use Rattle.rtcp_engine.specs.OwnStreams.{we_sent}
-use Rattle.rtcp_engine.specs.Outcomes.{Outcome, member_count, sender_count, one_if, newest_pace, slowed_by, receiver_load, receiver_interval_at, check_load, check_interval, pace_at, with_pace, IsPace}
+use Rattle.rtcp_engine.specs.Outcomes.{Outcome, member_count, sender_count, one_if, newest_pace, slowed_by, receiver_load, receiver_interval_at, check_load, check_interval, pace_at, IsPace}
 use Rattle.rtcp_engine.specs.Ticks.{checked, horizons_of}
-use Rattle.rtcp_engine.specs.Arrivals.{after}
 use Rattle.rtcp_engine.specs.Changes.{NewIdentifier, Session, change_by, changed_by}
 use Rattle.rtcp_engine.specs.Histories.{History, life_at, session_of, setup_at}
 use Rattle.rtcp_engine.specs.Leaving.{Life, present, backing_off, gone}

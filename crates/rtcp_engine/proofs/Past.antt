@@ -25,7 +25,7 @@ use Rattle.rtcp_engine.specs.Refusals.{refusal_after}
 use Rattle.rtcp_engine.specs.Reporting.{reported_at}
 use Rattle.rtcp_engine.specs.Setups.{Setup}
 use Rattle.rtcp_engine.specs.Taken.{AllTaken, IsHistory}
-use Rattle.rtcp_engine.specs.Ticks.{after_check, checked, reported}
+use Rattle.rtcp_engine.specs.Ticks.{after_check, checked}
 use Rattle.rtcp_engine.proofs.AnswerLemmas.{unrefused}
 use Rattle.rtcp_engine.proofs.LifeLemmas.{of_check, of_leave, of_wait}
 use Rattle.rtcp_engine.proofs.Sending.{in_time}

@@ -18,7 +18,7 @@ use Rattle.rtcp_engine.specs.Outcomes.{Outcome, check_interval}
 use Rattle.rtcp_engine.specs.Reporting.{reported_at}
 use Rattle.rtcp_engine.specs.Setups.{Setup}
 use Rattle.rtcp_engine.specs.States.{State, Agrees, HasOthers, MovesOthers}
-use Rattle.rtcp_engine.specs.Ticks.{after_check, after_tick, checked, horizons_of, reported, without_silent, with_forgotten}
+use Rattle.rtcp_engine.specs.Ticks.{after_check, after_tick, checked, horizons_of, without_silent, with_forgotten}
 use Rattle.rtcp_engine.proofs.Agreeing.{others_agree}
 use Rattle.rtcp_engine.proofs.LifeLemmas.{of_check, of_leave}
 use Rattle.rtcp_engine.proofs.StepLemmas.{IsCheckInterval, of_view, seen}

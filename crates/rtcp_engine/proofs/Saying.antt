@@ -3,7 +3,7 @@ use Rattle.std.proofs.Common.{◌≡◌, ℕ, ◌||◌, Bool, List, [], ◌∷�
 use Rattle.rtcp_wire.specs.declared.fact.Fact.{Fact}
 use Rattle.rtcp_members.specs.Roles.{counts_differ, facts_move}
 use Rattle.rtcp_members.specs.Tables.{TableValue, after_fact, after_facts}
-use Rattle.rtcp_engine.proofs.Among.{or_assoc}
+use Rattle.std.proofs.Math.Bool.{or_assoc}
 
 after_append : (one other : List Fact) (t : ℕ) (table : TableValue) →
     after_facts (one ++ other) t table ≡ after_facts other t (after_facts one t table)

@@ -1,5 +1,5 @@
 -- Worked rows: sessions whose host changes the settings.
-use Rattle.std.proofs.Common.{◌≡◌, List, [], ◌∷◌, Err, refl}
+use Rattle.std.proofs.Common.{◌≡◌, [], ◌∷◌, Err, refl}
 use Rattle.rtcp_engine.specs.declared.config.ConfigError.TheVariants.{Bandwidth, Rate, Item}
 use Rattle.rtcp_engine.specs.declared.refusal.Refusal.TheVariants.{Settings}
 use Rattle.rtcp_engine.specs.Setups.{SettingsValue}

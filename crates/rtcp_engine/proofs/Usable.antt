@@ -1,5 +1,5 @@
 -- A setup is usable exactly where it is not refused.
-use Rattle.std.proofs.Common.{◌≡◌, ℕ, ◌^◌, ◌%◌, ◌==◌, ◌&&◌, Bool, true, false, not, length, All, Option, Some, None, if◌then◌else◌, nat_le, refl, sym, ap, ◌∙◌, subst}
+use Rattle.std.proofs.Common.{◌≡◌, ℕ, ◌^◌, ◌%◌, ◌==◌, ◌&&◌, Bool, true, false, not, length, Option, Some, None, if◌then◌else◌, nat_le, refl, sym, ap, ◌∙◌}
 use Rattle.std.specs.List.{list_all}
 use Rattle.std.specs.Cmp.Derive.{both_true}
 use Rattle.std.proofs.lemmas.Bool.{leb-true, le-leb, eqb-true, eq-eqb, and_parts, false≢true}

@@ -25,7 +25,7 @@ use Rattle.rtcp_engine.specs.Histories.{History, last_moment, life_at, session_o
 use Rattle.rtcp_engine.specs.Refusals.{refusal_after}
 use Rattle.rtcp_engine.specs.Reporting.{bye_octets, report_octets}
 use Rattle.rtcp_engine.specs.Taken.{HasWords, AllTaken, IsHistory}
-use Rattle.rtcp_engine.specs.Leaving.{Backoff, Life, present, backing_off, gone, after_wait, after_waiting_tick, left_at, bye_count, is_bye_due, leaving_interval, leaving_load, leaving_timing}
+use Rattle.rtcp_engine.specs.Leaving.{Backoff, Life, present, backing_off, gone, after_waiting_tick, left_at, bye_count, is_bye_due, leaving_interval, leaving_load, leaving_timing}
 use Rattle.rtcp_engine.specs.Lives.{lived, bye_out, out_by, report_out, with_new_ssrc}
 use Rattle.rtcp_engine.specs.Sent.{Sent, interval_by, reports_in, sent_at}
 use Rattle.rtcp_engine.specs.Spacing.{first_leave, newest_moment}

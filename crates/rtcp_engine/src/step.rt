@@ -55,7 +55,8 @@ pub struct Step {
 /// A step, or why the call was refused.
 pub type Answer = Result<Step, Refusal>;
 
-/// A compound that a call wrote to the start of its caller's octets, to be sent in one datagram to the other participants.
+/// A compound that a call wrote to the start of its caller's octets, to be sent in one datagram to the other
+/// participants.
 #[derive(Clone, Copy, Debug, PartialEq, Eq)]
 pub struct Written {
     /// What it is.

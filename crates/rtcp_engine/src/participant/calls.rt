@@ -1,5 +1,5 @@
-//! The calls of a participant, one for each event: each writes its compound, if it has one, to the start of the caller's
-//! octets, and tells of it. The octets after it stay as they were, so a call without a compound leaves all.
+//! The calls of a participant, one for each event: each writes its compound, if it has one, to the start of the
+//! caller's octets, and tells of it. The octets after it stay as they were, so a call without a compound leaves all.
 
 ghost use Rattle.std.specs.Prelude.{◌≡◌, ◌≤◌, ◌<◌, ◌^◌, ℕ, List, None, Ok, false, Result, IfOk, IsTrue, is_some};
 ghost use Rattle.rtcp_engine.specs.Acts.{arrived, configured, forgotten, left, rtp_sent, ticked, rtcp_came, rtp_came, IsReading, IsRtpReading};

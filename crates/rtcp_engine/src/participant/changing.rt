@@ -105,7 +105,7 @@ impl<T: MemberTable> Participant<T> {
         ensures { (session : Session) → IsIn self.now session → (self.now.phase ≡ over → ⊥) →
             result ≡ is_taken_of session (datagram_of arrival.now) ssrc }
     {
-        self.is_own(ssrc) || self.presence.knows(ssrc) || arrival.names(ssrc)
+        self.is_own(ssrc) || (self.presence.knows(ssrc) || arrival.names(ssrc))
     }
 
     /// Whether this SSRC is the participant's, or was.

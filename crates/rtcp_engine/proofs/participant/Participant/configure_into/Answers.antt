@@ -1,5 +1,4 @@
-use Rattle.std.proofs.Common.{◌∙◌, refl, ap, sym, Option, option_map}
-use Rattle.rtcp_engine.specs.declared.config.ConfigError.{ConfigError}
+use Rattle.std.proofs.Common.{◌∙◌, refl, ap, sym, option_map}
 use Rattle.rtcp_engine.specs.declared.refusal.Refusal.TheVariants.{Settings}
 use Rattle.rtcp_engine.specs.Acts.{configured}
 use Rattle.rtcp_engine.specs.States.{ParticipantValue}

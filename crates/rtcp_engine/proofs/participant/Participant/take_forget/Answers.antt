@@ -1,4 +1,4 @@
-use Rattle.std.proofs.Common.{◌∙◌, refl, ap, sym}
+use Rattle.std.proofs.Common.{refl, ap}
 use Rattle.rtcp_engine.specs.Acts.{forgotten}
 use Rattle.rtcp_engine.specs.States.{ParticipantValue}
 use Rattle.rtcp_engine.specs.Views.{phase_value}
@@ -14,11 +14,9 @@ returns-in-Present-clause-new g c =
 
 pub returns-in-BackingOff-clause-new : goal.returns-in-BackingOff-clause-new
 returns-in-BackingOff-clause-new g c =
-    acts_passing (λ settings. refl) _ (sym (ap (λ (p : ParticipantValue). p.phase) c.self.view_is)
-    ∙ ap phase_value c.in-BackingOff.is)
+    acts_passing (λ settings. refl) _ c.self.view_is (ap phase_value c.in-BackingOff.is)
     (λ setup outcome backoff. refl) (λ setup outcome backoff. refl)
 
 pub returns-in-Gone-clause-new : goal.returns-in-Gone-clause-new
-returns-in-Gone-clause-new g c = acts_gone (λ settings. refl)
-    (sym (ap (λ (p : ParticipantValue). p.phase) c.self.view_is)
-    ∙ ap phase_value c.in-Gone.is)
+returns-in-Gone-clause-new g c =
+    acts_gone (λ settings. refl) c.self.view_is (ap phase_value c.in-Gone.is)

@@ -1,4 +1,4 @@
-use Rattle.std.proofs.Common.{subst, ◌∙◌, refl, ap, sym}
+use Rattle.std.proofs.Common.{subst, refl, ap}
 use Rattle.rtcp_engine.specs.States.{HasOthers, ParticipantValue}
 use Rattle.rtcp_engine.specs.Views.{phase_value}
 use Rattle.rtcp_engine.proofs.ActLemmas.{acts_passing, acts_gone}
@@ -6,14 +6,12 @@ use Rattle.rtcp_engine.proofs.participant.Participant.take_leave.Goals as goal
 
 pub returns-in-BackingOff-clause-new : goal.returns-in-BackingOff-clause-new
 returns-in-BackingOff-clause-new g c =
-    acts_passing (λ settings. refl) _ (sym (ap (λ (p : ParticipantValue). p.phase) c.self.view_is)
-    ∙ ap phase_value c.in-BackingOff.is)
+    acts_passing (λ settings. refl) _ c.self.view_is (ap phase_value c.in-BackingOff.is)
     (λ setup outcome backoff. refl) (λ setup outcome backoff. refl)
 
 pub returns-in-Gone-clause-new : goal.returns-in-Gone-clause-new
-returns-in-Gone-clause-new g c = acts_gone (λ settings. refl)
-    (sym (ap (λ (p : ParticipantValue). p.phase) c.self.view_is)
-    ∙ ap phase_value c.in-Gone.is)
+returns-in-Gone-clause-new g c =
+    acts_gone (λ settings. refl) c.self.view_is (ap phase_value c.in-Gone.is)
 
 pub returns-in-Present-clause-new : goal.returns-in-Present-clause-new
 returns-in-Present-clause-new g c =

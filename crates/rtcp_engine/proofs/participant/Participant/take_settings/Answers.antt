@@ -1,4 +1,3 @@
-use Rattle.std.proofs.Common.{ap}
 use Rattle.rtcp_engine.specs.Acts.{configured}
 use Rattle.rtcp_engine.specs.States.{ParticipantValue}
 use Rattle.rtcp_engine.specs.Views.{settings_value}

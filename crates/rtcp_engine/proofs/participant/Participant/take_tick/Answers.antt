@@ -1,4 +1,4 @@
-use Rattle.std.proofs.Common.{◌∙◌, refl, ap, sym}
+use Rattle.std.proofs.Common.{refl, ap}
 use Rattle.rtcp_engine.specs.Acts.{ticked}
 use Rattle.rtcp_engine.specs.States.{ParticipantValue}
 use Rattle.rtcp_engine.specs.Views.{phase_value}
@@ -13,9 +13,8 @@ returns-in-Present-clause-new g c =
     c.tick.ensures.moved)
 
 pub returns-in-Gone-clause-new : goal.returns-in-Gone-clause-new
-returns-in-Gone-clause-new g c = acts_gone (λ settings. refl)
-    (sym (ap (λ (p : ParticipantValue). p.phase) c.self.view_is)
-    ∙ ap phase_value c.in-Gone.is)
+returns-in-Gone-clause-new g c =
+    acts_gone (λ settings. refl) c.self.view_is (ap phase_value c.in-Gone.is)
 
 pub returns-in-BackingOff-clause-new : goal.returns-in-BackingOff-clause-new
 returns-in-BackingOff-clause-new g c = c.try_bye.ensures.new c.args.w2

@@ -1,5 +1,4 @@
-use Rattle.std.proofs.Common.{◌∙◌, ◌-◌, ◌<◌, ℕ, Bool, arith, sym, subst, ap}
-use Rattle.rtcp_wire.specs.declared.fact.Fact.{Fact}
+use Rattle.std.proofs.Common.{◌∙◌, ◌-◌, ◌<◌, ℕ, arith, sym, subst, ap}
 use Rattle.rtcp_members.specs.Roles.{facts_move}
 use Rattle.rtcp_members.specs.Tables.{TableValue, HasFew, after_facts, counted}
 use Rattle.rtcp_engine.specs.Arrivals.{facts_of_media, media_fact}
