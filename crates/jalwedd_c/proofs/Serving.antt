@@ -21,29 +21,35 @@ same_moment session looked start history leads is now moment other counted told 
     let same : looked.start ≡ session.start = λ i. (is i).start in
     omega (arith, same, leads.counts, counted, told)
 
--- A session with the same start, whose participant took an act, is put back, and the step shows it.
-pub serves : (session before after : HostSession) (start : ℕ) (history : History) → Leads session start history →
-    before ≡ session → after.start ≡ before.start → (act : Act) (reply : Result Told Refusal) (was octets : List ℕ)
-    → Takes before.participant act (reply_value octets reply) after.participant
-    → (held : Option HostSession) → held ≡ Some after → (result : ℕ) (step : HostStep)
-    → result ≡ status_of (reply_value octets reply) → HandsOut step was octets (reply_value octets reply)
+-- A session that is held takes an act at a moment counted from its start, and is put back, and the step shows it.
+pub serves : {was_held held : Option HostSession} {session looked before after : HostSession}
+    {start now moment other result : ℕ} {history : History} {was octets : List ℕ} {step : HostStep}
+    (reply : Result Told Refusal) → was_held ≡ Some session → LeadsTo was_held start history
+    → looked ≡ session → now ≡ looked.start + moment → now ≡ start + other
+    → before ≡ session → after.start ≡ before.start
+    → (act : ℕ → Act) → Takes before.participant (act moment) (reply_value octets reply) after.participant
+    → held ≡ Some after → result ≡ status_of (reply_value octets reply)
+    → HandsOut step was octets (reply_value octets reply)
     → ((start : ℕ) (history : History) → Leads after start history → Shows start step history)
-    → Serves start history act held result step was octets
-serves session before after start history leads is counts act reply was octets takes held held_is result step status
-    handed shown =
-    let from = leads_as session before start history (sym is) leads in
-    let answer : reply_value octets reply ≡ answer_of history act = takes.answer history from.stands in
-    let now : Leads after start (followed_by history act) = record {
+    → Serves start history (act other) held result step was octets
+serves {was_held} {held} {session} {looked} {before} {after} {start} {now} {moment} {other} {result} {history}
+    {was} {octets} {step} reply gives leads looks counted told is counts act takes held_is status handed shown =
+    let holds = session_of was_held session start history gives leads in
+    let same = same_moment session looked start history holds looks now moment other counted told in
+    let from = leads_as session before start history (sym is) holds in
+    let answer : reply_value octets reply ≡ answer_of history (act moment) = takes.answer history from.stands in
+    let next : Leads after start (followed_by history (act moment)) = record {
       stands = takes.stands history from.stands;
       counts = counts ∙ from.counts;
       range = from.range;
     } in
-    record {
+    subst (λ (m : ℕ). Serves start history (act m) held result step was octets) same (record {
       status = status ∙ ap status_of answer;
       handed = subst (HandsOut step was octets) answer handed;
-      stands = subst (λ (h : Option HostSession). LeadsTo h start (followed_by history act)) (sym held_is) now;
-      shows = shown start (followed_by history act) now;
-    }
+      stands = subst (λ (h : Option HostSession). LeadsTo h start (followed_by history (act moment)))
+          (sym held_is) next;
+      shows = shown start (followed_by history (act moment)) next;
+    })
 
 -- A call before the start leaves the session as it was.
 pub refuses_early : (session : HostSession) (held after : Option HostSession) (result : ℕ) (step : HostStep)

@@ -13,7 +13,7 @@ ghost use Rattle.rtcp_engine.specs.InTime.{IsOverdue};
 ghost use Rattle.jalwedd_host.specs.Answers.{IsBlank};
 ghost use Rattle.jalwedd_host.specs.Configs.{oversize_of_settings, settings_given};
 ghost use Rattle.jalwedd_host.specs.Handles.{LeadsTo};
-ghost use Rattle.jalwedd_host.specs.Promises.{ComesEarly, Serves, Spares, TurnsAway};
+ghost use Rattle.jalwedd_host.specs.Promises.{ComesEarly, Serves, SparesSession, TurnsAway};
 
 use jalwedd_host::config::{Item, Settings, blank_settings, fill_settings};
 use jalwedd_host::handle::Handle;
@@ -47,7 +47,7 @@ pub extern "C" fn jalwedd_arrive_rtcp(
         handle.new.owned.held result step.new octets.old octets.new }
     ensures early { ComesEarly handle.old.owned.held handle.new.owned.held now result step.new
         octets.old octets.new }
-    ensures spares { Spares handle.old.owned.held handle.new.owned.held result step.new octets.old octets.new }
+    ensures spares { SparesSession handle.old.owned.held handle.new.owned.held result step.new octets.old octets.new }
 {
     let Some(mut session) = handle.take(alloc) else {
         return empty(step);
@@ -85,7 +85,7 @@ pub extern "C" fn jalwedd_arrive_rtp(
         ComesEarly handle.old.owned.held handle.new.owned.held now result step.new octets.old octets.new }
     ensures turns_away { 65535 < length datagram.now →
         TurnsAway 23 handle.old.owned.held result step.new octets.old octets.new }
-    ensures spares { Spares handle.old.owned.held handle.new.owned.held result step.new octets.old octets.new }
+    ensures spares { SparesSession handle.old.owned.held handle.new.owned.held result step.new octets.old octets.new }
 {
     let Some(mut session) = handle.take(alloc) else {
         return empty(step);
@@ -123,7 +123,7 @@ pub extern "C" fn jalwedd_sent_rtp(
     ensures early { ComesEarly handle.old.owned.held handle.new.owned.held now result step.new
         octets.old octets.new }
     ensures nothing { (step.new.kind ≡ 0) × (octets.new ≡ octets.old) }
-    ensures spares { Spares handle.old.owned.held handle.new.owned.held result step.new octets.old octets.new }
+    ensures spares { SparesSession handle.old.owned.held handle.new.owned.held result step.new octets.old octets.new }
 {
     let Some(mut session) = handle.take(alloc) else {
         return empty(step);
@@ -161,7 +161,7 @@ pub extern "C" fn jalwedd_tick(
         step.new.kind ≢ 0 }
     ensures early { ComesEarly handle.old.owned.held handle.new.owned.held now result step.new
         octets.old octets.new }
-    ensures spares { Spares handle.old.owned.held handle.new.owned.held result step.new octets.old octets.new }
+    ensures spares { SparesSession handle.old.owned.held handle.new.owned.held result step.new octets.old octets.new }
 {
     let Some(mut session) = handle.take(alloc) else {
         return empty(step);
@@ -201,7 +201,7 @@ pub extern "C" fn jalwedd_configure(
     ensures turns_away { (status : ℕ) → oversize_of_settings settings.now items.now ≡ Some status →
         TurnsAway status handle.old.owned.held result step.new octets.old octets.new }
     ensures nothing { (step.new.kind ≡ 0) × (octets.new ≡ octets.old) }
-    ensures spares { Spares handle.old.owned.held handle.new.owned.held result step.new octets.old octets.new }
+    ensures spares { SparesSession handle.old.owned.held handle.new.owned.held result step.new octets.old octets.new }
 {
     let Some(mut session) = handle.take(alloc) else {
         return empty(step);
@@ -239,7 +239,7 @@ pub extern "C" fn jalwedd_forget(
     ensures early { ComesEarly handle.old.owned.held handle.new.owned.held now result step.new
         octets.old octets.new }
     ensures nothing { (step.new.kind ≡ 0) × (octets.new ≡ octets.old) }
-    ensures spares { Spares handle.old.owned.held handle.new.owned.held result step.new octets.old octets.new }
+    ensures spares { SparesSession handle.old.owned.held handle.new.owned.held result step.new octets.old octets.new }
 {
     let Some(mut session) = handle.take(alloc) else {
         return empty(step);
@@ -270,7 +270,7 @@ pub extern "C" fn jalwedd_leave(
         handle.new.owned.held result step.new octets.old octets.new }
     ensures early { ComesEarly handle.old.owned.held handle.new.owned.held now result step.new
         octets.old octets.new }
-    ensures spares { Spares handle.old.owned.held handle.new.owned.held result step.new octets.old octets.new }
+    ensures spares { SparesSession handle.old.owned.held handle.new.owned.held result step.new octets.old octets.new }
 {
     let Some(mut session) = handle.take(alloc) else {
         return empty(step);

@@ -2,8 +2,9 @@
 //! include/jalwedd.h. A host has a [`Handle`], zeros at first, and passes it to each call; a call returns a status,
 //! and writes a [`HostStep`] whatever that is. docs/EMBEDDING.md shows a host.
 //!
-//! Only the exported functions are here, with their contracts, since what is exported has to stand in the static library
-//! itself. `jalwedd_host` has all that they share: the structures, the session behind a handle, and the definitions.
+//! Only the exported functions are here, with their contracts, since what is exported has to stand in the static
+//! library itself. `jalwedd_host` has all that they share: the structures, the session behind a handle, and the
+//! definitions.
 //!
 //! Statuses: 0 taken; 1 to 7 a call that the participant refused, by E1 to E7, of which 5 is also a datagram
 //! that is not a compound, and 6 one without a valid RTP head; 8 no such block, or no such other part of a

@@ -40,7 +40,7 @@ ComesEarly before after now result step was octets =
 
 -- Whatever a call tells: a table within its capacity stays so, a refusal leaves the session as it was, and where there
 -- is none the call says so and hands nothing out.
-pub record Spares (before after : Option HostSession) (result : ℕ) (step : HostStep) (was octets : List ℕ) : Type
+pub record SparesSession (before after : Option HostSession) (result : ℕ) (step : HostStep) (was octets : List ℕ) : Type
     0 where
   pub within : KeepsWithin before → KeepsWithin after
   pub refused : result ≢ 0 → after ≡ before

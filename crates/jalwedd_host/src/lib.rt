@@ -1,6 +1,7 @@
 //! What stands behind the exported functions of `jalwedd_c`: what a host in C holds, a [`handle::Handle`] with its
-//! session, what it gives, a [`config::Config`], and what it is told, as a [`step::HostStep`] or a [`source::HostSource`]. The
-//! structures are those of include/jalwedd.h, field by field; the conversions say what each field means.
+//! session, what it gives, a [`config::Config`], and what it is told, as a [`step::HostStep`] or a
+//! [`source::HostSource`]. The structures are those of include/jalwedd.h, field by field; the conversions say what
+//! each field means.
 //!
 //! A function that a host calls has to stand in the static library itself. So `jalwedd_c` has these, with their
 //! contracts, and whatever they share is here. Only `jalwedd_new` of `jalwedd_c` allocates; nothing here does.

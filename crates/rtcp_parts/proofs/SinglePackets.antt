@@ -15,7 +15,7 @@ use Rattle.rtcp_parts.specs.declared.packet.Wanted.{Wanted}
 use Rattle.rtcp_parts.specs.declared.senders.Sender.{Sender}
 use Rattle.rtcp_parts.specs.Cursors.{Leaves, LeavesNone, ended_at, is_within}
 use Rattle.rtcp_parts.specs.Senders.{ShowsSender}
-use Rattle.rtcp_parts.specs.Walks.{ComesNext, IsPlaced, IsUnwanted, SaysApp, TakesNext}
+use Rattle.rtcp_parts.specs.Walks.{ComesNext, IsPlaced, IsUnwanted, ReadsApp, TakesNext}
 use Rattle.rtcp_parts.proofs.Calls.{ended_within, is_within_by, within_is}
 use Rattle.rtcp_parts.proofs.Entering.{NextOn, after_unwanted, next_on, nothing_left}
 use Rattle.rtcp_parts.proofs.OctetParts.{word_first}
@@ -182,7 +182,7 @@ app_room value count body h =
 
 -- The packet of an application has its only part, and says where its data stand.
 pub app_next : (datagram : List ℕ) (packets : List RtcpPacket) (packet : Packet) (given : PlacedApp)
-    (next : ComesNext applications datagram packets packet) → packet.kind ≡ 204 → SaysApp packet given
+    (next : ComesNext applications datagram packets packet) → packet.kind ≡ 204 → ReadsApp packet given
     → (part : AppValue) × (others : List RtcpPacket)
     × (flat_map packet_apps packets ≡ part ∷ flat_map packet_apps others) × PlacesApp datagram part given
     × Joins IsSpelling others (drop packet.next datagram)

@@ -126,7 +126,7 @@ pub record IsAtBlocks (report : Packet) (cursor : Cursor) : Type 0 where
   pub ssrc : cursor.ssrc ≡ big_number 4 report.body.now
 
 -- What the body of an application's packet says, and where its data stand in it.
-pub record SaysApp (packet : Packet) (app : PlacedApp) : Type 0 where
+pub record ReadsApp (packet : Packet) (app : PlacedApp) : Type 0 where
   pub ssrc : app.ssrc ≡ big_number 4 packet.body.now
   pub subtype : app.subtype ≡ packet.count
   pub name : app.name ≡ take 4 (drop 4 packet.body.now)

@@ -4,7 +4,7 @@ ghost use Rattle.std.specs.Prelude.{◌≡◌, ◌≤◌, ◌+◌, ◌<◌, ◌^
 ghost use Rattle.rtcp_wire.specs.Contents.{packet_apps};
 ghost use Rattle.rtcp_wire.specs.Placed.{PlacesApp};
 ghost use Rattle.rtcp_parts.specs.Cursors.{LeavesNone, is_within};
-ghost use Rattle.rtcp_parts.specs.Walks.{Gives, SaysApp, TakesNext};
+ghost use Rattle.rtcp_parts.specs.Walks.{Gives, ReadsApp, TakesNext};
 
 use crate::cursor::{Cursor, begun};
 use crate::octets::u32_at;
@@ -61,7 +61,7 @@ fn take_app(datagram: &[u8], cursor: &mut Cursor) -> Option<PlacedApp>
 fn app_in(packet: &Packet<'_>) -> Option<PlacedApp>
     requires { packet.now.place + length packet.now.body.now < 2 ^ 63 }
     ensures { MatchOption result (length packet.now.body.now < 8)
-        (λ app. (8 ≤ length packet.now.body.now) × SaysApp packet.now app) }
+        (λ app. (8 ≤ length packet.now.body.now) × ReadsApp packet.now app) }
 {
     if packet.body.len() < BEFORE_DATA {
         return None;

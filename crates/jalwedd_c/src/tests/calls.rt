@@ -179,7 +179,7 @@ pub(super) const NO_SOURCE: HostSource = HostSource {
 };
 
 /// A session, from a handle that is empty.
-pub(super) struct Session<'a> {
+pub(super) struct TestSession<'a> {
     /// What it shows.
     pub(super) name: &'a str,
     /// How far ahead the clocks are, on each of which it is played.
@@ -187,7 +187,7 @@ pub(super) struct Session<'a> {
     pub(super) rows: &'a [Row<'a>],
 }
 
-impl Session<'_> {
+impl TestSession<'_> {
     /// On each of its clocks its rows hold.
     pub(super) fn play(&self, rt: &impl Abort, alloc: Global) {
         for shift in self.clocks {

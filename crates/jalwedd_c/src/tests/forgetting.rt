@@ -1,6 +1,6 @@
 //! Sources that a host has forgotten, worked by hand.
 
-use super::calls::{Call, Row, Session};
+use super::calls::{Call, Row, TestSession};
 use super::sessions::{BEGINS, BEGUN, BYE_OF_SEVEN, CLOCKS, ENDS, OF_FIVE, ROW, UNLISTED};
 use super::*;
 
@@ -103,7 +103,7 @@ const FORGETTING: &[Row<'static>] = &[
     ENDS,
 ];
 
-static SESSION: Session<'static> = Session {
+static SESSION: TestSession<'static> = TestSession {
     name: "a source that is forgotten",
     clocks: CLOCKS,
     rows: FORGETTING,

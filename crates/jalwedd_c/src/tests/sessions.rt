@@ -1,6 +1,6 @@
 //! Worked sessions, on clocks that show anything at the start: all is as from 0, shifted by that.
 
-use super::calls::{Call, NO_SOURCE, Row, Session};
+use super::calls::{Call, NO_SOURCE, Row, TestSession};
 use super::settings::{MANY_CLOCKS, USUAL};
 use super::*;
 
@@ -412,38 +412,38 @@ const BEGUN_IN_TEN_MINUTES: Row<'static> = Row {
     ..ROW
 };
 
-static SESSIONS: [Session<'static>; 8] = [
-    Session {
+static SESSIONS: [TestSession<'static>; 8] = [
+    TestSession {
         name: "a session with a report",
         clocks: CLOCKS,
         rows: REPORTING,
     },
-    Session {
+    TestSession {
         name: "nobody else is heard",
         clocks: CLOCKS,
         rows: &[BEGINS, SENDS, TICKS_EARLY, REPORTS, LEAVES, ENDS],
     },
-    Session {
+    TestSession {
         name: "arrivals",
         clocks: &[0],
         rows: COLLIDING,
     },
-    Session {
+    TestSession {
         name: "a packet that is too long",
         clocks: &[0],
         rows: OVERSIZED,
     },
-    Session {
+    TestSession {
         name: "a listing",
         clocks: CLOCKS,
         rows: LISTED,
     },
-    Session {
+    TestSession {
         name: "calls before the start",
         clocks: &[0],
         rows: TOO_EARLY,
     },
-    Session {
+    TestSession {
         name: "a handle that is live, and empty then",
         clocks: CLOCKS,
         rows: &[
@@ -463,7 +463,7 @@ static SESSIONS: [Session<'static>; 8] = [
             EMPTY,
         ],
     },
-    Session {
+    TestSession {
         name: "a handle that never held a participant",
         clocks: &[0],
         rows: &[EMPTY, ENDS_AGAIN],

@@ -1,6 +1,6 @@
 //! Other settings in a running session, worked by hand.
 
-use super::calls::{Call, Changed, NO_SOURCE, Row, Session};
+use super::calls::{Call, Changed, NO_SOURCE, Row, TestSession};
 use super::sessions::{BEGINS, BEGUN, CLOCKS, ENDS, ONE_SENDER, ROW};
 use super::*;
 
@@ -232,18 +232,18 @@ const REFUSED: &[Row<'static>] = &[
     ENDS,
 ];
 
-static SESSIONS: [Session<'static>; 3] = [
-    Session {
+static SESSIONS: [TestSession<'static>; 3] = [
+    TestSession {
         name: "packets by other clocks",
         clocks: CLOCKS,
         rows: COUNTED,
     },
-    Session {
+    TestSession {
         name: "a report that is put off",
         clocks: CLOCKS,
         rows: PUT_OFF,
     },
-    Session {
+    TestSession {
         name: "settings that are refused",
         clocks: CLOCKS,
         rows: REFUSED,

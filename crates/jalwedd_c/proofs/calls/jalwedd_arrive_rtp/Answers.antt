@@ -1,9 +1,8 @@
 -- The moment is counted from the start of the session that is held.
-use Rattle.std.proofs.Common.{ℕ, refl, subst}
+use Rattle.std.proofs.Common.{refl}
 use Rattle.rtcp_engine.specs.Acts.{rtp_came}
-use Rattle.jalwedd_host.specs.Promises.{Serves}
 use Rattle.jalwedd_host.proofs.LawLemmas.{session_of}
-use Rattle.jalwedd_c.proofs.Serving.{refuses_early, same_moment, serves}
+use Rattle.jalwedd_c.proofs.Serving.{refuses_early, serves}
 use Rattle.jalwedd_c.proofs.calls.jalwedd_arrive_rtp.Goals as goal
 
 pub returns-in_default-moment_of-clause-early : goal.returns-in_default-moment_of-clause-early
@@ -14,14 +13,10 @@ returns-in_default-moment_of-clause-early c fits =
 pub returns-clause-serves : goal.returns-clause-serves
 returns-clause-serves c start moment history reading fits leads told is =
     let put = c.put_back.ensures in
-    let holds = session_of _ _ start history c.in-Some.ensures.gives leads in
-    let same = same_moment _ _ start history holds c.deref.ensures _ _ moment c.in-Some-moment_of.ensures told in
-    subst (λ (m : ℕ). Serves start history (rtp_came m c.args.peer c.args.word reading) c.put_back.new.self.owned.held
-    c.put_back.result
-    c.put_back.new.step c.args.octets.now c.arrive_rtp_into-reply.new.octets) same
-    (serves _ _ _ start history holds c.deref_mut.ensures.value refl _ _ _ _
-    (c.arrive_rtp_into-reply.ensures.takes reading is) _ put.held _ _ (put.status _)
-    (put.handed _ _ c.arrive_rtp_into-reply.ensures.tells.leaves) put.shown)
+    let reply = c.arrive_rtp_into-reply.ensures in
+    serves _ c.in-Some.ensures.gives leads c.deref.ensures c.in-Some-moment_of.ensures told c.deref_mut.ensures.value
+    refl (λ m. rtp_came m c.args.peer c.args.word reading) (reply.takes reading is) put.held (put.status _)
+    (put.handed _ _ reply.tells.leaves) put.shown
 
 pub returns-then-datagram-gt-LONGEST-clause-turns_away : goal.returns-then-datagram-gt-LONGEST-clause-turns_away
 returns-then-datagram-gt-LONGEST-clause-turns_away c long =

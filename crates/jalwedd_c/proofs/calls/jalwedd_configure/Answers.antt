@@ -1,11 +1,11 @@
 -- The moment is counted from the start of the session that is held, and the settings are those that were filled in.
-use Rattle.std.proofs.Common.{◌≡◌, ◌∙◌, ℕ, refl, subst}
+use Rattle.std.proofs.Common.{◌≡◌, ◌∙◌, refl, subst}
 use Rattle.rtcp_engine.specs.Acts.{configured}
 use Rattle.rtcp_engine.specs.Setups.{SettingsValue}
-use Rattle.jalwedd_host.specs.Configs.{settings_given}
+use Rattle.rtcp_engine.specs.Views.{settings_value}
 use Rattle.jalwedd_host.specs.Promises.{Serves}
 use Rattle.jalwedd_host.proofs.LawLemmas.{session_of}
-use Rattle.jalwedd_c.proofs.Serving.{refuses_early, same_moment, serves}
+use Rattle.jalwedd_c.proofs.Serving.{refuses_early, serves}
 use Rattle.jalwedd_c.proofs.calls.jalwedd_configure.Goals as goal
 
 pub returns-in_default-moment_of-clause-early : goal.returns-in_default-moment_of-clause-early
@@ -16,18 +16,13 @@ returns-in_default-moment_of-clause-early c fits =
 pub returns-clause-serves : goal.returns-clause-serves
 returns-clause-serves c start moment history fits leads told =
     let put = c.put_back.ensures in
-    let holds = session_of _ _ start history c.in-Some.ensures.gives leads in
-    let same = same_moment _ _ start history holds c.deref.ensures _ _ moment c.in-Some-moment_of.ensures told in
-    let settings = settings_given c.args.settings.now c.args.items.now in
+    let reply = c.configure_into-reply.ensures in
     let given = c.in_default-fill_settings.ensures.given refl in
-    subst (λ (m : ℕ). Serves start history (configured m settings) c.put_back.new.self.owned.held c.put_back.result
-    c.put_back.new.step c.args.octets.now c.configure_into-reply.new.octets) same
-    (subst (λ (s : SettingsValue). Serves start history (configured c.in-Some-moment_of.moment s)
-    c.put_back.new.self.owned.held c.put_back.result c.put_back.new.step c.args.octets.now
-    c.configure_into-reply.new.octets) given
-    (serves _ _ _ start history holds c.deref_mut.ensures.value refl _ _ _ _ c.configure_into-reply.ensures.takes _
-    put.held _ _ (put.status _)
-    (put.handed _ _ c.configure_into-reply.ensures.tells.leaves) put.shown))
+    subst (λ (s : SettingsValue). Serves start history (configured moment s) c.put_back.new.self.owned.held
+    c.put_back.result c.put_back.new.step c.args.octets.now c.configure_into-reply.new.octets) given
+    (serves _ c.in-Some.ensures.gives leads c.deref.ensures c.in-Some-moment_of.ensures told c.deref_mut.ensures.value
+    refl (λ m. configured m (settings_value c.fill_settings.new.given)) reply.takes put.held (put.status _)
+    (put.handed _ _ reply.tells.leaves) put.shown)
 
 pub returns-in-Some-fill_settings-clause-turns_away : goal.returns-in-Some-fill_settings-clause-turns_away
 returns-in-Some-fill_settings-clause-turns_away c status is =

@@ -1,9 +1,7 @@
 -- The moment is counted from the start of the session that is held.
-use Rattle.std.proofs.Common.{ℕ, refl, subst}
+use Rattle.std.proofs.Common.{refl}
 use Rattle.rtcp_engine.specs.Acts.{forgotten}
-use Rattle.jalwedd_host.specs.Promises.{Serves}
-use Rattle.jalwedd_host.proofs.LawLemmas.{session_of}
-use Rattle.jalwedd_c.proofs.Serving.{refuses_early, same_moment, serves}
+use Rattle.jalwedd_c.proofs.Serving.{refuses_early, serves}
 use Rattle.jalwedd_c.proofs.calls.jalwedd_forget.Goals as goal
 
 pub returns-in_default-moment_of-clause-early : goal.returns-in_default-moment_of-clause-early
@@ -14,10 +12,7 @@ returns-in_default-moment_of-clause-early c =
 pub returns-clause-serves : goal.returns-clause-serves
 returns-clause-serves c start moment history leads told =
     let put = c.put_back.ensures in
-    let holds = session_of _ _ start history c.in-Some.ensures.gives leads in
-    let same = same_moment _ _ start history holds c.deref.ensures _ _ moment c.in-Some-moment_of.ensures told in
-    subst (λ (m : ℕ). Serves start history (forgotten m c.args.ssrc) c.put_back.new.self.owned.held c.put_back.result
-    c.put_back.new.step c.args.octets.now c.forget_into-reply.new.octets) same
-    (serves _ _ _ start history holds c.deref_mut.ensures.value refl _ _ _ _ c.forget_into-reply.ensures.takes _
-    put.held _ _ (put.status _)
-    (put.handed _ _ c.forget_into-reply.ensures.tells.leaves) put.shown)
+    let reply = c.forget_into-reply.ensures in
+    serves _ c.in-Some.ensures.gives leads c.deref.ensures c.in-Some-moment_of.ensures told c.deref_mut.ensures.value
+    refl (λ m. forgotten m c.args.ssrc) reply.takes put.held (put.status _)
+    (put.handed _ _ reply.tells.leaves) put.shown

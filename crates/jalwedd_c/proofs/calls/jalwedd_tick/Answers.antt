@@ -2,7 +2,6 @@
 use Rattle.std.proofs.Common.{rules, ℕ, refl, subst, sym}
 use Rattle.rtcp_engine.specs.Acts.{ticked}
 use Rattle.rtcp_engine.specs.InTime.{IsOverdue}
-use Rattle.jalwedd_host.specs.Promises.{Serves}
 use Rattle.jalwedd_host.proofs.LawLemmas.{leads_as, session_of}
 use Rattle.jalwedd_c.proofs.Serving.{refuses_early, same_moment, serves}
 use Rattle.jalwedd_c.proofs.calls.jalwedd_tick.Goals as goal
@@ -15,14 +14,10 @@ returns-in_default-moment_of-clause-early c =
 pub returns-clause-serves : goal.returns-clause-serves
 returns-clause-serves c start moment history leads told =
     let put = c.put_back.ensures in
-    let holds = session_of _ _ start history c.in-Some.ensures.gives leads in
-    let same = same_moment _ _ start history holds c.deref.ensures _ _ moment c.in-Some-moment_of.ensures told in
-    subst (λ (m : ℕ). Serves start history (ticked m c.args.first_word c.args.second_word)
-    c.put_back.new.self.owned.held c.put_back.result
-    c.put_back.new.step c.args.octets.now c.tick_into-reply.new.octets) same
-    (serves _ _ _ start history holds c.deref_mut.ensures.value refl _ _ _ _ c.tick_into-reply.ensures.takes _ put.held
-    _ _ (put.status _)
-    (put.handed _ _ c.tick_into-reply.ensures.tells.leaves) put.shown)
+    let reply = c.tick_into-reply.ensures in
+    serves _ c.in-Some.ensures.gives leads c.deref.ensures c.in-Some-moment_of.ensures told c.deref_mut.ensures.value
+    refl (λ m. ticked m c.args.first_word c.args.second_word) reply.takes put.held (put.status _)
+    (put.handed _ _ reply.tells.leaves) put.shown
 
 pub returns-clause-not_too_late : goal.returns-clause-not_too_late
 returns-clause-not_too_late c start moment history leads told overdue =
