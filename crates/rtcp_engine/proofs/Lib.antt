@@ -4,16 +4,13 @@ mod Among
 mod Arriving
 mod Beginning
 mod Bounded
-mod ChangeRows
+mod examples
 mod Changing
 mod NewIdentifiers
 mod Counting
 mod StepLemmas
 mod Following
-mod ForgettingRows
-mod LateRows
 mod Keeping
-mod LeavingRows
 mod LifeLemmas
 mod RolesChanged
 mod OneMore
@@ -22,8 +19,6 @@ mod Pacing
 mod Past
 mod OneClock
 mod ChangeLemmas
-mod Rows
-mod SettingsRows
 mod Saying
 mod Sending
 mod Soundness
@@ -32,5 +27,4 @@ mod IdentifierSearch
 mod Usable
 mod Waiting
 mod Windows
-mod WrongRows
 pub mod LawLemmas

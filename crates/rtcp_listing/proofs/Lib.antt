@@ -1,3 +1,3 @@
 mod DifferenceLaws
-mod DifferenceRows
+mod examples
 mod Differing

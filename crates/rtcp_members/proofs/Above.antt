@@ -14,7 +14,7 @@ use Rattle.rtcp_members.specs.Entries.{EntryValue, entry_of, given_of, is_member
 use Rattle.rtcp_members.specs.Tables.{TableValue, IsApart, StandsAt}
 use Rattle.rtcp_members.specs.Pending.{EntryRow, first_ssrc, is_above, is_after}
 use Rattle.rtcp_members.specs.ListViews.{rows_of, map_of, table_of}
-use Rattle.rtcp_members.specs.SortedViews as sorted
+use Rattle.rtcp_members.specs.storage.SortedViews as sorted
 use Rattle.rtcp_members.specs.Least.{least, state_for}
 use Rattle.rtcp_members.specs.Told.{StateValue, state_of, rows_above, first_state, state_above, states_above, RiseAbove, told_in_stay, IsNextTold, TellsAbove, IsWalk}
 use Rattle.rtcp_members.proofs.LeastDue.{first_is_least, none_first}

@@ -16,8 +16,8 @@ use Rattle.rtcp_members.specs.Stays.{is_before}
 use Rattle.rtcp_members.specs.Tables.{entry_with_fact}
 use Rattle.rtcp_members.specs.ListViews.{entry_value, mark_in, sending_in, is_left, IsRankOf}
 use Rattle.rtcp_members.specs.declared.cells.Slot.{Slot}
-use Rattle.rtcp_members.specs.Heaps.{no_slot, no_entry, entry_in, picked}
-use Rattle.rtcp_members.specs.Standing.{MarkStandsBy, StandsBy, AllStandBy, IsUpTo, IsNoLater, RulesOut}
+use Rattle.rtcp_members.specs.storage.Heaps.{no_slot, no_entry, entry_in, picked}
+use Rattle.rtcp_members.specs.storage.Standing.{MarkStandsBy, StandsBy, AllStandBy, IsUpTo, IsNoLater, RulesOut}
 
 -- ---- Lower bounds
 

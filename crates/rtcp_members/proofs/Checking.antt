@@ -8,10 +8,10 @@ use Rattle.rtcp_members.specs.Traces.{Horizons}
 use Rattle.rtcp_members.specs.Entries.{EntryValue, is_sender}
 use Rattle.rtcp_members.specs.Tables.{TableValue, updated_row, entry_after_check, after_check, dropped_entries, dropped_senders, senders_in}
 use Rattle.rtcp_members.specs.ListViews.{rows_of, table_of, lapses, lapsed, outlasts, checked, is_left, IsListed}
-use Rattle.rtcp_members.specs.SortedViews.{IsRising, IsSortedTable}
+use Rattle.rtcp_members.specs.storage.SortedViews.{IsRising, IsSortedTable}
 use Rattle.rtcp_members.specs.declared.bounds.Bounds.{Bounds}
 use Rattle.rtcp_members.specs.declared.counts.Counts.{Counts}
-use Rattle.rtcp_members.specs.Standing.{AreCounts, RulesOut}
+use Rattle.rtcp_members.specs.storage.Standing.{AreCounts, RulesOut}
 use Rattle.rtcp_members.proofs.BoundLemmas.{all_left}
 use Rattle.rtcp_members.proofs.Changing.{rows_checked}
 use Rattle.rtcp_members.proofs.Updated.{both_hold}

@@ -7,7 +7,7 @@ use Rattle.rtcp_members.specs.declared.counts.Counts.{Counts}
 use Rattle.rtcp_members.specs.declared.entry.Entry.{Entry}
 use Rattle.rtcp_members.specs.Traces.{Horizons}
 use Rattle.rtcp_members.specs.ListViews.{entry_value, lapses, lapsed, outlasts, checked}
-use Rattle.rtcp_members.specs.Standing.{AllStandBy, AreRecounted, IsAmong, IsMeasured, IsNoLater, IsOneMore, StandsBy}
+use Rattle.rtcp_members.specs.storage.Standing.{AllStandBy, AreRecounted, IsAmong, IsMeasured, IsNoLater, IsOneMore, StandsBy}
 use Rattle.rtcp_members.proofs.Measuring.{AreShared, share_dropped, share_kept, share_has, all_more}
 
 -- Where a check of the first ranks has come: what stays of them is in front, and the others are as they were.

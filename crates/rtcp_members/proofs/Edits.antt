@@ -9,9 +9,9 @@ use Rattle.rtcp_members.specs.declared.entry.Entry.{Entry}
 use Rattle.rtcp_members.specs.Entries.{EntryValue}
 use Rattle.rtcp_members.specs.Tables.{after_fact, entry_with_fact}
 use Rattle.rtcp_members.specs.ListViews.{entry_value, table_of, IsRankOf}
-use Rattle.rtcp_members.specs.Shelves.{IsChanged}
-use Rattle.rtcp_members.specs.SortedViews.{IsRising, IsSortedTable}
-use Rattle.rtcp_members.specs.Standing.{AllStandBy, IsUpTo, StandsBy}
+use Rattle.rtcp_members.specs.storage.Shelves.{IsChanged}
+use Rattle.rtcp_members.specs.storage.SortedViews.{IsRising, IsSortedTable}
+use Rattle.rtcp_members.specs.storage.Standing.{AllStandBy, IsUpTo, StandsBy}
 use Rattle.rtcp_members.proofs.Applying.{read_there, table_applied}
 use Rattle.rtcp_members.proofs.Rising.{rising_apart, rising_set}
 use Rattle.rtcp_members.proofs.BoundLemmas.{all_set, stands_after, stands_there}

@@ -3,8 +3,8 @@ use Rattle.std.proofs.Common.{◌≡◌, ◌<◌, ◌≤◌, ◌+◌, ◌-◌, �
 use Rattle.std.proofs.lemmas.Bool.{cases_lt}
 use Rattle.std.proofs.lemmas.List.{get_or_default}
 use Rattle.rtcp_members.specs.declared.entry.Entry.{Entry}
-use Rattle.rtcp_members.specs.Heaps.{no_entry, IsHalved}
-use Rattle.rtcp_members.specs.SortedViews.{IsRising, IsGapFor}
+use Rattle.rtcp_members.specs.storage.Heaps.{no_entry, IsHalved}
+use Rattle.rtcp_members.specs.storage.SortedViews.{IsRising, IsGapFor}
 use Rattle.rtcp_members.proofs.Rising.{rises}
 
 -- Where a search by halves of cells has come: so many cells from one on.

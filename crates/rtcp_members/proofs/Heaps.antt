@@ -10,7 +10,7 @@ use Rattle.std.proofs.lemmas.List.Edits.{length-insert}
 use Rattle.rtcp_members.specs.declared.entry.Entry.{Entry}
 use Rattle.rtcp_members.specs.declared.cells.Slot.{Slot}
 use Rattle.rtcp_members.proofs.Pairs.{take_inserted, behind}
-use Rattle.rtcp_members.specs.Heaps.{no_slot, no_entry, entry_in, picked, IsKeyed, IsHeap, IsPut}
+use Rattle.rtcp_members.specs.storage.Heaps.{no_slot, no_entry, entry_in, picked, IsKeyed, IsHeap, IsPut}
 use Rattle.rtcp_members.proofs.Ranked.{has_place, picked_same}
 
 -- ---- An entry at a new place

@@ -10,7 +10,7 @@ use Rattle.std.proofs.lemmas.Bool.Decides.{nat_tests}
 use Rattle.rtcp_members.specs.declared.entry.Entry.{Entry}
 use Rattle.rtcp_members.specs.Tables.{TableValue}
 use Rattle.rtcp_members.specs.ListViews.{entry_value, row_of, rows_of, map_of, table_of, tally_of, IsRankOf}
-use Rattle.rtcp_members.specs.SortedViews.{CutsAbove, IsRising, IsGapFor}
+use Rattle.rtcp_members.specs.storage.SortedViews.{CutsAbove, IsRising, IsGapFor}
 use Rattle.rtcp_members.specs.Pending.{EntryRow, due_rows, in_turn, first_ssrc, is_above, is_due, pending}
 use Rattle.rtcp_members.proofs.Listing.{get_rows}
 use Rattle.rtcp_members.proofs.LeastDue.{filter_twice, none_first, some_first}

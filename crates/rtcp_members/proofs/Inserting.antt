@@ -15,9 +15,9 @@ use Rattle.rtcp_members.specs.declared.entry.Entry.{Entry}
 use Rattle.rtcp_members.specs.Entries.{is_member, is_sender}
 use Rattle.rtcp_members.specs.Tables.{new_entry, entry_after, placed, after_fact}
 use Rattle.rtcp_members.specs.ListViews.{entry_value, rows_of, map_of, table_of}
-use Rattle.rtcp_members.specs.SortedViews.{IsRising, IsSortedTable, IsGapFor}
+use Rattle.rtcp_members.specs.storage.SortedViews.{IsRising, IsSortedTable, IsGapFor}
 use Rattle.rtcp_members.specs.Pending.{is_due}
-use Rattle.rtcp_members.specs.Standing.{AreCounts, IsOneMore}
+use Rattle.rtcp_members.specs.storage.Standing.{AreCounts, IsOneMore}
 use Rattle.rtcp_members.proofs.Admitting.{admitted}
 use Rattle.rtcp_members.proofs.Searching.{none_in_gap}
 use Rattle.rtcp_members.proofs.Listing.{get_rows}

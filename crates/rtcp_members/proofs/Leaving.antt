@@ -17,9 +17,9 @@ use Rattle.rtcp_members.specs.declared.entry.Entry.{Entry}
 use Rattle.rtcp_members.specs.Entries.{EntryValue, is_member, is_sender, is_such}
 use Rattle.rtcp_members.specs.Tables.{IsApart, TableValue, after_forgetting, is_unmarked}
 use Rattle.rtcp_members.specs.ListViews.{entry_value, mark_in, rows_of, map_of, table_of, tally_of, weight_of, IsListed, IsRankOf}
-use Rattle.rtcp_members.specs.SortedViews.{IsRising, IsSortedTable}
+use Rattle.rtcp_members.specs.storage.SortedViews.{IsRising, IsSortedTable}
 use Rattle.rtcp_members.specs.Pending.{is_due}
-use Rattle.rtcp_members.specs.Standing.{AllStandBy, AreCounts, IsOneMore}
+use Rattle.rtcp_members.specs.storage.Standing.{AllStandBy, AreCounts, IsOneMore}
 use Rattle.rtcp_members.proofs.BoundLemmas.{stands}
 use Rattle.rtcp_members.proofs.LeastDue.{joined}
 use Rattle.rtcp_members.proofs.Listing.{get_rows, same_entry, other_source, in_turn, tied_key}

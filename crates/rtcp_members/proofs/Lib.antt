@@ -22,6 +22,7 @@ mod Reporting
 mod Blocking
 mod Forgetting
 mod Removing
+mod examples
 mod TurnsRows
 mod Turns
 mod NextDue
@@ -41,11 +42,7 @@ mod Crowding
 mod InCyclicTurn
 mod Above
 mod Past
-mod TurnsSamples
 mod TraceTables
-mod Rows
-mod NewsRows
-mod WrongRows
 mod StayLaws
 mod SenderLaws
 mod NewsOfTraces

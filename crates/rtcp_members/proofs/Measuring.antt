@@ -7,7 +7,7 @@ use Rattle.rtcp_members.specs.declared.entry.Entry.{Entry}
 use Rattle.rtcp_members.specs.Entries.{EntryValue, is_member, is_sender}
 use Rattle.rtcp_members.specs.Pending.{is_due}
 use Rattle.rtcp_members.specs.ListViews.{entry_value, tally_of, weight_of}
-use Rattle.rtcp_members.specs.Standing.{StandsBy, AllStandBy, IsNoLater, AreRecounted, IsAmong, IsOneMore}
+use Rattle.rtcp_members.specs.storage.Standing.{StandsBy, AllStandBy, IsNoLater, AreRecounted, IsAmong, IsOneMore}
 use Rattle.rtcp_members.proofs.BoundLemmas.{all_lower, stands}
 use Rattle.std.proofs.lemmas.List.Sums.{sum_by_push}
 use Rattle.rtcp_members.proofs.Tallies.{one_more}

@@ -5,8 +5,8 @@ use Rattle.rtcp_members.specs.declared.entry.Entry.{Entry}
 use Rattle.rtcp_members.specs.Entries.{is_member, is_sender}
 use Rattle.rtcp_members.specs.ListViews.{table_of, tally_of}
 use Rattle.rtcp_members.specs.Roles.{counts_differ}
-use Rattle.rtcp_members.specs.SortedViews.{IsRising}
-use Rattle.rtcp_members.specs.Standing.{AreCounts, roles_differ}
+use Rattle.rtcp_members.specs.storage.SortedViews.{IsRising}
+use Rattle.rtcp_members.specs.storage.Standing.{AreCounts, roles_differ}
 use Rattle.rtcp_members.specs.Tables.{TableValue, members_in, senders_in}
 use Rattle.rtcp_members.proofs.Rising.{rising_apart}
 use Rattle.rtcp_members.proofs.Tallies.{counted_in}

@@ -7,7 +7,7 @@ use Rattle.std.proofs.lemmas.List.Edits.{length-insert, get_or-insert_above, ins
 use Rattle.rtcp_members.specs.declared.entry.Entry.{Entry}
 use Rattle.rtcp_members.specs.declared.cells.Cell.{Cell}
 use Rattle.rtcp_members.specs.declared.cells.Slot.{Slot}
-use Rattle.rtcp_members.specs.Heaps.{no_slot, entries_in, pairs_in, slots_in, front_slots, spared_slots}
+use Rattle.rtcp_members.specs.storage.Heaps.{no_slot, entries_in, pairs_in, slots_in, front_slots, spared_slots}
 
 -- ---- The slots of one cell
 

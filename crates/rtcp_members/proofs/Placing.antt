@@ -6,7 +6,7 @@ use Rattle.rtcp_members.specs.declared.entry.Entry.{Entry}
 use Rattle.rtcp_members.specs.Entries.{EntryValue, is_member, is_sender, is_such}
 use Rattle.rtcp_members.specs.Pending.{is_due, reported_entry}
 use Rattle.rtcp_members.specs.ListViews.{entry_value, map_of, weight_of, IsRankOf}
-use Rattle.rtcp_members.specs.Standing.{AreRecounted, IsAmong}
+use Rattle.rtcp_members.specs.storage.Standing.{AreRecounted, IsAmong}
 use Rattle.rtcp_members.proofs.Applying.{read_there}
 use Rattle.rtcp_members.proofs.Turns.{not_due}
 

@@ -13,15 +13,15 @@ use Rattle.std.proofs.lemmas.List.Elements.{All-head, All-tail, All-set, All-tak
 use Rattle.rtcp_members.specs.declared.entry.Entry.{Entry}
 use Rattle.rtcp_members.specs.declared.cells.Cell.{Cell}
 use Rattle.rtcp_members.specs.declared.cells.Slot.{Slot}
-use Rattle.rtcp_members.specs.Heaps.{no_slot, no_entry, no_cell, entries_in, pairs_in, slots_in, entry_in, picked, in_order, place_at, IsKeyed, IsHeap, IsIndexed}
+use Rattle.rtcp_members.specs.storage.Heaps.{no_slot, no_entry, no_cell, entries_in, pairs_in, slots_in, entry_in, picked, in_order, place_at, IsKeyed, IsHeap, IsIndexed}
 use Rattle.rtcp_members.specs.declared.counts.Counts.{Counts}
 use Rattle.rtcp_members.specs.Entries.{EntryValue, is_member, is_sender}
 use Rattle.rtcp_members.specs.ListViews.{entry_value, tally_of, weight_of}
 use Rattle.rtcp_members.specs.Pending.{is_due}
-use Rattle.rtcp_members.specs.Standing.{AreCounts, AreRecounted, IsAmong}
+use Rattle.rtcp_members.specs.storage.Standing.{AreCounts, AreRecounted, IsAmong}
 use Rattle.rtcp_members.proofs.Weights.{tally_at_most, tally_set, weight_within}
-use Rattle.rtcp_members.specs.Shelves.{IsChanged}
-use Rattle.rtcp_members.specs.SortedViews.{IsRising}
+use Rattle.rtcp_members.specs.storage.Shelves.{IsChanged}
+use Rattle.rtcp_members.specs.storage.SortedViews.{IsRising}
 use Rattle.rtcp_members.proofs.Pairs.{length_slots, even_read, odd_read, used_read, slot_read, slots_kept, slots_exchanged, take_written, entry_written, read_again}
 use Rattle.rtcp_members.proofs.Rising.{rising_set}
 use Rattle.std.proofs.lemmas.Option.{slice_get_read}

@@ -6,7 +6,7 @@ use Rattle.std.specs.FinMap.Entries.{put, by_order, below_all, is_sorted, is_sor
 use Rattle.rtcp_members.specs.declared.entry.Entry.{Entry}
 use Rattle.rtcp_members.specs.Tables.{IsApart}
 use Rattle.rtcp_members.specs.ListViews.{entry_value, row_of, rows_of}
-use Rattle.rtcp_members.specs.SortedViews.{IsRising, IsGapFor}
+use Rattle.rtcp_members.specs.storage.SortedViews.{IsRising, IsGapFor}
 use Rattle.rtcp_members.proofs.Updated.{both_hold, apart_where_sorted}
 use Rattle.rtcp_members.proofs.LeastDue.{less_than}
 

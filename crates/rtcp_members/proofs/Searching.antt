@@ -10,7 +10,7 @@ use Rattle.rtcp_members.specs.Entries.{is_such}
 use Rattle.rtcp_members.specs.Tables.{TableValue, IsApart}
 use Rattle.rtcp_members.specs.Pending.{is_due, is_due_at}
 use Rattle.rtcp_members.specs.ListViews.{entry_value, rows_of, map_of, table_of, IsRankOf}
-use Rattle.rtcp_members.specs.SortedViews.{IsRising, IsGapFor, Locates}
+use Rattle.rtcp_members.specs.storage.SortedViews.{IsRising, IsGapFor, Locates}
 use Rattle.rtcp_members.proofs.Listing.{get_rows, find_set, tied_itself, tied_key}
 use Rattle.rtcp_members.proofs.Rising.{rising_apart}
 

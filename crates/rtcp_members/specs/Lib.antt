@@ -10,10 +10,7 @@ pub mod Roles
 pub mod Least
 pub mod Codes
 pub mod ListViews
-pub mod SortedViews
-pub mod Heaps
+pub mod storage
 pub mod Looks
-pub mod Shelves
 pub mod BlockLaws
-pub mod Standing
 pub mod Clocks

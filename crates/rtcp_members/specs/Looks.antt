@@ -4,7 +4,7 @@ use Rattle.rtcp_members.specs.declared.entry.Entry.{Entry}
 use Rattle.rtcp_members.specs.declared.index.Look.{Look}
 use Rattle.rtcp_members.specs.declared.index.Look.TheVariants.{Stands, Missing, Below, Above}
 use Rattle.rtcp_members.specs.ListViews.{IsRankOf}
-use Rattle.rtcp_members.specs.SortedViews.{IsGapFor}
+use Rattle.rtcp_members.specs.storage.SortedViews.{IsGapFor}
 
 -- Its rank is that of the source, or that which it would have; and there are cells before one that is too far.
 abbrev pub Sees : (ssrc : ℕ) → List Entry → (at : ℕ) → Look → Type 0

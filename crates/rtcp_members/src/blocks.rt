@@ -7,7 +7,7 @@ ghost use denote.RawPtr.{Ptr};
 ghost use Rattle.arrayvec.specs.ArrayVec as arrays;
 ghost use Rattle.rtcp_members.specs.declared.cells.Cell.{Cell};
 ghost use Rattle.rtcp_members.specs.BlockLaws.{over_whole};
-ghost use Rattle.rtcp_members.specs.Shelves.{LendsCells};
+ghost use Rattle.rtcp_members.specs.storage.Shelves.{LendsCells};
 
 use crate::cells::Cell;
 use crate::table::MAX_CAPACITY;

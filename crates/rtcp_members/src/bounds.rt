@@ -2,7 +2,7 @@
 
 ghost use Rattle.std.specs.Prelude.{◌≤◌, IsTrue};
 ghost use Rattle.rtcp_members.specs.ListViews.{entry_value};
-ghost use Rattle.rtcp_members.specs.Standing.{IsNoLater, IsUpTo, StandsBy};
+ghost use Rattle.rtcp_members.specs.storage.Standing.{IsNoLater, IsUpTo, StandsBy};
 
 use crate::entry::Entry;
 use rtcp_wire::Fact;

@@ -2,7 +2,7 @@
 
 ghost use Rattle.std.specs.Prelude.{◌≡◌, ◌*◌, ◌≤◌, ◌<◌, List, length, take, drop, set, ◌++◌, slice_index_or};
 ghost use Rattle.std.specs.List.{insert};
-ghost use Rattle.rtcp_members.specs.Heaps.{no_slot, entries_in, pairs_in};
+ghost use Rattle.rtcp_members.specs.storage.Heaps.{no_slot, entries_in, pairs_in};
 
 use crate::entry::Entry;
 

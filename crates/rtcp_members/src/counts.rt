@@ -9,7 +9,7 @@ ghost use Rattle.rtcp_source.specs.Blocks.{block_for};
 ghost use Rattle.rtcp_members.specs.Entries.{is_member, is_sender};
 ghost use Rattle.rtcp_members.specs.Pending.{is_due, reported_entry};
 ghost use Rattle.rtcp_members.specs.ListViews.{entry_value, lapsed, tally_of, weight_of};
-ghost use Rattle.rtcp_members.specs.Standing.{AreRecounted, IsAmong, IsOneMore, roles_differ};
+ghost use Rattle.rtcp_members.specs.storage.Standing.{AreRecounted, IsAmong, IsOneMore, roles_differ};
 ghost use Rattle.rtcp_members.specs.Tables.{IsFew, counted_of, entry_with_fact, place_of};
 
 use crate::entry::Entry;

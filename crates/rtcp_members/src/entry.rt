@@ -12,7 +12,7 @@ ghost use Rattle.rtcp_wire.specs.Views.{block_value};
 ghost use Rattle.rtcp_wire.specs.Writing.{IsWritableBlock};
 ghost use Rattle.rtcp_source.specs.Blocks.{block_for};
 ghost use Rattle.rtcp_members.specs.Pending.{is_due, reported_entry};
-ghost use Rattle.rtcp_members.specs.Standing.{KeepsCounts};
+ghost use Rattle.rtcp_members.specs.storage.Standing.{KeepsCounts};
 ghost use Rattle.rtcp_members.specs.Tables.{new_entry, counts, counted_of, entry_after, entry_with_fact, place_of};
 
 use crate::state::SourceState;

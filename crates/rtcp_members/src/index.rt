@@ -1,9 +1,9 @@
 //! An index of entries by rising SSRC, and searches in it.
 
 ghost use Rattle.std.specs.Prelude.{◌≡◌, ◌+◌, ◌*◌, ◌≤◌, ◌<◌, IfOk, IfSome, slice_index_or};
-ghost use Rattle.rtcp_members.specs.Heaps.{IsHalved, IsIndexed, no_slot, in_order, pairs_in};
+ghost use Rattle.rtcp_members.specs.storage.Heaps.{IsHalved, IsIndexed, no_slot, in_order, pairs_in};
 ghost use Rattle.rtcp_members.specs.Looks.{Sees};
-ghost use Rattle.rtcp_members.specs.SortedViews.{Locates};
+ghost use Rattle.rtcp_members.specs.storage.SortedViews.{Locates};
 
 use crate::cells::{Cell, slot_at};
 use crate::entry::Entry;

@@ -5,12 +5,12 @@ ghost use Rattle.std.specs.List.{remove};
 ghost use Rattle.rtcp_wire.specs.Facts.{is_media, subject};
 ghost use Rattle.rtcp_wire.specs.Views.{block_value};
 ghost use Rattle.rtcp_members.specs.declared.entry.Entry.{Entry};
-ghost use Rattle.rtcp_members.specs.Heaps.{IsIndexed, IsHeap, IsPut, in_order, entries_in, slots_in, spared_slots};
+ghost use Rattle.rtcp_members.specs.storage.Heaps.{IsIndexed, IsHeap, IsPut, in_order, entries_in, slots_in, spared_slots};
 ghost use Rattle.rtcp_members.specs.ListViews.{checked, entry_value, mark_in, row_of, state_value, IsRankOf};
 ghost use Rattle.rtcp_members.specs.Pending.{is_due};
-ghost use Rattle.rtcp_members.specs.Shelves.{IsCounted, Joins, MakesBlock, TakesFact};
-ghost use Rattle.rtcp_members.specs.SortedViews.{IsGapFor, Locates};
-ghost use Rattle.rtcp_members.specs.Standing.{AllStandBy, AreCounts, IsMeasured, RulesOut};
+ghost use Rattle.rtcp_members.specs.storage.Shelves.{IsCounted, Joins, MakesBlock, TakesFact};
+ghost use Rattle.rtcp_members.specs.storage.SortedViews.{IsGapFor, Locates};
+ghost use Rattle.rtcp_members.specs.storage.Standing.{AllStandBy, AreCounts, IsMeasured, RulesOut};
 ghost use Rattle.rtcp_members.specs.Tables.{IsFew};
 ghost use Rattle.rtcp_members.specs.Told.{state_of};
 ghost use Rattle.rtcp_members.specs.Traces.{horizons_at};
@@ -37,8 +37,8 @@ pub struct Shelf<B: Blocks> {
 }
 
 impl<B: Blocks> Model for Shelf<B> {
-    ghost use Rattle.rtcp_members.specs.Heaps.{in_order};
-    ghost use Rattle.rtcp_members.specs.Shelves.{IsShelf, ShelfValue};
+    ghost use Rattle.rtcp_members.specs.storage.Heaps.{in_order};
+    ghost use Rattle.rtcp_members.specs.storage.Shelves.{IsShelf, ShelfValue};
 
     ghost Value = { ShelfValue };
 

@@ -7,9 +7,9 @@ ghost use Rattle.rtcp_members.specs.Traces.{horizons_at};
 ghost use Rattle.rtcp_members.specs.Told.{first_state};
 ghost use Rattle.rtcp_members.specs.Entries.{is_such};
 ghost use Rattle.rtcp_members.specs.ListViews.{state_value, rows_of, map_of, table_of, tally_of, IsRankOf};
-ghost use Rattle.rtcp_members.specs.SortedViews.{CutsAbove, IsRising, IsSortedTable, IsGapFor, Locates};
+ghost use Rattle.rtcp_members.specs.storage.SortedViews.{CutsAbove, IsRising, IsSortedTable, IsGapFor, Locates};
 ghost use Rattle.rtcp_members.specs.declared.bounds.Bounds.{Bounds as BoundsOf};
-ghost use Rattle.rtcp_members.specs.Standing.{AllStandBy, IsUpTo};
+ghost use Rattle.rtcp_members.specs.storage.Standing.{AllStandBy, IsUpTo};
 ghost use Rattle.rtcp_members.specs.Pending.{is_due, is_above, first_ssrc};
 ghost use Rattle.rtcp_members.specs.Tables.{no_members, placed, after_fact, after_check, after_forgetting, is_unmarked, dropped_entries, dropped_senders};
 
@@ -50,7 +50,7 @@ impl<B: Blocks> Model for Sorted<B> {
     ghost use Rattle.rtcp_members.specs.Tables.{TableValue};
     ghost use Rattle.rtcp_members.specs.Codes.{table_code};
     ghost use Rattle.rtcp_members.specs.ListViews.{table_of};
-    ghost use Rattle.rtcp_members.specs.Standing.{IsKept};
+    ghost use Rattle.rtcp_members.specs.storage.Standing.{IsKept};
 
     ghost Value = { TableValue };
 

@@ -5,5 +5,5 @@ mod Prefixes
 mod WholeReports
 mod Following
 mod Fitting
-mod WrongRows
+mod examples
 pub mod LawLemmas

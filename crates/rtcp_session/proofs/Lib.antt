@@ -13,13 +13,7 @@ mod Covering
 mod Parting
 mod Joining
 mod Crowding
-mod CrowdRows
-mod WaitRows
-mod DeliveryRows
-mod DeliveryWrongs
-mod JoinRows
-mod LeaveRows
-mod WrongRows
+mod examples
 mod Stretching
 mod Knowing
 mod Taking

@@ -3,5 +3,5 @@ mod Stepping
 mod Summing
 mod Integers
 mod News
-mod Rows
+mod examples
 mod Rates

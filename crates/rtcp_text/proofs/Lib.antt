@@ -1,11 +1,10 @@
-mod AnswerRows
+mod examples
 mod CheckLemmas
 mod ClauseLemmas
 mod CountedLemmas
 mod DigitBlocks
 mod DigitTable
 mod DigitText
-mod EventRows
 mod EventTextLemmas
 mod FieldLemmas
 mod FieldTextLemmas
@@ -22,4 +21,3 @@ mod SettingsLemmas
 mod SpaceLemmas
 mod TailLemmas
 mod TextLemmas
-mod WrongRows

@@ -1,5 +1,4 @@
-mod Rows
-mod WrongRows
+mod examples
 mod Quarters
 mod Quotients
 mod Averaging

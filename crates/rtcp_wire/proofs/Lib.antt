@@ -12,17 +12,13 @@ mod Passing
 mod BodyOrFault
 mod PacketOrFault
 mod Walking
-mod Rows
-mod RowsOfTypes
+mod examples
 mod RtpLists
 mod RtpHeading
 mod RtpFaults
 mod ReadingRtp
-mod RtpRows
-mod FactRows
 mod FewFacts
 mod AboutLists
-mod AboutRows
 mod Appending
 mod Written
 mod WrittenPackets
@@ -33,14 +29,12 @@ mod WalkSteps
 mod ItemSteps
 mod ChunkSteps
 mod PacketSteps
-mod WalkRows
 mod Finding
 pub mod Places
 mod ItemPlaces
 mod PacketPlaces
 mod GoodbyePlaces
 pub mod AppPlaces
-mod ContentRows
 mod BlockLists
 mod Octets
 mod PartsAgain
@@ -48,5 +42,4 @@ mod WritableAgain
 mod PartRanges
 mod RtpRanges
 mod RtpPlaces
-mod WrongRows
 pub mod LawLemmas

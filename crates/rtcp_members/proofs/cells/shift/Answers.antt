@@ -3,7 +3,7 @@ use Rattle.std.proofs.Common.{◌≡◌, ◌<◌, ◌+◌, ◌*◌, ◌/◌, ◌
 use Rattle.std.specs.List.{insert}
 use Rattle.std.proofs.lemmas.List.{drop-set-lt}
 use Rattle.rtcp_members.specs.declared.cells.Slot.{Slot}
-use Rattle.rtcp_members.specs.Heaps.{pairs_in}
+use Rattle.rtcp_members.specs.storage.Heaps.{pairs_in}
 use Rattle.rtcp_members.proofs.Pairs.{length_pairs, pushed_on}
 use Rattle.rtcp_members.proofs.cells.shift.Goals as goal
 

@@ -4,7 +4,7 @@ use Rattle.std.specs.List.{insert}
 use Rattle.std.proofs.lemmas.List.Edits.{length-insert, get_or-insert_at, get_or-insert_above}
 use Rattle.rtcp_members.specs.declared.cells.Cell.{Cell}
 use Rattle.rtcp_members.specs.declared.cells.Slot.{Slot}
-use Rattle.rtcp_members.specs.Heaps.{no_slot, pairs_in}
+use Rattle.rtcp_members.specs.storage.Heaps.{no_slot, pairs_in}
 use Rattle.rtcp_members.proofs.Pairs.{length_pairs, even_read, odd_read, pair_written, entries_same, over_none, over_cell, unwritten}
 use Rattle.rtcp_members.proofs.cells.shift_cells.Goals as goal
 

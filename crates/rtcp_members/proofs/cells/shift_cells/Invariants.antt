@@ -1,7 +1,7 @@
 -- Up to the cell at hand the slots are those after the shift, and the next of them is carried.
 use Rattle.std.proofs.Common.{◌≡◌, ◌*◌, ◌++◌, take, drop, slice_index_or}
 use Rattle.std.specs.List.{insert}
-use Rattle.rtcp_members.specs.Heaps.{no_slot, entries_in, pairs_in}
+use Rattle.rtcp_members.specs.storage.Heaps.{no_slot, entries_in, pairs_in}
 use Rattle.rtcp_members.proofs.cells.shift_cells.Given as goal
 
 abbrev pub invariant-cells : goal.invariant-cells

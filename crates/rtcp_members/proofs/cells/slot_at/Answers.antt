@@ -1,7 +1,7 @@
 -- The slots of a cell are those of twice its place, and the next.
 use Rattle.std.proofs.Common.{arith, sym, ap, ◌∙◌, ◌/◌}
 use Rattle.rtcp_members.specs.declared.cells.Cell.{Cell}
-use Rattle.rtcp_members.specs.Heaps.{no_slot}
+use Rattle.rtcp_members.specs.storage.Heaps.{no_slot}
 use Rattle.rtcp_members.proofs.Pairs.{even_read, odd_read}
 use Rattle.rtcp_members.proofs.cells.slot_at.Goals as goal
 

@@ -3,7 +3,7 @@ use Rattle.std.proofs.Common.{arith, ◌≡◌, ◌<◌, ◌+◌, ◌-◌, ◌/�
 use Rattle.rtcp_members.specs.declared.cells.Cell.{Cell}
 use Rattle.rtcp_members.specs.declared.cells.Slot.{Slot}
 use Rattle.rtcp_members.specs.declared.entry.Entry.{Entry}
-use Rattle.rtcp_members.specs.Heaps.{no_entry, in_order}
+use Rattle.rtcp_members.specs.storage.Heaps.{no_entry, in_order}
 use Rattle.rtcp_members.proofs.Halving.{key_at, upper_half, lowered, none_between}
 use Rattle.rtcp_members.proofs.Ranked.{length_ranked, ssrc_ranked}
 use Rattle.rtcp_members.proofs.Searching.{ssrc_found}

@@ -1,6 +1,6 @@
 -- What is looked for stands between the two ends, if it does.
 use Rattle.std.proofs.Common.{◌-◌}
-use Rattle.rtcp_members.specs.Heaps.{IsHalved, in_order}
+use Rattle.rtcp_members.specs.storage.Heaps.{IsHalved, in_order}
 use Rattle.rtcp_members.proofs.index.find.Given as goal
 
 abbrev pub invariant-halves : goal.invariant-halves

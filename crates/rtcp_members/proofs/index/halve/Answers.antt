@@ -3,7 +3,7 @@ use Rattle.std.proofs.Common.{arith, ◌<◌, ◌≤◌, ◌+◌, ◌-◌, ◌*�
 use Rattle.std.proofs.lemmas.Bool.{cases_lt}
 use Rattle.rtcp_members.specs.declared.cells.Cell.{Cell}
 use Rattle.rtcp_members.specs.declared.entry.Entry.{Entry}
-use Rattle.rtcp_members.specs.Heaps.{no_entry, in_order}
+use Rattle.rtcp_members.specs.storage.Heaps.{no_entry, in_order}
 use Rattle.rtcp_members.proofs.Halving.{IsHalving, halved_at_first, raised, lowered}
 use Rattle.rtcp_members.proofs.Pairs.{read_again}
 use Rattle.rtcp_members.proofs.Ranked.{even_ranked, length_ranked}

@@ -1,5 +1,5 @@
 -- What is looked for stands in so many cells from one on, if it does.
-use Rattle.rtcp_members.specs.Heaps.{in_order}
+use Rattle.rtcp_members.specs.storage.Heaps.{in_order}
 use Rattle.rtcp_members.proofs.Halving.{IsHalving}
 use Rattle.rtcp_members.proofs.index.halve.Given as goal
 

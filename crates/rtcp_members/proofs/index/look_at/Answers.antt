@@ -2,9 +2,9 @@
 use Rattle.std.proofs.Common.{arith, ◌≡◌, ◌<◌, ◌+◌, ◌-◌, ◌*◌, ℕ, List, slice_index_or, refl, sym, subst}
 use Rattle.rtcp_members.specs.declared.cells.Cell.{Cell}
 use Rattle.rtcp_members.specs.declared.entry.Entry.{Entry}
-use Rattle.rtcp_members.specs.Heaps.{no_entry, in_order, IsIndexed}
+use Rattle.rtcp_members.specs.storage.Heaps.{no_entry, in_order, IsIndexed}
 use Rattle.rtcp_members.specs.ListViews.{IsRankOf}
-use Rattle.rtcp_members.specs.SortedViews.{IsGapFor}
+use Rattle.rtcp_members.specs.storage.SortedViews.{IsGapFor}
 use Rattle.rtcp_members.proofs.Halving.{key_at, gap_between}
 use Rattle.rtcp_members.proofs.Ranked.{even_ranked, odd_ranked, length_ranked, ssrc_ranked}
 use Rattle.rtcp_members.proofs.Searching.{ssrc_found}

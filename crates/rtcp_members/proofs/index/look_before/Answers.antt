@@ -1,8 +1,8 @@
 -- A source that is missing would stand between two slots.
 use Rattle.std.proofs.Common.{arith, ◌≡◌, ◌<◌, ◌-◌, ◌*◌, ℕ, List, slice_index_or, subst}
 use Rattle.rtcp_members.specs.declared.cells.Cell.{Cell}
-use Rattle.rtcp_members.specs.Heaps.{no_entry, no_slot, pairs_in, in_order, IsIndexed}
-use Rattle.rtcp_members.specs.SortedViews.{IsGapFor}
+use Rattle.rtcp_members.specs.storage.Heaps.{no_entry, no_slot, pairs_in, in_order, IsIndexed}
+use Rattle.rtcp_members.specs.storage.SortedViews.{IsGapFor}
 use Rattle.rtcp_members.proofs.Halving.{key_at, gap_between}
 use Rattle.rtcp_members.proofs.Ranked.{odd_ranked, length_ranked, ssrc_ranked}
 use Rattle.rtcp_members.proofs.index.look_before.Goals as goal

@@ -2,7 +2,7 @@
 use Rattle.std.proofs.Common.{arith, slice_index_or, Some, sym, ap, subst, ◌∙◌}
 use Rattle.rtcp_members.specs.declared.entry.Entry.{Entry}
 use Rattle.rtcp_members.specs.Entries.{is_member, is_sender}
-use Rattle.rtcp_members.specs.Heaps.{no_entry}
+use Rattle.rtcp_members.specs.storage.Heaps.{no_entry}
 use Rattle.rtcp_members.specs.ListViews.{entry_value}
 use Rattle.rtcp_members.specs.Pending.{is_due}
 use Rattle.rtcp_members.specs.Tables.{IsFew, counted_of, entry_with_fact, place_of}

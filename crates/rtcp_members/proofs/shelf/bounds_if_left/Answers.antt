@@ -6,8 +6,8 @@ use Rattle.rtcp_members.specs.declared.cells.Cell.{Cell}
 use Rattle.rtcp_members.specs.declared.cells.Slot.{Slot}
 use Rattle.rtcp_members.specs.declared.entry.Entry.{Entry}
 use Rattle.rtcp_members.specs.ListViews.{entry_value}
-use Rattle.rtcp_members.specs.Standing.{AllStandBy, StandsBy}
-use Rattle.rtcp_members.specs.Heaps.{entries_in, slots_in, no_cell, no_entry}
+use Rattle.rtcp_members.specs.storage.Standing.{AllStandBy, StandsBy}
+use Rattle.rtcp_members.specs.storage.Heaps.{entries_in, slots_in, no_cell, no_entry}
 use Rattle.rtcp_members.proofs.BoundLemmas.{all_covered, all_picked}
 use Rattle.rtcp_members.proofs.shelf.bounds_if_left.Goals as goal
 

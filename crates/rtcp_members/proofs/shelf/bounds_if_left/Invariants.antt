@@ -1,7 +1,7 @@
 -- The entries of the cells so far stand by the bounds.
 use Rattle.std.proofs.Common.{take}
-use Rattle.rtcp_members.specs.Heaps.{entries_in}
-use Rattle.rtcp_members.specs.Standing.{AllStandBy}
+use Rattle.rtcp_members.specs.storage.Heaps.{entries_in}
+use Rattle.rtcp_members.specs.storage.Standing.{AllStandBy}
 use Rattle.rtcp_members.proofs.shelf.bounds_if_left.Given as goal
 
 abbrev pub invariant-cells : goal.invariant-cells

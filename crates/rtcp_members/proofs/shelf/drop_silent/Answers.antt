@@ -3,8 +3,8 @@ use Rattle.std.proofs.Common.{◌<◌, ◌≤◌, ◌+◌, List, set, slice_inde
 use Rattle.std.proofs.lemmas.List.{length-set}
 use Rattle.rtcp_members.specs.declared.entry.Entry.{Entry}
 use Rattle.rtcp_members.specs.Traces.{horizons_at}
-use Rattle.rtcp_members.specs.Heaps.{in_order}
-use Rattle.rtcp_members.specs.Standing.{IsMeasured}
+use Rattle.rtcp_members.specs.storage.Heaps.{in_order}
+use Rattle.rtcp_members.specs.storage.Standing.{IsMeasured}
 use Rattle.rtcp_members.proofs.Dropping.{IsDropping, left_is_counted, one_dropped, one_kept, all_dropped, all_measured, lapsed_ssrc}
 use Rattle.rtcp_members.proofs.Checking.{rising_checked}
 use Rattle.rtcp_members.proofs.Pairs.{as_many}

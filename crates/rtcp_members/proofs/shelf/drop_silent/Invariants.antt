@@ -1,7 +1,7 @@
 -- The entries of the ranks so far are dropped or changed.
 use Rattle.std.proofs.Common.{◌≡◌, length}
 use Rattle.rtcp_members.specs.Traces.{horizons_at}
-use Rattle.rtcp_members.specs.Heaps.{in_order, entries_in, slots_in, IsHeap}
+use Rattle.rtcp_members.specs.storage.Heaps.{in_order, entries_in, slots_in, IsHeap}
 use Rattle.rtcp_members.proofs.Dropping.{IsDropping}
 use Rattle.rtcp_members.proofs.shelf.drop_silent.Given as goal
 

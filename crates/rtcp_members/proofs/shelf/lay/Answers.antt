@@ -4,7 +4,7 @@ use Rattle.std.proofs.lemmas.List.{length-map, length-set, length-take-le, map-a
 use Rattle.rtcp_members.specs.declared.cells.Cell.{Cell}
 use Rattle.rtcp_members.specs.declared.cells.Slot.{Slot}
 use Rattle.rtcp_members.specs.declared.entry.Entry.{Entry}
-use Rattle.rtcp_members.specs.Heaps.{no_slot, entries_in, pairs_in, slots_in, spared_slots, IsPut}
+use Rattle.rtcp_members.specs.storage.Heaps.{no_slot, entries_in, pairs_in, slots_in, spared_slots, IsPut}
 use Rattle.rtcp_members.proofs.Heaps.{put_behind, put_free}
 use Rattle.rtcp_members.proofs.Pairs.{length_slots, spared_pushed, spared_at, slots_parted, spared_same}
 use Rattle.rtcp_members.proofs.shelf.lay.Goals as goal

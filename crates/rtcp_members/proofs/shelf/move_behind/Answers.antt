@@ -2,7 +2,7 @@
 use Rattle.std.proofs.Common.{◌<◌, ◌≡◌, ◌+◌, ◌-◌, suc, List, length, arith, sym, ap, ◌∙◌}
 use Rattle.std.specs.List.{remove}
 use Rattle.rtcp_members.specs.declared.entry.Entry.{Entry}
-use Rattle.rtcp_members.specs.Heaps.{in_order, no_entry}
+use Rattle.rtcp_members.specs.storage.Heaps.{in_order, no_entry}
 use Rattle.rtcp_members.proofs.Leaving.{leaves_later, last_leaves}
 use Rattle.rtcp_members.proofs.Pairs.{as_many}
 use Rattle.rtcp_members.proofs.Ranked.{length_ranked, first_ranked, heap_first, exchanged_ranked, heap_exchanged}

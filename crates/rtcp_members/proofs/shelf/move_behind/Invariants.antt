@@ -1,7 +1,7 @@
 -- The slot has come to this rank: what stands beside it is as it was.
 use Rattle.std.proofs.Common.{◌≡◌, length}
 use Rattle.std.specs.List.{remove}
-use Rattle.rtcp_members.specs.Heaps.{in_order, entries_in, slots_in, IsHeap}
+use Rattle.rtcp_members.specs.storage.Heaps.{in_order, entries_in, slots_in, IsHeap}
 use Rattle.rtcp_members.proofs.shelf.move_behind.Given as goal
 
 abbrev pub invariant-ranks : goal.invariant-ranks

@@ -1,9 +1,9 @@
 -- The entry of the rank is read in its cell, and then its slot is the last in use.
 use Rattle.std.proofs.Common.{slice_index_or, sym, ap, subst, ◌∙◌}
 use Rattle.std.specs.List.{remove}
-use Rattle.rtcp_members.specs.Heaps.{in_order}
-use Rattle.rtcp_members.specs.Standing.{AreCounts}
-use Rattle.rtcp_members.specs.SortedViews.{IsRising}
+use Rattle.rtcp_members.specs.storage.Heaps.{in_order}
+use Rattle.rtcp_members.specs.storage.Standing.{AreCounts}
+use Rattle.rtcp_members.specs.storage.SortedViews.{IsRising}
 use Rattle.rtcp_members.proofs.Leaving.{counted_removed, leaves_written, rising_removed}
 use Rattle.rtcp_members.proofs.Ranked.{IsAtRank, at_rank, stands, among_ranked, read_ranked, written_ranked, heap_written}
 use Rattle.rtcp_members.proofs.shelf.remove_at.Goals as goal

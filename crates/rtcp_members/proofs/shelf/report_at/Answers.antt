@@ -2,7 +2,7 @@
 use Rattle.std.proofs.Common.{IsTrue, slice_index_or, sym, ap, subst, ◌∙◌}
 use Rattle.rtcp_source.specs.Blocks.{block_for}
 use Rattle.rtcp_members.specs.declared.entry.Entry.{Entry}
-use Rattle.rtcp_members.specs.Heaps.{no_entry}
+use Rattle.rtcp_members.specs.storage.Heaps.{no_entry}
 use Rattle.rtcp_members.specs.ListViews.{entry_value}
 use Rattle.rtcp_members.specs.Pending.{is_due, reported_entry}
 use Rattle.rtcp_members.proofs.Ranked.{IsAtRank, at_rank, read_ranked, among_ranked, still_indexed, changed_ranked, recounted_ranked}

@@ -1,9 +1,9 @@
 -- The entry at the rank is the one that the map has.
 use Rattle.std.proofs.Common.{not, sym, ap, subst, ◌∙◌}
-use Rattle.rtcp_members.specs.Heaps.{no_entry}
+use Rattle.rtcp_members.specs.storage.Heaps.{no_entry}
 use Rattle.rtcp_members.specs.ListViews.{table_of}
-use Rattle.rtcp_members.specs.SortedViews.{IsSortedTable}
-use Rattle.rtcp_members.specs.Standing.{AllStandBy}
+use Rattle.rtcp_members.specs.storage.SortedViews.{IsSortedTable}
+use Rattle.rtcp_members.specs.storage.Standing.{AllStandBy}
 use Rattle.rtcp_members.proofs.Leaving.{found_unmarked, sorted_removed, stand_removed, table_removed}
 use Rattle.rtcp_members.proofs.Rising.{rising_apart}
 use Rattle.rtcp_members.proofs.sorted_table.forget_at.Goals as goal

@@ -1,9 +1,9 @@
 -- Those that stay are in use, and counted.
 use Rattle.std.proofs.Common.{List, arith, length, sym, ap, subst, ◌∙◌}
 use Rattle.rtcp_members.specs.declared.cells.Cell.{Cell}
-use Rattle.rtcp_members.specs.Heaps.{in_order}
-use Rattle.rtcp_members.specs.Shelves.{IsCounted}
-use Rattle.rtcp_members.specs.Standing.{AllStandBy}
+use Rattle.rtcp_members.specs.storage.Heaps.{in_order}
+use Rattle.rtcp_members.specs.storage.Shelves.{IsCounted}
+use Rattle.rtcp_members.specs.storage.Standing.{AllStandBy}
 use Rattle.rtcp_members.proofs.shelf.Shelf.drop_silent.Goals as goal
 
 pub invariant_of-self : goal.invariant_of-self

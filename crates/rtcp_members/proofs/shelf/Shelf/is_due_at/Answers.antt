@@ -1,8 +1,8 @@
 -- What is read is the entry of the rank.
 use Rattle.std.proofs.Common.{List, slice_index_or, ap, ◌∙◌}
 use Rattle.rtcp_members.specs.declared.entry.Entry.{Entry}
-use Rattle.rtcp_members.specs.Heaps.{in_order}
-use Rattle.rtcp_members.specs.Shelves.{ShelfValue}
+use Rattle.rtcp_members.specs.storage.Heaps.{in_order}
+use Rattle.rtcp_members.specs.storage.Shelves.{ShelfValue}
 use Rattle.rtcp_members.specs.ListViews.{entry_value}
 use Rattle.rtcp_members.specs.Pending.{is_due}
 use Rattle.rtcp_members.proofs.shelf.Shelf.is_due_at.Goals as goal

@@ -4,9 +4,9 @@ use Rattle.std.proofs.lemmas.Bool.{ltb-true}
 use Rattle.rtcp_members.specs.declared.cells.Cell.{Cell}
 use Rattle.rtcp_members.specs.declared.cells.Slot.{Slot}
 use Rattle.rtcp_members.specs.declared.entry.Entry.{Entry}
-use Rattle.rtcp_members.specs.Heaps.{no_entry, no_slot, in_order, pairs_in}
-use Rattle.rtcp_members.specs.Shelves.{ShelfValue}
-use Rattle.rtcp_members.specs.SortedViews.{IsGapFor}
+use Rattle.rtcp_members.specs.storage.Heaps.{no_entry, no_slot, in_order, pairs_in}
+use Rattle.rtcp_members.specs.storage.Shelves.{ShelfValue}
+use Rattle.rtcp_members.specs.storage.SortedViews.{IsGapFor}
 use Rattle.rtcp_members.proofs.Halving.{key_at, gap_between}
 use Rattle.rtcp_members.proofs.Ranked.{length_ranked, ssrc_ranked}
 use Rattle.rtcp_members.proofs.shelf.Shelf.is_gap.Given.{Over}

@@ -1,8 +1,8 @@
 -- What is read is the entry of the rank.
 use Rattle.std.proofs.Common.{List, is_some, slice_index_or, ap, ◌∙◌}
 use Rattle.rtcp_members.specs.declared.entry.Entry.{Entry}
-use Rattle.rtcp_members.specs.Heaps.{in_order}
-use Rattle.rtcp_members.specs.Shelves.{ShelfValue}
+use Rattle.rtcp_members.specs.storage.Heaps.{in_order}
+use Rattle.rtcp_members.specs.storage.Shelves.{ShelfValue}
 use Rattle.rtcp_members.specs.ListViews.{mark_in}
 use Rattle.rtcp_members.proofs.shelf.Shelf.is_marked_at.Goals as goal
 

@@ -6,12 +6,12 @@ use Rattle.rtcp_wire.specs.Facts.{subject}
 use Rattle.rtcp_members.specs.declared.cells.Cell.{Cell}
 use Rattle.rtcp_members.specs.declared.cells.Slot.{Slot}
 use Rattle.rtcp_members.specs.declared.entry.Entry.{Entry}
-use Rattle.rtcp_members.specs.Heaps.{entry_in, in_order, picked, entries_in, pairs_in, slots_in, spared_slots, IsHeap, IsIndexed, IsPut}
+use Rattle.rtcp_members.specs.storage.Heaps.{entry_in, in_order, picked, entries_in, pairs_in, slots_in, spared_slots, IsHeap, IsIndexed, IsPut}
 use Rattle.rtcp_members.specs.Entries.{is_member, is_sender}
 use Rattle.rtcp_members.specs.Pending.{is_due}
-use Rattle.rtcp_members.specs.Shelves.{ShelfValue}
-use Rattle.rtcp_members.specs.Standing.{AreCounts}
-use Rattle.rtcp_members.specs.SortedViews.{IsGapFor, IsRising}
+use Rattle.rtcp_members.specs.storage.Shelves.{ShelfValue}
+use Rattle.rtcp_members.specs.storage.Standing.{AreCounts}
+use Rattle.rtcp_members.specs.storage.SortedViews.{IsGapFor, IsRising}
 use Rattle.rtcp_members.proofs.Heaps.{items_inserted, heap_inserted}
 use Rattle.rtcp_members.proofs.Inserting.{counted_insert}
 use Rattle.rtcp_members.proofs.Ranked.{length_ranked}

@@ -3,9 +3,9 @@ use Rattle.std.proofs.Common.{arith, ◌<◌, ℕ, List, length, slice_index_or,
 use Rattle.rtcp_members.specs.declared.cells.Cell.{Cell}
 use Rattle.rtcp_members.specs.declared.cells.Slot.{Slot}
 use Rattle.rtcp_members.specs.declared.entry.Entry.{Entry}
-use Rattle.rtcp_members.specs.Heaps.{no_slot, in_order, pairs_in}
+use Rattle.rtcp_members.specs.storage.Heaps.{no_slot, in_order, pairs_in}
 use Rattle.rtcp_members.specs.ListViews.{IsRankOf}
-use Rattle.rtcp_members.specs.Shelves.{ShelfValue}
+use Rattle.rtcp_members.specs.storage.Shelves.{ShelfValue}
 use Rattle.rtcp_members.proofs.Ranked.{length_ranked, ssrc_ranked}
 use Rattle.rtcp_members.proofs.Searching.{ssrc_found}
 use Rattle.rtcp_members.proofs.shelf.Shelf.ssrc_at.Goals as goal

@@ -1,8 +1,8 @@
 -- What is read is the entry of the rank.
 use Rattle.std.proofs.Common.{List, slice_index_or, ap, ◌∙◌}
 use Rattle.rtcp_members.specs.declared.entry.Entry.{Entry}
-use Rattle.rtcp_members.specs.Heaps.{in_order}
-use Rattle.rtcp_members.specs.Shelves.{ShelfValue}
+use Rattle.rtcp_members.specs.storage.Heaps.{in_order}
+use Rattle.rtcp_members.specs.storage.Shelves.{ShelfValue}
 use Rattle.rtcp_members.specs.ListViews.{row_of}
 use Rattle.rtcp_members.specs.Told.{state_of}
 use Rattle.rtcp_members.proofs.shelf.Shelf.state.Goals as goal

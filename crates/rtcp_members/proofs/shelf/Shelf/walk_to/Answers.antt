@@ -1,9 +1,9 @@
 -- The cells that are searched are those of the shelf.
 use Rattle.std.proofs.Common.{List, IfSome, ap, subst, ◌∙◌}
 use Rattle.rtcp_members.specs.declared.entry.Entry.{Entry}
-use Rattle.rtcp_members.specs.Heaps.{in_order}
-use Rattle.rtcp_members.specs.Shelves.{ShelfValue}
-use Rattle.rtcp_members.specs.SortedViews.{Locates}
+use Rattle.rtcp_members.specs.storage.Heaps.{in_order}
+use Rattle.rtcp_members.specs.storage.Shelves.{ShelfValue}
+use Rattle.rtcp_members.specs.storage.SortedViews.{Locates}
 use Rattle.rtcp_members.proofs.shelf.Shelf.walk_to.Goals as goal
 
 pub returns : goal.returns

@@ -2,9 +2,9 @@
 use Rattle.std.proofs.Common.{ℕ, List, arith, ◌∙◌, ap, sym, subst}
 use Rattle.rtcp_wire.specs.Facts.{subject}
 use Rattle.rtcp_members.specs.declared.entry.Entry.{Entry}
-use Rattle.rtcp_members.specs.Heaps.{no_entry}
+use Rattle.rtcp_members.specs.storage.Heaps.{no_entry}
 use Rattle.rtcp_members.specs.ListViews.{IsRankOf}
-use Rattle.rtcp_members.specs.SortedViews.{IsGapFor, IsSortedTable}
+use Rattle.rtcp_members.specs.storage.SortedViews.{IsGapFor, IsSortedTable}
 use Rattle.rtcp_members.specs.Tables.{TableValue, after_fact, counted, counted_of, entry_with_fact, placed}
 use Rattle.rtcp_members.proofs.Applying.{counted_applied, place_applied}
 use Rattle.rtcp_members.proofs.Moving.{moved_in_list, moved_in_table}

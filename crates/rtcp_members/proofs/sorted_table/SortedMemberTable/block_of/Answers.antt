@@ -3,10 +3,10 @@ use Rattle.std.proofs.Common.{List, IsTrue, Some, arith, sym, ap, subst, ◌∙�
 use Rattle.std.proofs.lemmas.Option.{slice_get_within}
 use Rattle.rtcp_wire.specs.Views.{block_value}
 use Rattle.rtcp_members.specs.declared.entry.Entry.{Entry}
-use Rattle.rtcp_members.specs.Heaps.{no_entry}
+use Rattle.rtcp_members.specs.storage.Heaps.{no_entry}
 use Rattle.rtcp_members.specs.ListViews.{table_of, IsRankOf}
 use Rattle.rtcp_members.specs.Pending.{is_due_at, after_block, block_at, reported_entry}
-use Rattle.rtcp_members.specs.SortedViews.{Locates}
+use Rattle.rtcp_members.specs.storage.SortedViews.{Locates}
 use Rattle.rtcp_members.specs.Tables.{TableValue}
 use Rattle.rtcp_members.proofs.Edits.{sorted_edited, stand_edited}
 use Rattle.rtcp_members.proofs.Placing.{due_there}

@@ -9,7 +9,7 @@ use Rattle.rtcp_members.specs.Entries.{EntryValue, is_member, is_sender}
 use Rattle.rtcp_members.specs.Pending.{is_due}
 use Rattle.rtcp_members.specs.ListViews.{entry_value, tally_of, weight_of}
 use Rattle.rtcp_members.specs.Traces.{Horizons}
-use Rattle.rtcp_members.specs.SortedViews.{IsSortedTable}
+use Rattle.rtcp_members.specs.storage.SortedViews.{IsSortedTable}
 
 -- The mark is no earlier than its bound, and without one the last counted packet.
 abbrev pub MarkStandsBy : Bounds → (mark sending : Option ℕ) → Type 0

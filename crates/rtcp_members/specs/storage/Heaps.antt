@@ -5,7 +5,7 @@ use Rattle.rtcp_members.specs.declared.entry.Entry.{Entry}
 use Rattle.rtcp_members.specs.declared.cells.Cell.{Cell}
 use Rattle.rtcp_members.specs.declared.cells.Slot.{Slot}
 use Rattle.rtcp_source.specs.Steps.{no_source}
-use Rattle.rtcp_members.specs.SortedViews.{IsRising}
+use Rattle.rtcp_members.specs.storage.SortedViews.{IsRising}
 
 -- what is read where there is none
 abbrev pub no_slot : Slot

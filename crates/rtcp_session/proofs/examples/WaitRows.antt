@@ -11,7 +11,7 @@ use Rattle.rtcp_engine.specs.Acts.{Act, arrived, rtcp, rtp_sent, ticked, left}
 use Rattle.rtcp_session.specs.Windows.{Joined, Decided, load_at, decided_at, later_within}
 use Rattle.rtcp_session.specs.Crowds.{alike_in, CountsMost, TakesPart, IsCrowd, Terms, total_reports, carried_in}
 use Rattle.rtcp_session.specs.Waits.{Wait, all_waits, averages_of, open_at, waits_as, CountsWaiting, AreCounted, HasBandwidth, IsCounted, rtcp_bw}
-use Rattle.rtcp_session.proofs.CrowdRows.{crowd_of, setup_of, named_came, packet_came, joined_with, who_hears, terms, pair, stands, is_history, each, keeps_to, bandwidths_of}
+use Rattle.rtcp_session.proofs.examples.CrowdRows.{crowd_of, setup_of, named_came, packet_came, joined_with, who_hears, terms, pair, stands, is_history, each, keeps_to, bandwidths_of}
 
 -- ---- They count each other, by a test that computes
 

@@ -12,7 +12,7 @@ use Rattle.rtcp_wire.specs.Writing.{written_all, IsWritable, IsWritableBlock, Is
 use Rattle.rtcp_wire.specs.Contents.{all_items, all_goodbyes, all_blocks}
 use Rattle.rtcp_wire.specs.Facts.{facts_of}
 use Rattle.rtcp_wire.proofs.LawLemmas.{one_reading, reads_back}
-use Rattle.rtcp_wire.proofs.Rows.{differs, report, report_spelled, report_accepted, padded, padded_accepted}
+use Rattle.rtcp_wire.proofs.examples.Rows.{differs, report, report_spelled, report_accepted, padded, padded_accepted}
 
 are_octets : (octets : List ℕ) → list_all (λ octet. nat_lt octet 256) octets ≡ true → AreOctets octets
 are_octets octets is =

@@ -12,12 +12,12 @@ use Rattle.rtcp_members.specs.declared.entry.Entry.{Entry}
 use Rattle.rtcp_members.specs.declared.counts.Counts.{Counts}
 use Rattle.rtcp_members.specs.declared.table.Effect.{Effect}
 use Rattle.rtcp_members.specs.Pending.{reported_entry}
-use Rattle.rtcp_members.specs.Standing.{AreCounts}
+use Rattle.rtcp_members.specs.storage.Standing.{AreCounts}
 use Rattle.rtcp_members.specs.Tables.{counted_of, entry_after, entry_with_fact, new_entry, place_of}
 use Rattle.rtcp_members.specs.contracts.cells.Cell.{the_row}
 use Rattle.rtcp_members.specs.Entries.{EntryValue, is_member, is_sender}
 use Rattle.rtcp_members.specs.ListViews.{entry_value, tally_of}
-use Rattle.rtcp_members.specs.Heaps.{in_order, IsIndexed}
+use Rattle.rtcp_members.specs.storage.Heaps.{in_order, IsIndexed}
 use denote.RawPtr.{Ptr}
 
 -- The entries in order, how many there is room for, and the block of memory that they lie in, where they lie in one

@@ -7,7 +7,7 @@ use Rattle.rtcp_wire.specs.Faults.{IsFirstFault}
 use Rattle.rtcp_wire.proofs.Joining.{Joins-one}
 use Rattle.rtcp_wire.proofs.Prefixes.{cons_not_nil}
 use Rattle.rtcp_wire.proofs.Walking.{stops_next}
-use Rattle.rtcp_wire.proofs.Rows.{differs, report, report_spelled, after_report, later, first_found}
+use Rattle.rtcp_wire.proofs.examples.Rows.{differs, report, report_spelled, after_report, later, first_found}
 
 -- ---- Sender reports
 

@@ -6,7 +6,7 @@ use Rattle.rtcp_engine.specs.declared.step.OutKind.TheVariants.{Bye}
 use Rattle.rtcp_engine.specs.Acts.{rtcp, Act, arrived, rtp_sent, ticked, left}
 use Rattle.rtcp_engine.specs.Steps.{AnswerValue}
 use Rattle.rtcp_engine.specs.Answers.{answers_to}
-use Rattle.rtcp_engine.proofs.Rows.{start, ok, moved, sends, step_with, empty_report, items_a}
+use Rattle.rtcp_engine.proofs.examples.Rows.{start, ok, moved, sends, step_with, empty_report, items_a}
 
 -- an empty report of a source that came from a peer, with a random word
 abbrev report_came : (moment peer word ssrc : ℕ) → Act

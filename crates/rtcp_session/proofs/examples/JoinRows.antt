@@ -9,8 +9,8 @@ use Rattle.rtcp_session.specs.Windows.{load_at, Joined}
 use Rattle.rtcp_session.specs.Crowds.{alike_in, Terms, total_reports, carried_in}
 use Rattle.rtcp_session.specs.Waits.{Wait, all_waits, waits_as, rtcp_bw, HasBandwidth, IsCounted, HasAverage}
 use Rattle.rtcp_session.specs.Joins.{joins_within, reports_during, CountsJoining, JoinsAreCounted}
-use Rattle.rtcp_session.proofs.CrowdRows.{named_came, joined_with, terms, pair, each}
-use Rattle.rtcp_session.proofs.WaitRows.{goes_by, bandwidths, counted_of}
+use Rattle.rtcp_session.proofs.examples.CrowdRows.{named_came, joined_with, terms, pair, each}
+use Rattle.rtcp_session.proofs.examples.WaitRows.{goes_by, bandwidths, counted_of}
 
 -- the first to report, and one that hears it
 abbrev early : Joined

@@ -4,7 +4,7 @@ use Rattle.rtcp_wire.specs.Values.{rr, bye}
 use Rattle.rtcp_engine.specs.Acts.{rtcp, Act, arrived, ticked}
 use Rattle.rtcp_engine.specs.Histories.{History}
 use Rattle.rtcp_engine.specs.InTime.{greatest_interval, last_fall, longest_wait, IsOverdue}
-use Rattle.rtcp_engine.proofs.Rows.{setup, named_came}
+use Rattle.rtcp_engine.proofs.examples.Rows.{setup, named_came}
 
 abbrev after : List Act → History
 after acts = record { setup = setup; word = 0; acts = acts }

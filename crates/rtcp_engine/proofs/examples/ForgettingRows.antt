@@ -4,7 +4,7 @@ use Rattle.rtcp_wire.specs.Values.{rr, bye}
 use Rattle.rtcp_engine.specs.declared.refusal.Refusal.TheVariants.{Backwards}
 use Rattle.rtcp_engine.specs.Acts.{Act, rtcp, arrived, ticked, forgotten}
 use Rattle.rtcp_engine.specs.Answers.{answers_to}
-use Rattle.rtcp_engine.proofs.Rows.{start, named_came, ok, moved, sends, empty_report}
+use Rattle.rtcp_engine.proofs.examples.Rows.{start, named_came, ok, moved, sends, empty_report}
 
 abbrev goodbye_came : (moment ssrc : ℕ) → Act
 goodbye_came moment ssrc = arrived moment 1 0 (rtcp 16 (Ok (rr ssrc [] [] ∷ bye (ssrc ∷ []) None ∷ [])))

@@ -19,8 +19,8 @@ use Rattle.rtcp_session.specs.Windows.{in_window, later_ones, intervals_of, Deci
 use Rattle.rtcp_session.specs.Crowds.{total_reports, total_octets, alike_in, Paced, IsPaced, total_as, shares_within, AreHeard, Terms, IsCrowd, carried_in}
 use Rattle.rtcp_session.specs.Waits.{AreCounted, octets_next, Wait, all_waits, averages_of, open_at, waits_as, rtcp_bw, HasBandwidth, IsCounted, KeepsToAverage, octets_in}
 use Rattle.rtcp_timer.specs.Averages.{with_headers}
-use Rattle.rtcp_session.proofs.WaitRows.{bandwidths, counted_of, such_waits, pair_is_counted, average_of_pair, alone, alone_is_counted, average_of_one, unaware, average_of_unaware, with_one_deaf, average_with_one_deaf}
-use Rattle.rtcp_session.proofs.CrowdRows.{each, setup_of, named_came, packet_came, joined_with, who_hears, sender, terms, pair, crowd_of, pair_is_crowd, stands}
+use Rattle.rtcp_session.proofs.examples.WaitRows.{bandwidths, counted_of, such_waits, pair_is_counted, average_of_pair, alone, alone_is_counted, average_of_one, unaware, average_of_unaware, with_one_deaf, average_with_one_deaf}
+use Rattle.rtcp_session.proofs.examples.CrowdRows.{each, setup_of, named_came, packet_came, joined_with, who_hears, sender, terms, pair, crowd_of, pair_is_crowd, stands}
 
 -- ---- A number less
 

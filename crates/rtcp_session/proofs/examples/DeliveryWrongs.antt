@@ -16,10 +16,10 @@ use Rattle.rtcp_session.specs.Windows.{Joined, Decided, decided_at, load_at}
 use Rattle.rtcp_session.specs.Crowds.{total_reports, Terms}
 use Rattle.rtcp_session.specs.Waits.{Wait, all_waits, averages_of, rtcp_bw, waits_as, HasBandwidth, HasAverage}
 use Rattle.rtcp_session.specs.Deliveries.{least_wait, carried_after, IsCountedAfter, is_named_in, says_goodbye, pasts_of, has_room, is_dropped, IsKept, KnowEachOther, IsDelivered}
-use Rattle.rtcp_session.proofs.CrowdRows.{setup_of, named_came, joined_with, terms, pair, stands, each}
-use Rattle.rtcp_session.proofs.WaitRows.{bandwidths, average_of_pair, unaware, average_of_unaware}
-use Rattle.rtcp_session.proofs.WrongRows.{who_is_deaf, four, one_in_four}
-use Rattle.rtcp_session.proofs.DeliveryRows.{not_so, comes, HeardBefore, comes_of, has_room_for, never_drops_it, takes_no_bye_of, keeps, differs, knows_role, room_of, never_dropped_of, no_bye_of, kept_of, role_of, EachOther, each_two_of, delivered_of, counted_after_of}
+use Rattle.rtcp_session.proofs.examples.CrowdRows.{setup_of, named_came, joined_with, terms, pair, stands, each}
+use Rattle.rtcp_session.proofs.examples.WaitRows.{bandwidths, average_of_pair, unaware, average_of_unaware}
+use Rattle.rtcp_session.proofs.examples.WrongRows.{who_is_deaf, four, one_in_four}
+use Rattle.rtcp_session.proofs.examples.DeliveryRows.{not_so, comes, HeardBefore, comes_of, has_room_for, never_drops_it, takes_no_bye_of, keeps, differs, knows_role, room_of, never_dropped_of, no_bye_of, kept_of, role_of, EachOther, each_two_of, delivered_of, counted_after_of}
 
 -- ---- Members
 

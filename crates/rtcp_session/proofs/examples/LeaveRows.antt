@@ -12,7 +12,7 @@ use Rattle.rtcp_engine.specs.Taken.{IsHistory}
 use Rattle.rtcp_session.specs.Windows.{Joined}
 use Rattle.rtcp_session.specs.Crowds.{Terms, HasAtMost, carried_in}
 use Rattle.rtcp_session.specs.Partings.{ByeWait, all_bye_waits, bye_during, bye_waits_within, CountsByes, HasByeSizes, ByesAreCounted}
-use Rattle.rtcp_session.proofs.CrowdRows.{joined_with, each, stands, is_history, has_at_most, bandwidth_of}
+use Rattle.rtcp_session.proofs.examples.CrowdRows.{joined_with, each, stands, is_history, has_at_most, bandwidth_of}
 
 -- a compound that names fifty, as of a mixer
 abbrev chunks : ℕ → List ChunkValue

@@ -6,7 +6,7 @@ use Rattle.rtcp_engine.specs.Setups.{SettingsValue}
 use Rattle.rtcp_engine.specs.Acts.{configured, ticked}
 use Rattle.rtcp_engine.specs.Answers.{answers_to}
 use Rattle.rtcp_engine.specs.Histories.{History}
-use Rattle.rtcp_engine.proofs.Rows.{setup, start, start_of, named_came, ok, moved, sends, empty_report}
+use Rattle.rtcp_engine.proofs.examples.Rows.{setup, start, start_of, named_came, ok, moved, sends, empty_report}
 
 -- With these the interval of one member is 3 seconds, where its minimum is less.
 abbrev slow : SettingsValue

@@ -12,8 +12,8 @@ use Rattle.rtcp_session.specs.Windows.{Joined, load_at}
 use Rattle.rtcp_session.specs.Crowds.{Terms}
 use Rattle.rtcp_session.specs.Waits.{Wait, all_waits, waits_within}
 use Rattle.rtcp_session.specs.Deliveries.{waits_after, IsCountedAfter, least_wait, says_goodbye, pasts_of, has_room, is_dropped, IsKept, HasHeard, Knows, EndsAfter, IsDelivered}
-use Rattle.rtcp_session.proofs.CrowdRows.{named_came, joined_with, each, terms, pair}
-use Rattle.rtcp_session.proofs.WaitRows.{all_count, are_counted, goes_by, bandwidths, turnover}
+use Rattle.rtcp_session.proofs.examples.CrowdRows.{named_came, joined_with, each, terms, pair}
+use Rattle.rtcp_session.proofs.examples.WaitRows.{all_count, are_counted, goes_by, bandwidths, turnover}
 
 -- ---- Compounds that were taken, by a test that computes
 

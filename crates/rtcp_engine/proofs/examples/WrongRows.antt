@@ -23,7 +23,7 @@ use Rattle.rtcp_engine.specs.States.{ParticipantValue, StandsAt}
 use Rattle.rtcp_engine.specs.Taken.{IsHistory, NamesFew}
 use Rattle.rtcp_engine.proofs.LawLemmas.{usable_is_unrefused}
 use Rattle.rtcp_engine.proofs.AnswerLemmas.{taken_history}
-use Rattle.rtcp_engine.proofs.Rows.{setup, start, items_a, named_came}
+use Rattle.rtcp_engine.proofs.examples.Rows.{setup, start, items_a, named_came}
 
 abbrev history_of : List Act → History
 history_of acts = record { setup = setup; word = 0; acts = acts }

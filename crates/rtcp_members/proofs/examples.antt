@@ -1,0 +1,4 @@
+mod TurnsSamples
+mod Rows
+mod NewsRows
+mod WrongRows

@@ -1,0 +1,4 @@
+pub mod SortedViews
+pub mod Heaps
+pub mod Shelves
+pub mod Standing

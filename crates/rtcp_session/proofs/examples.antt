@@ -1,0 +1,7 @@
+mod CrowdRows
+mod WaitRows
+mod DeliveryRows
+mod JoinRows
+mod LeaveRows
+mod WrongRows
+mod DeliveryWrongs

@@ -1,0 +1,3 @@
+mod AnswerRows
+mod EventRows
+mod WrongRows
