@@ -44,7 +44,13 @@ impl Digest {
 
     /// Mixes what is told of a source.
     pub fn source(&mut self, state: &SourceState) {
-        let received = state.reception.map_or(0, |reception| reception.received);
-        self.number((u64::from(state.ssrc) << 32) ^ state.heard ^ received);
+        let received = state.reception.map_or(0, |reception| {
+            reception.received ^ (reception.octets << 20)
+        });
+        let told = state.told.map_or(0, |told| u64::from(told.rtp) << 16);
+        let block = state.last_block.map_or(0, |block| {
+            (u64::from(block.fraction) << 56) ^ (u64::from(block.highest) << 24)
+        });
+        self.number((u64::from(state.ssrc) << 32) ^ state.heard ^ received ^ told ^ block);
     }
 }

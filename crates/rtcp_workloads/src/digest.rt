@@ -94,17 +94,21 @@ impl Digest {
     /// Mixes what is told of a source.
     pub fn source(&mut self, state: &SourceState) {
         let roles = (u64::from(state.is_member) << 1) ^ u64::from(state.is_sender);
-        let received = state.reception.map_or([u64::MAX, 0, 0], |reception| {
+        let received = state.reception.map_or([u64::MAX, 0, 0, 0], |reception| {
             let lost = u32::from_ne_bytes(reception.lost.to_ne_bytes());
             [
                 reception.received,
                 pair(reception.highest, reception.jitter),
-                u64::from(lost),
+                pair(lost, reception.rate),
+                reception.octets,
             ]
         });
-        let told = state
-            .told
-            .map_or([u64::MAX, 0], |told| [told.moment, told.ntp]);
+        let told = state.told.map_or([u64::MAX, 0, 0], |told| {
+            [told.moment, told.ntp, u64::from(told.rtp)]
+        });
+        let block = state.last_block.map_or(u64::MAX, |block| {
+            pair(u32::from(block.fraction), block.highest)
+        });
         self.numbers(&[
             (u64::from(state.ssrc) << 2) ^ roles,
             state.heard,
@@ -112,8 +116,11 @@ impl Digest {
             received[0],
             received[1],
             received[2],
+            received[3],
             told[0],
             told[1],
+            told[2],
+            block,
         ]);
     }
 
