@@ -1,5 +1,6 @@
 """Parts of an SVG picture, for compare/crowd and compare/intervals."""
 INK = "#333"
+BLUE, GREEN, RED = "#0060a8", "#007a53", "#c1121f"
 
 
 def text(x, y, words, anchor="start", colour=INK):

@@ -2,41 +2,19 @@
 from __future__ import annotations
 
 from collections import Counter
-from dataclasses import dataclass
 
 import report_plots as plots
-from report_plots import fault_of, milliseconds, seconds
-from report_session import DISMISSED, JOINED, SAID_BYE, TIMED_OUT, Heard, Session
-from report_svg import BLUE, FAINT, GREEN, ORANGE, PURPLE, RED, SHAPES, WIDTH, number, plural, shown
+from report_clock import duration_text, endpoint
+from report_plots import KIND_NAMES, LOOKS, clock_of, fault_of, rates_in_words
+from report_session import DISMISSED, Compound, Session
+from report_sources import name_of, one_by_one, losses, table_of_sources
+from report_style import STYLE
+from report_svg import BLUE, FAINT, GREEN, ORANGE, PURPLE, RED, number, plural, shown
+from report_words import MANY, percent, section
 
 from participant import HEADERS, SECOND
 
-PLOTTED = 10  # sources with a plot of their own
-MOST_ROWS = 1500  # of the table of sources
-LONGEST_NAME = 60  # characters of a CNAME that are shown
-
-STYLE = f"""
-body {{ font: 14px/1.45 system-ui, sans-serif; color: #222; background: #fff; max-width: {WIDTH}px; margin: 24px auto;
-  padding: 0 16px; }}
-h1 {{ font-size: 24px; margin: 0 0 4px; }}
-h2 {{ font-size: 18px; margin: 32px 0 4px; border-bottom: 1px solid #ccc; }}
-h3 {{ font-size: 15px; margin: 24px 0 2px; }}
-p {{ margin: 4px 0 8px; color: #444; }}
-svg {{ display: block; max-width: 100%; height: auto; font: 12px system-ui, sans-serif; }}
-svg.key {{ display: inline-block; vertical-align: -2px; margin: 0 4px 0 0; }}
-.keys span {{ margin-right: 18px; white-space: nowrap; }}
-table {{ border-collapse: collapse; margin: 8px 0; }}
-th, td {{ text-align: left; vertical-align: top; padding: 3px 14px 3px 0; border-bottom: 1px solid #e4e4e4; }}
-th {{ font-weight: 600; }}
-td.number, th.number {{ text-align: right; font-variant-numeric: tabular-nums; }}
-code {{ font-family: ui-monospace, monospace; white-space: nowrap; }}
-table.facts th {{ white-space: nowrap; }}
-table.sources {{ font-size: 13px; }}
-table.sources th, table.sources td {{ padding-right: 12px; }}
-table.sources td {{ white-space: nowrap; }}
-table.sources td.name {{ white-space: normal; overflow-wrap: anywhere; min-width: 165px; }}
-table.sources th {{ vertical-align: bottom; }}
-"""
+MOST_PEERS = 4  # that the head names
 
 MEANINGS = {
     "E1": "this participant has left", "E2": "the moment lies before the latest one", "E3": "the moment is beyond 2^50",
@@ -54,84 +32,99 @@ MEANINGS = {
     "G5": "padding that cannot be",
 }
 
-
-@dataclass(frozen=True)
-class Column:
-    """A column of the table of sources."""
-
-    title: str
-    kind: str = "number"
-
-
-COLUMNS = [Column("SSRC", ""), Column("CNAME", "name"), Column("first heard, s"), Column("last heard, s"),
-           Column("RTP packets in"), Column("RTCP compounds in"), Column("lost in all"), Column("jitter, ms"),
-           Column("round trip, ms"), Column("at the end", "")]
-
-
 def page(session: Session) -> str:
-    name = name_of(session.options["cname"])
-    return (f'<!DOCTYPE html>\n<html lang="en"><head><meta charset="utf-8"><title>RTCP session of {name}</title>'
-            f"<style>{STYLE}</style></head>\n<body>\n<h1>RTCP session of {name}</h1>\n"
-            + facts(session) + refusals(session) + members(session) + compounds(session) + intervals(session)
-            + table_of_sources(session) + reception(session) + "</body></html>\n")
-
-
-def name_of(octets: bytes | None) -> str:
-    """A CNAME as the page shows it."""
-    if octets is None:
-        return "not known"
-    text = octets.decode(errors="replace")
-    return shown(text if len(text) <= LONGEST_NAME else text[:LONGEST_NAME] + "…")
-
-
-def key(shape: str, colour: str, words: str) -> str:
-    """An entry of a legend."""
-    data = {"line": "M0 7h18v2h-18z", "dashes": "M0 7h7v2h-7zM11 7h7v2h-7z", "bar": "M7 2h4v12h-4z"}.get(shape)
-    return (f'<span><svg class="key" width="18" height="16"><path d="{data or "M9 8" + SHAPES[shape]}" '
-            f'fill="{colour}"/></svg>{words}</span>')
-
-
-def section(title: str, words: str, *entries: tuple[str, str, str]) -> str:
-    """The head of a section: what it shows, and a legend."""
-    legend = f'<p class="keys">{"".join(key(*entry) for entry in entries)}</p>\n' if entries else ""
-    return f"<h2>{title}</h2>\n" + (f"<p>{words}</p>\n" if words else "") + legend
+    title = title_of(session)
+    return (f'<!DOCTYPE html>\n<html lang="en"><head><meta charset="utf-8">'
+            f'<meta name="viewport" content="width=device-width, initial-scale=1"><title>{title}</title>'
+            f"<style>{STYLE}</style></head>\n<body>\n<h1>RTCP session of {name_of(session.options['cname'])}</h1>\n"
+            + about(session) + cut(session) + facts(session) + refusals(session) + losses(session)
+            + table_of_sources(session) + members(session) + rates(session) + compounds(session)
+            + intervals(session) + one_by_one(session) + "</body></html>\n")
 
 
 # The head
 
 
+def title_of(session: Session) -> str:
+    """The title of a window: whose session it is, with whom, and when it began."""
+    began = f", {clock_of(session).date(0)} {clock_of(session).moment(0, 0)} UTC" if session.options["ntp"] else ""
+    return (f"RTCP session of {name_of(session.options['cname'])} ({session.options['ssrc']:08x})"
+            f"{with_whom(session)}{began}")
+
+
+def with_whom(session: Session) -> str:
+    """The peer, or how many there are; nothing where the record has no endpoints."""
+    names = [name for name in map(endpoint, session.peers) if name]
+    return "" if not names else f" with {names[0]}" if len(names) == 1 else f" with {len(names)} peers"
+
+
+def about(session: Session) -> str:
+    """The line below the heading."""
+    clock, end = clock_of(session), session.end
+    words = f"SSRC <code>{session.options['ssrc']:08x}</code>{with_whom(session)}"
+    if session.options["ntp"]:
+        last = clock.date(end) if clock.date(end) != clock.date(0) else ""
+        words += f" · {clock.date(0)}, {clock.moment(0, 0)} to {last} {clock.moment(end, 0)} UTC".replace("  ", " ")
+    return f'<p class="about">{words}</p>\n'
+
+
+def cut(session: Session) -> str:
+    """What is missing of a record whose last line was not written to its end."""
+    if not session.cut:
+        return ""
+    when = f"after {clock_of(session).moment(session.latest)}" if session.lines else "at its start"
+    are = "is" if session.cut == 1 else "are"
+    return (f'<p class="cut">The record was cut {when}: its last line, of which there {are} '
+            f"{plural(session.cut, 'octet')} and no line feed, is left out. What came after that moment is not on this "
+            "page.</p>\n")
+
+
 def facts(session: Session) -> str:
-    options = session.options
-    sent = Counter(compound.kind for compound in session.handed_out)
+    options, clock = session.options, clock_of(session)
     rows = [
-        ("Duration", seconds(session.end)),
-        ("SSRC", "; ".join(f"<code>{ssrc:08x}</code> from {seconds(moment)} on"
+        ("Duration", duration_text(session.end)),
+        ("SSRC", "; ".join(f"<code>{ssrc:08x}</code> from {clock.moment(moment)} on"
                            for moment, ssrc in session.identifiers)),
+        *peers(session),
         ("RTCP bandwidth", f"{number(session.bandwidth)} octets a second: {number(options['sender-bw'])} for senders, "
                            f"{number(options['receiver-bw'])} for the others"),
         ("Media clock", f"{number(options['rate'])} units a second"),
-        *([("Other settings from", ", ".join(map(seconds, session.settings)))] if session.settings else []),
+        *([("Other settings from", ", ".join(clock.moment(moment) for moment, *_ in session.shares[1:]))]
+          if session.shares[1:] else []),
         ("Room for other sources", f"{number(options['capacity'])}; largest report {number(options['limit'])} octets"),
         ("Datagrams in", f"{datagrams(session, 'rtcp')}; {datagrams(session, 'rtp')}"),
+        ("RTP lost", lost(session)),
         ("RTCP in", share(session, session.came)),
         ("RTCP out", share(session, session.handed_out)),
-        ("Compounds out", f"{plural(sent['SR'], 'sender report')}, {plural(sent['RR'], 'receiver report')}, "
-                          f"{plural(sent['BYE of a change'], 'BYE')} of a change of SSRC, "
-                          f"{plural(sent['BYE'], 'BYE')} of leaving"),
+        ("Compounds in", kinds(session.came)),
+        ("Compounds out", sent(session)),
         ("RTP out", f"{plural(session.packets_sent, 'packet')}, {plural(session.octets_sent, 'octet')} of payload"),
-        ("Most at a time", f"{most_at_a_time(session)}, this participant included"),
+        ("Most at a time", most_at_a_time(session)),
         ("End", ending(session)),
     ]
     body = "".join(f"<tr><th>{title}</th><td>{words}</td></tr>\n" for title, words in rows)
     return f'<table class="facts">\n{body}</table>\n'
 
 
+def peers(session: Session) -> list[tuple[str, str]]:
+    """The endpoints that RTCP came from."""
+    names = [name for name in map(endpoint, session.peers) if name]
+    more = f" and {len(names) - MOST_PEERS} more" if len(names) > MOST_PEERS else ""
+    return [("RTCP came from", ", ".join(names[:MOST_PEERS]) + more)] if names else []
+
+
 def datagrams(session: Session, kind: str) -> str:
     refused = sum(refused.call == kind for refused in session.refused)
-    return f"{number(session.lines[kind])} of {kind.upper()}, {number(refused)} of them refused"
+    return f"{number(session.lines[kind.encode()])} of {kind.upper()}, {number(refused)} of them refused"
 
 
-def share(session: Session, compounds: list) -> str:
+def lost(session: Session) -> str:
+    """The packets of all sources that were expected and did not come."""
+    expected, missing = session.loss
+    return f"{number(missing)} of {plural(expected, 'packet')} expected{percent(missing, expected, ', ')}"
+
+
+def share(session: Session, compounds: list[Compound]) -> str:
     """What compounds took of the bandwidth, with the headers that RFC 3550, 6.2, counts."""
     octets = sum(compound.size + HEADERS for compound in compounds)
     words = f"{plural(len(compounds), 'compound')}, {plural(octets, 'octet')} with {HEADERS} of headers each"
@@ -141,21 +134,39 @@ def share(session: Session, compounds: list) -> str:
     return f"{words}: {number(rate, 1)} octets a second, {number(100 * rate / session.bandwidth, 2)} % of the bandwidth"
 
 
+def kinds(compounds: list[Compound]) -> str:
+    """How many compounds there are of each kind. SR and RR have packets of no other type but SDES."""
+    counts = Counter(compound.kind for compound in compounds)
+    reports = f"{plural(counts['SR'], 'sender report')}, {plural(counts['RR'], 'receiver report')}"
+    return ", ".join([reports, *(f"{number(counts[kind])} {KIND_NAMES[kind]}" for kind in ("BYE", "APP", "other"))])
+
+
+def sent(session: Session) -> str:
+    counts = Counter(compound.kind for compound in session.handed_out)
+    reports = f"{plural(counts['SR'], 'sender report')}, {plural(counts['RR'], 'receiver report')}"
+    return (f"{reports}, {plural(counts['BYE of a change'], 'BYE')} of a change of SSRC, "
+            f"{plural(counts['BYE'], 'BYE')} of leaving")
+
+
 def most_at_a_time(session: Session) -> str:
-    """In backoff the answers count members anew, so only the time before a leave counts."""
-    present = session.counts_before_leave or session.counts
-    return (f"{plural(max(members for _, members, _ in present), 'member')}, "
-            f"{plural(max(senders for _, _, senders in present), 'sender')}")
+    return (f"{plural(max(members for _, members, _ in session.counts), 'member')}, "
+            f"{plural(max(senders for _, _, senders in session.counts), 'sender')}, this participant included")
 
 
 def ending(session: Session) -> str:
+    _, members, senders = session.counts[-1]
+    there = f"{plural(members, 'member')}, {plural(senders, 'sender')}, this participant included"
     if session.leave is None:
-        return "this participant did not leave"
-    asked = f"this participant's host asked to leave at {seconds(session.leave)}"
+        return f"this participant did not leave; at the end: {there}"
+    clock = clock_of(session)
+    asked = f"this participant's host asked to leave at {clock.moment(session.leave)}"
+    there = f"until then: {there}"
+    if session.said_goodbye:
+        there += f"; {plural(session.said_goodbye, 'BYE')} of others came in the backoff"
     if session.left is None:
-        return f"{asked}; its BYE was not yet due"
+        return f"{asked}; its BYE was not yet due; {there}"
     said = session.handed_out and session.handed_out[-1].kind == "BYE"
-    return f"{asked}; it left at {seconds(session.left)}, {'with' if said else 'without'} a BYE"
+    return f"{asked}; it left at {clock.moment(session.left)}, {'with' if said else 'without'} a BYE; {there}"
 
 
 def refusals(session: Session) -> str:
@@ -168,7 +179,7 @@ def refusals(session: Session) -> str:
     rows = "".join(f'<tr><td class="number">{number(count)}</td><td>{names.get(call, call)}</td><td>{shown(fault)}</td>'
                    f"<td>{meaning(fault)}</td></tr>\n" for (fault, call), count in counts.most_common())
     head = '<tr><th class="number">how many</th><th>call</th><th>fault</th><th>meaning</th></tr>'
-    return section("Refused", "") + f"<table>\n{head}\n{rows}</table>\n"
+    return section("Refused", "") + f'<div class="scroll"><table>\n{head}\n{rows}</table></div>\n'
 
 
 def meaning(fault: str) -> str:
@@ -184,103 +195,55 @@ def members(session: Session) -> str:
     words = ("Both include this participant. A source joins with its CNAME, or with the second of two RTP packets in "
              "sequence.")
     if session.leave is not None:
-        words += (" From the leave on (shaded) the other sources are not tracked: the members are then 0, or, before a "
-                  "BYE that has to wait, 1 plus the BYEs that came.")
+        words += (" The lines end with the leave: after it (shaded) the other sources are not tracked.")
+    if session.goodbyes:
+        words += (f" While the participant waited in the backoff of RFC 3550, 6.3.7, "
+                  f"{plural(session.said_goodbye, 'BYE')} came.")
     entries = [("line", BLUE, "members"), ("line", ORANGE, "senders"), ("up", GREEN, "a source joined"),
                ("down", ORANGE, "it said BYE"), ("cross", RED, "it timed out")]
     if any(what == DISMISSED for _, _, what in session.changes):
         entries.append(("down", PURPLE, "the host said that it is gone"))
-    head = section("Members and senders", words, *entries)
-    return head + plots.members_plot(session)
+    return section("Members and senders", words, *entries) + plots.members_plot(session)
+
+
+def rates(session: Session) -> str:
+    """RTCP against the bandwidth that it may take."""
+    if not session.came and not session.handed_out:
+        return section("RTCP and its bandwidth", "No compound came in or went out.")
+    words = (f"The octets of all compounds in and out, each with {HEADERS} of headers of UDP and IP, and the bandwidth "
+             "that the session allows for them. Those that begin with an SR are of senders, the rest of the others. "
+             "While a quarter of the members or more send, both share the whole bandwidth.</p>\n"
+             f"<p>{rates_in_words(session)}")
+    return section("RTCP and its bandwidth", words, ("line", BLUE, "octets a second"),
+                   ("dashes", RED, "the share of the bandwidth")) + plots.rates_plot(session)
 
 
 def compounds(session: Session) -> str:
-    looks = {"SR": ("up", ORANGE, "sender report out"), "RR": ("up", GREEN, "receiver report out"),
-             "BYE": ("square", RED, "BYE out")}
-    sent = {compound.kind.split(" ")[0] for compound in session.handed_out}
-    entries = [("dot", BLUE, "in"), *(looks[kind] for kind in looks if kind in sent)]
+    if not session.came and not session.handed_out and not session.refused:
+        return section("Compounds in and out", "No compound came in or went out.")
+    entries = [(LOOKS[kind], BLUE, f"{KIND_NAMES[kind]} in") for kind in plots.kinds_of(session.came)]
+    entries += [(LOOKS[kind], ORANGE, f"{KIND_NAMES[kind]} out") for kind in plots.kinds_of(session.handed_out)]
     if plots.refused_by_fault(session):
         entries.append(("cross", RED, "a datagram was refused"))
     off = sum(refused.is_datagram and refused.moment > session.end for refused in session.refused)
     note = f"<p>{plural(off, 'datagram')} refused at a moment off the axis, not drawn.</p>\n" if off else ""
-    return section("Compounds in and out", "", *entries) + plots.compounds_plot(session) + note
+    words = ("Sizes without the headers of UDP and IP. Where there are too many compounds for marks, bars show the "
+             "least and the greatest size at a time, and a lane for each kind how many came.")
+    return section("Compounds in and out", words, *entries) + plots.compounds_plot(session) + note
 
 
 def intervals(session: Session) -> str:
     """The law of the spacing, as a picture and with the closest pair."""
+    if not session.reports:
+        return section("Intervals between reports", "This participant sent no report.")
+    low = min(report.since / report.computed for report in session.reports)
     words = ("Each dot is a report, at the height of the time since the previous one (the first: since the start). The "
              "computed interval follows from members, senders, the average compound size and the bandwidths at that "
              "moment. A random factor of 1/2 to 3/2, over 1.21828, makes an interval of it: so no report lies in the "
-             "red area.")
-    if session.reports:
-        low = min(report.since / report.computed for report in session.reports)
-        words += (f" The earliest of {plural(len(session.reports), 'report')} came after {low:,.3f} of the computed "
-                  "interval; the least allowed is 1 / (2 · 1.21828) = 0.410 of it.")
-        if not all(report.is_lawful for report in session.reports):
-            words += " <strong>Some reports came too soon.</strong>"
-    head = section("Intervals between reports", words, ("dot", BLUE, "time since the previous report"),
+             f"red area. The earliest of {plural(len(session.reports), 'report')} came after {low:,.3f} of the "
+             "computed interval; the least allowed is 1 / (2 · 1.21828) = 0.410 of it. " + MANY)
+    if not all(report.is_lawful for report in session.reports):
+        words += " <strong>Some reports came too soon.</strong>"
+    return section("Intervals between reports", words, ("dot", BLUE, "time since the previous report"),
                    ("line", FAINT, "computed interval"),
-                   ("dashes", RED, "the least: half the computed interval over 1.21828"))
-    return head + plots.intervals_plot(session)
-
-
-def busiest(session: Session) -> list[Heard]:
-    return sorted(session.heard.values(), key=lambda source: (-source.datagrams, source.ssrc))
-
-
-def reception(session: Session) -> str:
-    some = [source for source in busiest(session) if source.receptions or source.round_trips]
-    if not some:
-        return section("Reception", "No report of this participant has a block about a source, and no source reported "
-                                    "on a sender report of this participant.")
-    which = f"the {PLOTTED} busiest of {number(len(some))}" if len(some) > PLOTTED else plural(len(some), "source")
-    words = ("Loss and jitter are those of the report blocks that this participant sent about the source. A round trip "
-             "is computed from a block of the source about a sender report of this participant (LSR and DLSR), when it "
-             "came.")
-    text = section(f"Reception: {which}", words, ("bar", RED, "fraction lost since the previous block"),
-                   ("line", BLUE, "packets lost in all"), ("line", GREEN, "jitter"), ("dot", PURPLE, "round trip"))
-    for source in some[:PLOTTED]:
-        text += (f"<h3><code>{source.ssrc:08x}</code> {name_of(source.cname) if source.cname is not None else ''} "
-                 f"— {plural(source.packets, 'RTP packet')}</h3>\n" + plots.source_plot(session, source))
-    return text
-
-
-# The table of sources
-
-
-def table_of_sources(session: Session) -> str:
-    sources = busiest(session)
-    if not sources:
-        return section("Sources", "No source was heard.")
-    head = "".join(f'<th class="{column.kind}">{column.title}</th>' for column in COLUMNS)
-    rows = "".join(row(session, source) for source in sources[:MOST_ROWS])
-    left_out = len(sources) - MOST_ROWS
-    more = f"<p>{plural(left_out, 'more source')}, from which less came, left out.</p>\n" if left_out > 0 else ""
-    words = ("Every source that an accepted datagram named, the busiest first. Loss, jitter and round trip are the "
-             "latest that a report block gave; a dash: none did.")
-    return section("Sources", words) + f'<table class="sources">\n<tr>{head}</tr>\n{rows}</table>\n{more}'
-
-
-def row(session: Session, source: Heard) -> str:
-    lost = jitter = trip = "–"
-    if source.receptions:
-        latest = source.receptions[-1]
-        lost, jitter = number(latest.lost), f"{milliseconds(latest):,.2f}"
-    if source.round_trips:
-        trip = f"{1000 * source.round_trips[-1][1]:,.2f}"
-    cells = [f"<code>{source.ssrc:08x}</code>", name_of(source.cname), f"{source.first / 1e6:,.3f}",
-             f"{source.last / 1e6:,.3f}", number(source.packets), number(source.compounds), lost, jitter, trip,
-             fate(session, source)]
-    columns = [f'<td class="{column.kind}">{cell}</td>' for column, cell in zip(COLUMNS, cells)]
-    return f"<tr>{''.join(columns)}</tr>\n"
-
-
-def fate(session: Session, source: Heard) -> str:
-    """How a source left, or that it is there."""
-    if source.state == SAID_BYE:
-        return f"BYE at {seconds(source.since)}"
-    if source.state in (TIMED_OUT, DISMISSED):
-        return f"{source.state} at {seconds(source.since)}"
-    if source.state == JOINED:
-        return "there" if session.leave is None else "there at the leave"
-    return "never a member"
+                   ("dashes", RED, "the least: half of it, over 1.21828")) + plots.intervals_plot(session)

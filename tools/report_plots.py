@@ -3,19 +3,31 @@ from __future__ import annotations
 
 from collections import defaultdict
 
-from report_session import DISMISSED, JOINED, SAID_BYE, TIMED_OUT, Heard, Reception, Report, Session
-from report_svg import BLUE, FAINT, GREEN, INSIDE, LEFT, ORANGE, PURPLE, RED, Panel, Plot, number, plural, ticks
+from report_clock import Clock, seconds
+from report_session import DISMISSED, JOINED, SAID_BYE, TIMED_OUT, Compound, Heard, Report, Session
+from report_svg import BLUE, FAINT, GREEN, ORANGE, PURPLE, RED, Panel, Plot, Point, drawn, number, plural, ticks
+
+from participant import HEADERS, SECOND
 
 MOST_FAULTS = 8  # lanes of refused datagrams, the last one for all the other faults
-LEAST_TIME = 1.0  # seconds on the axis, however short the session is
+LEAST_TIME = SECOND  # on the axis, however short the session is
+HEIGHT = 150  # of a panel
+TOPS = (1, 2, 4, 8, 10, 20, 40, 60, 80, 100)  # of a scale in per cent, each with four steps
+WINDOWS = (5, 10, 15, 30, 60, 120, 300, 600, 1800, 3600)  # seconds over which octets are counted
+MOST_WINDOWS = 120
+LEAST_SPACING = 5 / 2 / 1.21828  # seconds between two reports of a peer that keeps to RFC 3550, after the first two
+LOOKS = {"SR": "up", "RR": "dot", "BYE": "square", "APP": "diamond", "other": "plus"}  # by the kind of a compound
+KIND_NAMES = {"SR": "sender report", "RR": "receiver report", "BYE": "with BYE", "APP": "with APP",
+              "other": "with packets of other types"}
 
 
-def seconds(moment: int) -> str:
-    return f"{moment / 1e6:,.3f} s"
+def clock_of(session: Session) -> Clock:
+    return Clock.of_ntp(session.options["ntp"])
 
 
-def empty_plot(session: Session) -> Plot:
-    return Plot(max(session.end / 1e6, LEAST_TIME))
+def picture(session: Session, label: str, draw) -> str:
+    """A plot over the time of the session, for wide and for narrow windows."""
+    return drawn(label, clock_of(session), max(session.end, LEAST_TIME), draw)
 
 
 def upper(values: list[float], least: float) -> float:
@@ -35,68 +47,242 @@ def line(panel: Panel, data: str, colour: str, more: str = "") -> None:
     panel.plot.path(data, f'fill="none" stroke="{colour}" stroke-width="2" {more}')
 
 
+# Loss
+
+
+def loss_panel(plot: Plot, title: str, fractions: list[Point], start: int) -> None:
+    """The part that was lost, in per cent, of the packets expected between two blocks: steps from block to block."""
+    top = next((top for top in TOPS if top >= max(value for _, value, _ in fractions)), 100)
+    panel = plot.panel(HEIGHT, top, title)
+    panel.scale([top * quarter / 4 for quarter in range(5)], " %")
+    moments = [start, *(moment for moment, _, _ in fractions)]
+    steps = [(begins, value) for begins, (_, value, _) in zip(moments, fractions)]
+    panel.area(steps, moments[-1], RED)
+    line(panel, panel.steps(steps, moments[-1]), RED, 'stroke-opacity="0.45"')
+    panel.marks(fractions, "dot", RED, " %")
+
+
+def loss_of(session: Session, source: Heard) -> list[Point]:
+    """The fraction lost of each block about a source."""
+    clock, points = clock_of(session), []
+    for reception in source.receptions:
+        percent = 100 * reception.fraction / 256
+        points.append((reception.moment, percent,
+                       f"{number(reception.lost)} lost in all, {percent:.1f} % since the previous block, "
+                       f"{clock.moment(reception.moment)}"))
+    return points
+
+
+def loss_of_all(session: Session) -> list[Point]:
+    """The part lost of the packets of all sources that a report has blocks about."""
+    sums: dict[int, list[int]] = {}
+    for source in session.heard.values():
+        add_receptions(sums, source)
+    clock, points = clock_of(session), []
+    for moment, (expected, missing) in sorted(sums.items()):
+        percent = 100 * max(0, missing) / expected if expected > 0 else 0.0
+        points.append((moment, percent, f"{number(missing)} of {plural(expected, 'packet')} lost, {percent:.1f} %, "
+                                        f"{clock.moment(moment)}"))
+    return points
+
+
+def add_receptions(sums: dict[int, list[int]], source: Heard) -> None:
+    """Adds what was expected of a source and what did not come of it, by the moments of the blocks."""
+    for reception in source.receptions:
+        before = sums.get(reception.moment, (0, 0))
+        sums[reception.moment] = [before[0] + reception.expected, before[1] + reception.missing]
+
+
+def loss_plot(session: Session, sources: list[Heard]) -> str:
+    """Loss of all sources together, if there are several, and of each of these."""
+    reported = [source for source in session.heard.values() if source.receptions]
+
+    def draw(plot: Plot) -> None:
+        if len(reported) > 1:
+            begins = min(source.first for source in reported)
+            loss_panel(plot, "all sources, lost of the packets expected, %", loss_of_all(session), begins)
+        for source in sources:
+            loss_panel(plot, f"{source.ssrc:08x}, fraction lost, %", loss_of(session, source), source.first)
+
+    return picture(session, "The part of the RTP packets that was lost, in per cent", draw)
+
+
+# Members
+
+
 def members_plot(session: Session) -> str:
-    """Members and senders, and below them who joined and left."""
-    plot = empty_plot(session)
-    panel = plot.panel(150, upper([count[1] for count in session.counts], 3), "members, senders")
-    shade_leaving(session, panel)
-    panel.scale(4)
+    """Members and senders until the leave, and below them who joined and left."""
+    clock = clock_of(session)
+
+    def draw(plot: Plot) -> None:
+        panel = plot.panel(HEIGHT, upper([count[1] for count in session.counts], 3), "members, senders").scaled(4)
+        members_lines(session, panel)
+        looks = {JOINED: ("up", GREEN), SAID_BYE: ("down", ORANGE), TIMED_OUT: ("cross", RED),
+                 DISMISSED: ("down", PURPLE)}
+        for what, look in looks.items():
+            marks = [(moment, f"{ssrc:08x} {what} at {clock.moment(moment)}")
+                     for moment, ssrc, kind in session.changes if kind == what]
+            if marks or what != DISMISSED:
+                plot.lane(what, marks, *look)
+        if session.goodbyes:
+            marks = [(moment, f"{plural(count, 'BYE')} in the backoff at {clock.moment(moment)}")
+                     for moment, count in session.goodbyes]
+            plot.lane("BYE in the backoff", marks, "down", ORANGE, session.said_goodbye)
+        if taken := session.identifiers[1:]:
+            marks = [(moment, f"this participant became {ssrc:08x} at {clock.moment(moment)}")
+                     for moment, ssrc in taken]
+            plot.lane("SSRC changed", marks, "diamond", PURPLE)
+
+    return picture(session, "Members and senders over time", draw)
+
+
+def members_lines(session: Session, panel: Panel) -> None:
+    """The counts, which end with the leave: after it there are no members to count."""
+    until = session.end if session.leave is None else session.leave
     members = [(moment, members) for moment, members, _ in session.counts]
     senders = [(moment, senders) for moment, _, senders in session.counts]
-    line(panel, panel.steps(members, session.end), BLUE)
-    line(panel, panel.steps(senders, session.end), ORANGE)
+    shade_leaving(session, panel)
+    line(panel, panel.steps(members, until), BLUE)
+    line(panel, panel.steps(senders, until), ORANGE)
     panel.name_right([(members[-1][1], plural(members[-1][1], "member"), BLUE),
                       (senders[-1][1], plural(senders[-1][1], "sender"), ORANGE)])
-    looks = {JOINED: ("up", GREEN), SAID_BYE: ("down", ORANGE), TIMED_OUT: ("cross", RED),
-             DISMISSED: ("down", PURPLE)}
-    for what, look in looks.items():
-        marks = [(moment, f"{ssrc:08x} {what} at {seconds(moment)}")
-                 for moment, ssrc, kind in session.changes if kind == what]
-        if marks or what != DISMISSED:
-            plot.lane(what, marks, *look)
-    if taken := session.identifiers[1:]:
-        marks = [(moment, f"this participant became {ssrc:08x} at {seconds(moment)}") for moment, ssrc in taken]
-        plot.lane("SSRC changed", marks, "diamond", PURPLE)
-    return plot.svg("Members and senders over time")
 
 
 def shade_leaving(session: Session, panel: Panel) -> None:
-    """Marks the time from the leave on, in which the answers count no members or count them anew."""
+    """Marks the time from the leave on."""
     if session.leave is None:
         return
-    plot, x, end = panel.plot, panel.plot.x(session.leave), LEFT + INSIDE
+    plot, x, end = panel.plot, panel.plot.x(session.leave), panel.plot.right
     if end - x > 1:
         plot.parts.append(f'<rect x="{x:.1f}" y="{panel.top:.1f}" width="{end - x:.1f}" height="{panel.height:.1f}" '
-                          f'fill="#f3e8f7"/>')
+                          f'fill="{PURPLE}" fill-opacity="0.13"/>')
     plot.line(x, panel.top, x, panel.top + panel.height, PURPLE, 'stroke-width="1.5"')
-    plot.text(x - 6, panel.top - 9, f"leave at {seconds(session.leave)}", "end", PURPLE)
+    is_left = x < plot.left + plot.inside / 2
+    plot.text(x + 4 if is_left else x - 4, panel.top + 13, "leave", "start" if is_left else "end", PURPLE)
+
+
+# RTCP
+
+
+def rates_plot(session: Session) -> str:
+    """The octets a second of RTCP, in all and of senders and others, against their shares of the bandwidth."""
+    window = window_of(session)
+
+    def draw(plot: Plot) -> None:
+        for who, compounds, shares in parts_of(session):
+            title = f"{who}, octets a second over {number(window // SECOND)} s"
+            rate_panel(plot, title, rates(session, compounds, window), shares, session)
+
+    return picture(session, "Octets a second of RTCP over time, and its shares of the bandwidth", draw)
+
+
+def parts_of(session: Session) -> list[tuple[str, list[Compound], list[tuple[int, int]]]]:
+    """All compounds, those of senders and those of others, each with the moments and the sizes of their share."""
+    compounds = session.came + session.handed_out
+    return [("all", compounds, [(moment, senders + others) for moment, senders, others in session.shares]),
+            ("senders", [compound for compound in compounds if compound.is_sender],
+             [(moment, senders) for moment, senders, _ in session.shares]),
+            ("others", [compound for compound in compounds if not compound.is_sender],
+             [(moment, others) for moment, _, others in session.shares])]
+
+
+def rates_in_words(session: Session) -> str:
+    """The average and the greatest rates."""
+    window, words = window_of(session), []
+    for who, compounds, shares in parts_of(session):
+        octets = sum(compound.size + HEADERS for compound in compounds)
+        most = max(rate for _, rate in rates(session, compounds, window))
+        words.append(f"{who}: {number(octets * SECOND / max(session.end, LEAST_TIME), 1)} on the average, at most "
+                     f"{number(most, 1)}, share {number(shares[-1][1])}")
+    return f"Octets a second, over {number(window // SECOND)} seconds each: {'; '.join(words)}."
+
+
+def window_of(session: Session) -> int:
+    """The time over which octets are counted."""
+    return next((window for window in WINDOWS if session.end <= window * SECOND * MOST_WINDOWS),
+                -(-session.end // SECOND // MOST_WINDOWS)) * SECOND
+
+
+def rates(session: Session, compounds: list[Compound], window: int) -> list[tuple[int, float]]:
+    """The octets a second of each window, with the headers of UDP and IP. The last window ends with the
+    session."""
+    count = max(1, round(session.end / window))
+    sums = [0] * count
+    for compound in compounds:
+        sums[min(compound.moment // window, count - 1)] += compound.size + HEADERS
+    lengths = [window] * (count - 1) + [max(session.end - (count - 1) * window, LEAST_TIME)]
+    return [(number * window, octets * SECOND / length) for number, (octets, length) in enumerate(zip(sums, lengths))]
+
+
+def rate_panel(plot: Plot, title: str, points: list[tuple[int, float]], shares: list[tuple[int, int]],
+               session: Session) -> None:
+    values = [value for _, value in points + shares]
+    panel = plot.panel(HEIGHT * 2 / 3, upper(values, 20), title).scaled(4)
+    end = max(session.end, LEAST_TIME)
+    panel.area(points, end, BLUE)
+    line(panel, panel.steps(points, end), BLUE)
+    line(panel, panel.steps(shares, end), RED, 'stroke-dasharray="6 4"')
+    panel.name_right([(shares[-1][1], f"share: {number(shares[-1][1])}", RED)])
 
 
 def compounds_plot(session: Session) -> str:
-    """The sizes of compounds in and out, and below them what was refused."""
-    plot = empty_plot(session)
-    sizes = [compound.size for compound in session.came + session.handed_out]
-    panel = plot.panel(150, upper(sizes, 80), "octets of the compound, without the headers of UDP and IP")
-    panel.scale(4)
-    kinds = {"came": ("dot", BLUE), "SR": ("up", ORANGE), "RR": ("up", GREEN), "BYE of a change": ("square", RED),
-             "BYE": ("square", RED)}
-    for kind, look in kinds.items():
-        some = [compound for compound in session.came + session.handed_out if compound.kind == kind]
-        name = "in" if kind == "came" else f"{kind} out"
-        panel.marks(((compound.moment, compound.size, f"{name}: {compound.size} octets at {seconds(compound.moment)}")
-                     for compound in some), *look)
-    for fault, marks in refused_by_fault(session).items():
-        plot.lane(fault, marks, "cross", RED)
-    return plot.svg("Sizes of compounds over time, and refused datagrams")
+    """The sizes of compounds in and out by kind, and below them what was refused."""
+    def draw(plot: Plot) -> None:
+        sizes = [compound.size for compound in session.came + session.handed_out]
+        high = upper(sizes, 80)
+        for title, colour, compounds in (("in: octets of a compound", BLUE, session.came),
+                                         ("out: octets of a compound", ORANGE, session.handed_out)):
+            if compounds:
+                sizes_panel(session, plot, plot.panel(HEIGHT * 2 / 3, high, title).scaled(4), compounds, colour)
+        for fault, marks in refused_by_fault(session).items():
+            plot.lane(fault, marks, "cross", RED)
+
+    return picture(session, "Sizes of compounds over time, and refused datagrams", draw)
+
+
+def sizes_panel(session: Session, plot: Plot, panel: Panel, compounds: list[Compound], colour: str) -> None:
+    """Marks by size and kind; or, where they would cover each other, sizes alone and a lane for each kind."""
+    if plot.is_full(len(compounds)):
+        panel.marks(sizes_of(session, compounds), "dot", colour, " octets")
+        kind_lanes(session, plot, compounds, colour)
+    else:
+        kind_marks(session, panel, compounds, colour)
+
+
+def sizes_of(session: Session, compounds: list[Compound]) -> list[Point]:
+    clock = clock_of(session)
+    return [(compound.moment, compound.size, f"{compound.kind} {'out' if compound.is_out else 'in'}: "
+                                             f"{compound.size} octets at {clock.moment(compound.moment)}")
+            for compound in compounds]
+
+
+def kinds_of(compounds: list[Compound]) -> list[str]:
+    """The kinds of compounds that there are."""
+    return [kind for kind in LOOKS if any(compound.look == kind for compound in compounds)]
+
+
+def kind_marks(session: Session, panel: Panel, compounds: list[Compound], colour: str) -> None:
+    """A mark for each compound, by its kind."""
+    for kind in kinds_of(compounds):
+        some = [compound for compound in compounds if compound.look == kind]
+        panel.marks(sizes_of(session, some), LOOKS[kind], colour)
+
+
+def kind_lanes(session: Session, plot: Plot, compounds: list[Compound], colour: str) -> None:
+    """A lane for each kind of compound: where marks would cover each other."""
+    for kind in kinds_of(compounds):
+        some = [compound for compound in compounds if compound.look == kind]
+        name = f"{'with ' if kind in ('APP', 'other') else ''}{kind} {'out' if some[0].is_out else 'in'}"
+        plot.lane(name, [(moment, title) for moment, _, title in sizes_of(session, some)], LOOKS[kind], colour)
 
 
 def refused_by_fault(session: Session) -> dict[str, list[tuple[int, str]]]:
     """Marks of refused datagrams, the commonest faults first."""
-    lanes = defaultdict(list)
+    lanes, clock = defaultdict(list), clock_of(session)
     for refused in session.refused:
         if refused.is_datagram and refused.moment <= session.end:
             lanes[fault_of(refused.reason)].append(
-                (refused.moment, f"{refused.call.upper()} refused at {seconds(refused.moment)}: {refused.reason}"))
+                (refused.moment, f"{refused.call.upper()} refused at {clock.moment(refused.moment)}: {refused.reason}"))
     common = sorted(lanes.items(), key=lambda lane: -len(lane[1]))
     if len(common) > MOST_FAULTS:
         others = [mark for _, marks in common[MOST_FAULTS - 1:] for mark in marks]
@@ -104,25 +290,28 @@ def refused_by_fault(session: Session) -> dict[str, list[tuple[int, str]]]:
     return dict(common)
 
 
+# Intervals
+
+
 def intervals_plot(session: Session) -> str:
     """The time before each report, with the computed interval and what no report may fall short of."""
-    plot, reports = empty_plot(session), session.reports
-    values = [max(report.since, report.computed) / 1e6 for report in reports]
-    panel = plot.panel(190, upper(values, 6), "seconds")
-    panel.scale(5)
-    if reports:
+    reports, clock = session.reports, clock_of(session)
+    points = [(report.moment, report.since / 1e6,
+               f"report at {clock.moment(report.moment)}, {seconds(report.since)} after the previous one; "
+               f"computed: {seconds(report.computed)}, least: {seconds(report.least)}") for report in reports]
+
+    def draw(plot: Plot) -> None:
+        values = [max(report.since, report.computed) / 1e6 for report in reports]
+        panel = plot.panel(HEIGHT, upper(values, 6), "seconds before a report").scaled(4)
         least = spans(reports, [report.least / 1e6 for report in reports])
-        area = (f"{panel.steps(least, reports[-1].moment)}V{panel.y(0):.1f}H{plot.x(0):.1f}Z")
-        plot.path(area, f'fill="{RED}" fill-opacity="0.12"')
+        panel.area(least, reports[-1].moment, RED)
         line(panel, panel.steps(least, reports[-1].moment), RED, 'stroke-dasharray="6 4"')
         computed = spans(reports, [report.computed / 1e6 for report in reports])
         line(panel, panel.steps(computed, reports[-1].moment), FAINT)
         panel.name_right([(computed[-1][1], "computed", FAINT), (least[-1][1], "least", RED)])
-    panel.marks(((report.moment, report.since / 1e6,
-                  f"report at {seconds(report.moment)}, {seconds(report.since)} after the previous one; "
-                  f"computed: {seconds(report.computed)}, least: {seconds(report.least)}")
-                 for report in reports), "dot", BLUE)
-    return plot.svg("The time before each report, and the interval computed")
+        panel.marks(points, "dot", BLUE, " s")
+
+    return picture(session, "The time before each report, and the interval computed", draw)
 
 
 def spans(reports: list[Report], values: list[float]) -> list[tuple[int, float]]:
@@ -130,59 +319,58 @@ def spans(reports: list[Report], values: list[float]) -> list[tuple[int, float]]
     return [(report.moment - report.since, value) for report, value in zip(reports, values)]
 
 
+# One source
+
+
+def has_plot(source: Heard) -> bool:
+    return bool(source.receptions or source.round_trips or len(source.reports) > 1)
+
+
 def source_plot(session: Session, source: Heard) -> str:
-    """Loss, jitter and round trips of a source, as far as there are any."""
-    plot = empty_plot(session)
-    if source.receptions:
-        loss_panel(plot, session, source)
-        jitter_panel(plot, source)
-    if source.round_trips:
-        round_trip_panel(plot, source)
-    return plot.svg(f"Loss, jitter and round trips of {source.ssrc:08x}")
+    """Jitter, round trips and the spacing of reports of a source, as far as there are any."""
+    def draw(plot: Plot) -> None:
+        if source.receptions:
+            jitter_panel(session, plot, source)
+        if source.round_trips:
+            round_trip_panel(session, plot, source)
+        if len(source.reports) > 1:
+            spacing_panel(session, plot, source)
+
+    return picture(session, f"What is known of {source.ssrc:08x}, over time", draw)
 
 
-def loss_panel(plot: Plot, session: Session, source: Heard) -> None:
-    """The fraction lost as bars with a scale at the left; the cumulative number as a line with one at the right."""
-    fractions = [100 * reception.fraction / 256 for reception in source.receptions]
-    titles = [f"{reception.lost} lost in all, {fraction:.1f} % since the previous block, {seconds(reception.moment)}"
-              for reception, fraction in zip(source.receptions, fractions)]
-    lost = [(reception.moment, reception.lost) for reception in source.receptions]
-    panel = plot.panel(70, upper(fractions, 1), "fraction lost since the previous block, % (bars, left)")
-    panel.scale(3, RED)
-    plot.text(LEFT + INSIDE, panel.top - 9, "packets lost in all (line, right)", "end", BLUE)
-    for reception, fraction in zip(source.receptions, fractions):
-        x = plot.x(reception.moment)
-        plot.line(x, panel.y(0), x, min(panel.y(fraction), panel.y(0) - 1), RED, 'stroke-width="4"')
-    low = min(0, *(count for _, count in lost))
-    high = upper([count for _, count in lost], 4)
-    other = Panel(plot, panel.top, panel.height, low, high)
-    other.scale(3, BLUE, on_right=True)
-    line(other, other.steps(lost, lost[-1][0]), BLUE)
-    other.marks(((*point, title) for point, title in zip(lost, titles)), "dot", BLUE)
+def jitter_panel(session: Session, plot: Plot, source: Heard) -> None:
+    points = [(reception.moment, reception.milliseconds) for reception in source.receptions]
+    panel = plot.panel(HEIGHT * 2 / 3, upper([value for _, value in points], 1), "jitter, ms").scaled(4)
+    if not plot.is_full(len(points)):
+        line(panel, panel.joined(points), GREEN, 'stroke-opacity="0.5"')
+    panel.marks(titled(session, "jitter", points), "dot", GREEN, " ms")
 
 
-def jitter_panel(plot: Plot, source: Heard) -> None:
-    points = [(reception.moment, milliseconds(reception)) for reception in source.receptions]
-    panel = plot.panel(60, upper([value for _, value in points], 1), "jitter, ms")
-    panel.scale(2)
-    line(panel, panel.joined(points), GREEN)
-    panel.marks(titled("jitter", points), "dot", GREEN)
-
-
-def titled(name: str, points: list[tuple[int, float]]) -> list[tuple[int, float, str]]:
+def titled(session: Session, name: str, points: list[tuple[int, float]]) -> list[Point]:
     """Values in milliseconds, with what a browser shows of each."""
-    return [(moment, value, f"{name} {number(value)} ms at {seconds(moment)}") for moment, value in points]
+    clock = clock_of(session)
+    return [(moment, value, f"{name} {number(value)} ms at {clock.moment(moment)}") for moment, value in points]
 
 
-def round_trip_panel(plot: Plot, source: Heard) -> None:
+def round_trip_panel(session: Session, plot: Plot, source: Heard) -> None:
     """Round trips, which clocks that differ or a wrong DLSR can make negative."""
     trips = [(moment, 1000 * trip) for moment, trip in source.round_trips]
     values = [trip for _, trip in trips]
-    panel = plot.panel(60, upper(values, 1), "round trip, ms", 1.1 * min(0.0, *values))
-    panel.scale(2)
-    panel.marks(titled("round trip", trips), "dot", PURPLE)
+    panel = plot.panel(HEIGHT * 2 / 3, upper(values, 1), "round trip, ms", 1.1 * min(0.0, *values)).scaled(4)
+    panel.marks(titled(session, "round trip", trips), "dot", PURPLE, " ms")
 
 
-def milliseconds(reception: Reception) -> float:
-    """The jitter that was reported."""
-    return 1000 * reception.jitter / reception.rate
+def spacing_panel(session: Session, plot: Plot, source: Heard) -> None:
+    """The time between two successive compounds that begin with a report of the source."""
+    clock = clock_of(session)
+    points = [(after, (after - before) / 1e6,
+               f"{source.ssrc:08x} reported at {clock.moment(after)}, {seconds(after - before)} after its previous "
+               "report")
+              for before, after in zip(source.reports, source.reports[1:])]
+    panel = plot.panel(HEIGHT * 2 / 3, upper([value for _, value, _ in points], 6),
+                       "seconds between its reports").scaled(4)
+    y = panel.y(LEAST_SPACING)
+    plot.line(plot.left, y, plot.right, y, RED, 'stroke-width="1.5" stroke-dasharray="6 4"')
+    panel.name_right([(LEAST_SPACING, "2.05 s", RED)])
+    panel.marks(points, "dot", BLUE, " s")

@@ -10,11 +10,13 @@ from __future__ import annotations
 
 import re
 import sys
-from collections import Counter, OrderedDict
+from collections import Counter
 from dataclasses import dataclass, field
 from pathlib import Path
 
 sys.path.append(str(Path(__file__).resolve().parent.parent / "compare"))
+
+from report_table import Table
 
 import decoder
 import participant
@@ -22,11 +24,12 @@ from participant import HEADERS, MINIMUM, SECOND, SHORT_MINIMUM
 
 JOINED, SAID_BYE, TIMED_OUT, DISMISSED = "joined", "said BYE", "timed out", "dismissed"
 BYE_IS_KEPT = 5 * SECOND  # a source that said BYE stays in the table for so long
-SENDER_REPORT, RECEIVER_REPORT, DESCRIPTION = 200, 201, 202
+SENDER_REPORT, RECEIVER_REPORT, DESCRIPTION, GOODBYE, APPLICATION = 200, 201, 202, 203, 204
 CNAME = 1  # the type of its item
+WITH_BYE, WITH_APP, WITH_OTHERS = "BYE", "APP", "other"  # kinds of compounds that have such a packet
 TAKEN = re.compile("(?:start|ok) members=([0-9]+) senders=([0-9]+) next=([0-9]+|-)"
                    "(?: out=(?:-|(report|bye):((?:[0-9a-f]{2})+)))?(?: ssrc=([0-9a-f]{8}))?")
-KINDS = {call: kind.decode() for kind, (call, _) in participant.LINES.items()}
+EXAMINED = ("E5", "E6", "E7", "E8")  # refusals of calls whose moment was examined before
 
 
 class Mismatch(Exception):
@@ -62,7 +65,14 @@ class Compound:
 
     moment: int
     size: int
-    kind: str  # came, SR, RR, BYE of a change, BYE
+    kind: str  # SR, RR, BYE, APP, other; of those that went out: SR, RR, BYE of a change, BYE
+    is_out: bool
+    is_sender: bool  # whether it begins with a sender report
+
+    @property
+    def look(self) -> str:
+        """Its kind in a plot."""
+        return self.kind.split(" ")[0]
 
 
 @dataclass(frozen=True)
@@ -105,6 +115,13 @@ class Reception:
     lost: int
     jitter: int  # in units of the clock of the source's newest packet
     rate: int  # of this clock, in units a second
+    expected: int  # since the previous block, and how many of these did not come; negative where packets came twice
+    missing: int
+
+    @property
+    def milliseconds(self) -> float:
+        """The jitter."""
+        return 1000 * self.jitter / self.rate
 
 
 @dataclass(slots=True)
@@ -115,96 +132,32 @@ class Heard:
     first: int
     last: int
     cname: bytes | None = None
+    peer: int | None = None  # that of its latest datagram
     packets: int = 0
+    expected: int = 0  # packets, from those counted first to the greatest sequence numbers
+    counted: int = 0
     compounds: int = 0
+    reports: list[int] = field(default_factory=list)  # moments of the compounds that begin with a report of it
     state: str = ""  # the latest of joined, said BYE, timed out, dismissed; none if it never became a member
     since: int = 0  # the moment of this
+    goodbye: int | None = None  # the moment of a BYE in a backoff
     receptions: list[Reception] = field(default_factory=list)
     round_trips: list[tuple[int, float]] = field(default_factory=list)  # moments, seconds
+    blocked: tuple[int, int] = (0, 0)  # expected and counted at the latest block about it
 
     @property
     def datagrams(self) -> int:
         return self.packets + self.compounds
 
+    @property
+    def lost(self) -> int:
+        return self.expected - self.counted
 
-class Table:
-    """The other sources that are present, those heard longest ago first, and how many of them are members.
-
-    The model of the participant looks at all sources anew after each call, which takes too long for a full record."""
-
-    def __init__(self, capacity: int):
-        self.capacity = capacity
-        self.sources: OrderedDict[int, participant.Source] = OrderedDict()
-        self.goodbyes: dict[int, int] = {}  # moments of the BYEs of those that are still in the table, in their order
-        self.members = 0
-
-    def hear(self, ssrc: int, moment: int) -> participant.Source | None:
-        """A sighting: the source, or none where it is ignored."""
-        source = self.sources.get(ssrc)
-        if source is None:
-            if len(self.sources) >= self.capacity:
-                return None
-            source = self.sources[ssrc] = participant.Source()
-        elif source.left is not None:
-            return None
-        source.sightings[:] = [moment]
-        self.sources.move_to_end(ssrc)
-        return source
-
-    def name(self, ssrc: int, moment: int) -> bool:
-        """Takes a CNAME. Says whether the source joins by it."""
-        if (source := self.hear(ssrc, moment)) is None:
-            return False
-        was_member, source.is_named = source.is_member(), True
-        self.members += not was_member
-        return not was_member
-
-    def take_packet(self, ssrc: int, sequence: int, rate: int, moment: int) -> tuple[bool, bool]:
-        """Takes an RTP packet, whose clock has this rate. Says whether it is counted, and whether the source joins by
-        it."""
-        if (source := self.hear(ssrc, moment)) is None:
-            return False, False
-        was_member = source.is_member()
-        is_counted = source.take(sequence, 0, rate, 0, moment)
-        joins = is_counted and not was_member
-        self.members += joins
-        return is_counted, joins
-
-    def leave(self, ssrc: int, moment: int) -> bool:
-        """Takes a BYE. Says whether a member leaves by it."""
-        source = self.sources.get(ssrc)
-        if source is None or source.left is not None:
-            return False
-        was_member = source.is_member()
-        source.left = self.goodbyes[ssrc] = moment
-        self.members -= was_member
-        return was_member
-
-    def forget(self, ssrc: int) -> bool:
-        """Drops a source that has not said BYE. Says whether a member goes by it."""
-        source = self.sources.get(ssrc)
-        if source is None or source.left is not None:
-            return False
-        self.members -= source.is_member()
-        del self.sources[ssrc]
-        return source.is_member()
-
-    def drop(self, heard_before: int, left_before: int) -> list[int]:
-        """Drops those heard last, or gone, before these moments. The members among them."""
-        timed_out = []
-        while self.sources:
-            ssrc, source = next(iter(self.sources.items()))
-            if source.sightings[-1] >= heard_before:
-                break
-            if source.is_member():
-                timed_out.append(ssrc)
-            self.goodbyes.pop(ssrc, None)
-            del self.sources[ssrc]
-        while self.goodbyes and next(iter(self.goodbyes.values())) < left_before:
-            ssrc = next(iter(self.goodbyes))
-            del self.goodbyes[ssrc], self.sources[ssrc]
-        self.members -= len(timed_out)
-        return timed_out
+    def receive(self, moment: int, fraction: int, lost: int, jitter: int, rate: int) -> None:
+        """Takes a block about it."""
+        expected, counted = self.expected - self.blocked[0], self.counted - self.blocked[1]
+        self.receptions.append(Reception(moment, fraction, lost, jitter, rate, expected, expected - counted))
+        self.blocked = self.expected, self.counted
 
 
 class Session:
@@ -213,8 +166,9 @@ class Session:
     def __init__(self, options: dict, start: Answer):
         self.options = options
         self.lines: Counter[str] = Counter()  # by the first word
-        self.counts = [(0, start.members, start.senders)]  # with their moments
-        self.counts_before_leave: list[tuple[int, int, int]] | None = None
+        self.counts = [(0, start.members, start.senders)]  # with their moments, until the leave
+        self.goodbyes: list[tuple[int, int]] = []  # in a backoff: moments, and how many BYEs came then
+        self.said_goodbye = 0  # all of these
         self.came: list[Compound] = []
         self.handed_out: list[Compound] = []
         self.refused: list[Refused] = []
@@ -222,28 +176,31 @@ class Session:
         self.identifiers = [(0, options["ssrc"])]  # with the moments at which they were taken
         self.changes: list[tuple[int, int, str]] = []  # of membership: moment, SSRC and what
         self.heard: dict[int, Heard] = {}
+        self.peers: dict[int, None] = {}  # from which RTCP was taken, in their order
         self.packets_sent, self.octets_sent = 0, 0
         self.leave: int | None = None
         self.left: int | None = None
-        self.end = 0  # the latest moment
+        self.end = 0  # the latest moment that a call could have
+        self.latest = 0  # the moment of the last line, refused or not
+        self.cut = 0  # octets of a last line that lacks its line feed, which is left out
         self.table = Table(options["capacity"])
-        self.settings: list[int] = []  # moments at which the host gave other ones
         self._bandwidths, self._clocks = (options["sender-bw"], options["receiver-bw"]), options["clock"]
+        self.shares = [(0, *self._bandwidths)]  # moments at which the host gave settings, and both bandwidths
         self._pace = *self._bandwidths, 0  # bandwidths by which checks go too, and until when
-        self._calls = {"rtcp": self._rtcp, "rtp": self._rtp, "sent": self._sent, "tick": self._tick,
-                       "leave": self._leave, "configure": self._configure, "forget": self._forget}
+        self._calls = {b"rtcp": self._rtcp, b"rtp": self._rtp, b"sent": self._sent, b"tick": self._tick,
+                       b"leave": self._leave, b"configure": self._configure, b"forget": self._forget}
         self._told: set[tuple[int, int]] = set()  # the SSRC and the LSR of each sender report
         named = participant.source_description(options["ssrc"], [(CNAME, options["cname"])])
         self.average = 256 * (8 + len(named) + HEADERS)
 
     def take(self, line: bytes, answer: Answer) -> None:
-        """Takes a line of the record and its answer."""
-        call, values = participant.call_of(line)
-        kind, moment = KINDS[call], values[0]
+        """Takes a line of the record, which the program has found to be well-formed, and its answer."""
+        kind, moment, *fields = line.split(b" ")
+        moment = self.latest = int(moment)
         self.lines[kind] += 1
         if answer.refusal:
-            self.refused.append(Refused(moment, kind, answer.refusal))
-            if answer.refusal.startswith(("E5", "E6", "E7", "E8")):  # the moment was examined before
+            self.refused.append(Refused(moment, kind.decode(), answer.refusal))
+            if answer.refusal.startswith(EXAMINED):
                 self.end = max(self.end, moment)
             return
         self.end = moment
@@ -251,18 +208,37 @@ class Session:
             self.identifiers.append((moment, answer.ssrc))
         if answer.kind == "bye":
             self._hand_out(moment, answer, "BYE" if answer.ssrc is None else "BYE of a change")
-        self._calls[kind](answer, *values)
-        if self.leave is None and answer.members != 1 + self.table.members:
+        self._calls[kind](answer, moment, *fields)
+        if self.leave is None:
+            self._count(moment, answer)
+        elif answer.members:
+            self._count_goodbyes(moment, answer.members - 1)
+        if answer.next is None:
+            self.left = moment
+
+    def _count(self, moment: int, answer: Answer) -> None:
+        """Takes the members and senders of an answer."""
+        if answer.members != 1 + self.table.members:
             raise Mismatch(f"the answer counts {answer.members} members, and the record has {1 + self.table.members}")
         if self.counts[-1][1:] != (answer.members, answer.senders):
             self.counts.append((moment, answer.members, answer.senders))
-        if answer.next is None:
-            self.left = moment
+
+    def _count_goodbyes(self, moment: int, all_of_them: int) -> None:
+        """Takes how many BYEs came since the leave, which the answers of a backoff count as members."""
+        if all_of_them > self.said_goodbye:
+            self.goodbyes.append((moment, all_of_them - self.said_goodbye))
+            self.said_goodbye = all_of_them
 
     @property
     def bandwidth(self) -> int:
         """That of RTCP at the start, in octets a second."""
         return self.options["sender-bw"] + self.options["receiver-bw"]
+
+    @property
+    def loss(self) -> tuple[int, int]:
+        """How many packets were expected of all sources, and how many of these were lost."""
+        return (sum(source.expected for source in self.heard.values()),
+                sum(source.lost for source in self.heard.values()))
 
     def _is_own(self, ssrc: int) -> bool:
         return ssrc == self.identifiers[-1][1]
@@ -271,7 +247,7 @@ class Session:
         self.average = (256 * (size + HEADERS) + 15 * self.average) // 16
 
     def _hand_out(self, moment: int, answer: Answer, kind: str) -> None:
-        self.handed_out.append(Compound(moment, len(answer.out), kind))
+        self.handed_out.append(Compound(moment, len(answer.out), kind, True, answer.out[1] == SENDER_REPORT))
         self._move_average(len(answer.out))
 
     def _interval(self, members: int, senders: int, is_sender: bool, bandwidths: tuple[int, int]) -> int:
@@ -297,33 +273,46 @@ class Session:
         self.heard[ssrc].state, self.heard[ssrc].since = what, moment
 
     def _hear(self, ssrc: int, moment: int) -> Heard:
-        source = self.heard.setdefault(ssrc, Heard(ssrc, moment, moment))
+        source = self.heard.get(ssrc)
+        if source is None:
+            source = self.heard[ssrc] = Heard(ssrc, moment, moment)
         source.last = moment
         return source
 
-    # The calls
+    # The calls: their answer, their moment and the other fields of their line
 
-    def _rtcp(self, _: Answer, moment: int, peer: int, word: int, octets: bytes) -> None:
-        self.came.append(Compound(moment, len(octets), "came"))
+    def _rtcp(self, _: Answer, moment: int, peer: bytes, word: bytes, datagram: bytes) -> None:
+        octets = bytes.fromhex(datagram.decode())
+        packets = list(decoder.packets(octets))
+        is_sender = packets[0][0] == SENDER_REPORT
+        self.came.append(Compound(moment, len(octets), kind_of(packets), False, is_sender))
+        self.peers.setdefault(int(peer))
         named = set()
-        for kind, count, body in decoder.packets(octets):
-            facts = decoder.packet_facts(kind, count, body)
-            named |= {ssrc for what, ssrc, _ in facts if what != "gone"}
-            for what, ssrc, _ in facts:
-                self._take_fact(what, ssrc, moment)
-            if kind == DESCRIPTION:
-                self._take_names(body, count)
-            if kind in (SENDER_REPORT, RECEIVER_REPORT):
-                self._take_round_trips(moment, int.from_bytes(body[:4], "big"), blocks_of(kind, count, body))
+        for kind, count, body in packets:
+            named |= self._take_packet(moment, kind, count, body)
         for ssrc in named:
-            self.heard[ssrc].compounds += 1
+            self.heard[ssrc].compounds, self.heard[ssrc].peer = self.heard[ssrc].compounds + 1, int(peer)
+        self.heard[int.from_bytes(packets[0][2][:4], "big")].reports.append(moment)
         self._move_average(len(octets))
+
+    def _take_packet(self, moment: int, kind: int, count: int, body: bytes) -> set[int]:
+        """Takes a packet of a compound. The sources that it is of."""
+        facts = decoder.packet_facts(kind, count, body)
+        for what, ssrc, _ in facts:
+            self._take_fact(what, ssrc, moment)
+        if kind == DESCRIPTION:
+            self._take_names(body, count)
+        if kind in (SENDER_REPORT, RECEIVER_REPORT) and self._told:
+            self._take_round_trips(moment, int.from_bytes(body[:4], "big"), blocks_of(kind, count, body))
+        return {ssrc for what, ssrc, _ in facts if what != "gone"}
 
     def _take_fact(self, what: str, ssrc: int, moment: int) -> None:
         """Takes a fact. From a leave on the participant keeps no table."""
         if what != "gone":
             self._hear(ssrc, moment)
         if self.leave is not None:
+            if what == "gone" and ssrc in self.heard:
+                self.heard[ssrc].goodbye = moment
             return
         if what == "gone" and self.table.leave(ssrc, moment):
             self._change(moment, ssrc, SAID_BYE)
@@ -333,10 +322,10 @@ class Session:
             self._change(moment, ssrc, JOINED)
 
     def _take_names(self, body: bytes, count: int) -> None:
-        for identifier, items in decoder.description_chunks(body, count):
-            for kind, text in items:
-                if kind == CNAME:
-                    self.heard[int.from_bytes(identifier, "big")].cname = text
+        names = [(int.from_bytes(identifier, "big"), text) for identifier, items
+                 in decoder.description_chunks(body, count) for kind, text in items if kind == CNAME]
+        for ssrc, text in names:
+            self.heard[ssrc].cname = text
 
     def _take_round_trips(self, moment: int, reporter: int, blocks: list[list[str]]) -> None:
         """What blocks about this participant's sender reports say; an LSR that none of them had says nothing."""
@@ -346,25 +335,30 @@ class Session:
                 trip = (now - int(last_report, 16) - int(delay, 16) + 2**31) % 2**32 - 2**31
                 self.heard[reporter].round_trips.append((moment, trip / 65536))
 
-    def _rtp(self, _: Answer, moment: int, peer: int, word: int, octets: bytes) -> None:
-        sequence, _, ssrc, csrcs = participant.read_head(octets)
-        self._hear(ssrc, moment).packets += 1
+    def _rtp(self, _: Answer, moment: int, peer: bytes, word: bytes, datagram: bytes) -> None:
+        ssrc = int(datagram[16:24], 16)
+        source = self._hear(ssrc, moment)
+        source.packets, source.peer = source.packets + 1, int(peer)
         if self.leave is not None:
             return
-        rate = self._rate_of(participant.payload_type(octets))
-        is_counted, joins = self.table.take_packet(ssrc, sequence, rate, moment)
+        rate = self._rate_of(int(datagram[2:4], 16) & 0x7f)
+        expected, joins = self.table.take_packet(ssrc, int(datagram[4:8], 16), rate, moment)
         if joins:
             self._change(moment, ssrc, JOINED)
-        for csrc in csrcs if is_counted else []:
+        if expected is None:
+            return
+        source.expected, source.counted = source.expected + expected, source.counted + 1
+        csrcs_end = 24 + 8 * int(datagram[1:2], 16)
+        for csrc in [int(datagram[at:at + 8], 16) for at in range(24, csrcs_end, 8)]:
             if not self._is_own(csrc):
                 self._hear(csrc, moment)
                 self.table.hear(csrc, moment)
 
-    def _sent(self, _: Answer, moment: int, timestamp: int, octets: int) -> None:
+    def _sent(self, _: Answer, moment: int, timestamp: bytes, octets: bytes) -> None:
         if self.leave is None:
-            self.packets_sent, self.octets_sent = self.packets_sent + 1, self.octets_sent + octets
+            self.packets_sent, self.octets_sent = self.packets_sent + 1, self.octets_sent + int(octets)
 
-    def _tick(self, answer: Answer, moment: int, *words: int) -> None:
+    def _tick(self, answer: Answer, moment: int, *words: bytes) -> None:
         if self.leave is not None:
             return
         interval = self._check_interval(moment)
@@ -379,30 +373,42 @@ class Session:
         computed = self._interval(answer.members, answer.senders, is_sender, self._bandwidths)
         self.reports.append(Report(moment, moment - before, computed))
         self._hand_out(moment, answer, "SR" if is_sender else "RR")
-        for kind, count, body in decoder.packets(answer.out):
-            if kind == SENDER_REPORT:
-                self._told.add((self.identifiers[-1][1], int.from_bytes(body[6:10], "big")))
-            if kind in (SENDER_REPORT, RECEIVER_REPORT):
-                for ssrc, fraction, lost, _, jitter, *_ in blocks_of(kind, count, body):
-                    rate = self.table.sources[int(ssrc, 16)].rates[-1]
-                    reception = Reception(moment, int(fraction), int(lost), int(jitter), rate)
-                    self.heard[int(ssrc, 16)].receptions.append(reception)
+        packets = list(decoder.packets(answer.out))
+        if is_sender:
+            self._told.add((self.identifiers[-1][1], int.from_bytes(packets[0][2][6:10], "big")))
+        blocks = [block for kind, count, body in packets if kind in (SENDER_REPORT, RECEIVER_REPORT)
+                  for block in blocks_of(kind, count, body)]
+        for source, fraction, lost, _, jitter, *_ in blocks:
+            ssrc = int(source, 16)
+            self.heard[ssrc].receive(moment, int(fraction), int(lost), int(jitter), self.table.sources[ssrc].rate)
 
-    def _leave(self, answer: Answer, moment: int, word: int) -> None:
+    def _leave(self, answer: Answer, moment: int, word: bytes) -> None:
         if self.leave is None:
-            self.leave, self.counts_before_leave = moment, list(self.counts)
+            self.leave = moment
 
-
-    def _configure(self, _: Answer, moment: int, *settings) -> None:
+    def _configure(self, _: Answer, moment: int, *fields: bytes) -> None:
         if self.leave is None:
             self._pace = *self._paced(moment), moment + 5 * self._check_interval(moment)
-        senders, others, self._clocks, _ = settings
-        self._bandwidths = senders, others
-        self.settings.append(moment)
+        self._clocks = participant.NUMBERS["clocks"](fields[2])
+        self._bandwidths = int(fields[0]), int(fields[1])
+        self.shares.append((moment, *self._bandwidths))
 
-    def _forget(self, _: Answer, moment: int, ssrc: int) -> None:
+    def _forget(self, _: Answer, moment: int, source: bytes) -> None:
+        ssrc = int(source, 16)
         if self.leave is None and self.table.forget(ssrc):
             self._change(moment, ssrc, DISMISSED)
+
+
+def kind_of(packets: list[tuple[int, int, bytes]]) -> str:
+    """The kind of a compound that came: by the rarest kind of packet that it has."""
+    kinds = {kind for kind, _, _ in packets}
+    if GOODBYE in kinds:
+        return WITH_BYE
+    if APPLICATION in kinds:
+        return WITH_APP
+    if kinds - {SENDER_REPORT, RECEIVER_REPORT, DESCRIPTION}:
+        return WITH_OTHERS
+    return "SR" if packets[0][0] == SENDER_REPORT else "RR"
 
 
 def blocks_of(kind: int, count: int, body: bytes) -> list[list[str]]:
@@ -411,17 +417,24 @@ def blocks_of(kind: int, count: int, body: bytes) -> list[list[str]]:
     return [decoder.block_text(body[at:at + 24]).split("/") for at in range(start, start + 24 * count, 24)]
 
 
+def whole_lines(record: bytes) -> tuple[bytes, int]:
+    """What of a record ends with a line feed, and how many octets come after that."""
+    whole = record.rfind(b"\n") + 1
+    return (record, 0) if whole == len(record) else (record[:whole], len(record) - whole)
+
+
 def read_session(options: dict, record: bytes, answers: str) -> Session:
-    """The session of a record that `rtcp replay` has answered to its end."""
+    """The session of a record of whole lines that `rtcp replay` has answered to its end."""
     lines, said = record.split(b"\n"), answers.splitlines()
-    if not lines[-1]:
-        lines.pop()
+    lines.pop()
     if len(said) != 1 + len(lines):
         raise Mismatch(f"a start and {len(lines)} lines have {len(said)} answers")
-    session = Session(options, Answer.read(said[0]))
-    for number, (line, answer) in enumerate(zip(lines, said[1:]), 1):
+    session, before, answer = Session(options, Answer.read(said[0])), "", None
+    for number, (line, text) in enumerate(zip(lines, said[1:]), 1):
         try:
-            session.take(line, Answer.read(answer))
+            if text != before:  # most answers are like the one before
+                before, answer = text, Answer.read(text)
+            session.take(line, answer)
         except Mismatch as fault:
             raise Mismatch(f"line {number}: {fault}")
     return session
