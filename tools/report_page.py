@@ -64,7 +64,7 @@ def about(session: Session) -> str:
     words = f"SSRC <code>{session.options['ssrc']:08x}</code>{with_whom(session)}"
     if session.options["ntp"]:
         last = clock.date(end) if clock.date(end) != clock.date(0) else ""
-        words += f" · {clock.date(0)}, {clock.moment(0, 0)} to {last} {clock.moment(end, 0)} UTC".replace("  ", " ")
+        words += f"<br>{clock.date(0)}, {clock.moment(0, 0)} to {last} {clock.moment(end, 0)} UTC".replace("  ", " ")
     return f'<p class="about">{words}</p>\n'
 
 
@@ -212,7 +212,8 @@ def rates(session: Session) -> str:
         return section("RTCP and its bandwidth", "No compound came in or went out.")
     words = (f"The octets of all compounds in and out, each with {HEADERS} of headers of UDP and IP, and the bandwidth "
              "that the session allows for them. Those that begin with an SR are of senders, the rest of the others. "
-             "While a quarter of the members or more send, both share the whole bandwidth.</p>\n"
+             "While the senders are a greater part of the members than their share is of the bandwidth, all share the "
+             "whole.</p>\n"
              f"<p>{rates_in_words(session)}")
     return section("RTCP and its bandwidth", words, ("line", BLUE, "octets a second"),
                    ("dashes", RED, "the share of the bandwidth")) + plots.rates_plot(session)

@@ -22,7 +22,7 @@ p.cut {{ background: var(--warn); padding: 8px 12px; border-radius: 4px; }}
 @media print {{ .tall {{ max-height: none; }} }}
 svg {{ display: block; font: 12px system-ui, sans-serif; }}
 svg.wide {{ width: {WIDE.width}px; height: auto; }}
-svg.narrow {{ display: none; width: 100%; max-width: 480px; height: auto; }}
+svg.narrow {{ display: none; width: 100%; min-width: {NARROW.width}px; max-width: 480px; height: auto; }}
 svg.key {{ flex: none; width: 18px; height: 16px; }}
 p.keys {{ display: flex; flex-wrap: wrap; gap: 2px 20px; max-width: none; }}
 .keys span {{ display: flex; align-items: center; gap: 5px; }}
