@@ -81,12 +81,13 @@ RATES = Session(compound(0, SR_7) + FIRST_TICK + compound(9_000_000, "80c9000100
     "Octets a second, over 5 seconds each: all: 14 on the average, at most 20.8, share 140; senders: 5.6 on the "
     "average, at most 11.2, share 50; others: 8.4 on the average, at most 9.6, share 90."])
 
-# 7 reports at 0, 2.5 and 8 seconds; a datagram that only says BYE of it is none of its own.
+# 7 reports at 0, 2.5 and 8 seconds; one report of 8 has the CNAME of 7, and another one its BYE: none is one of 7.
 SPACED = Session(compound(0, RR_7 + NAME_7) + compound(2_500_000, SR_7 + NAME_7)
+                 + compound(2_900_000, "80c90001" + "00000008" + NAME_7)
                  + compound(3_000_000, "80c90001" + "00000008" + BYE_7) + compound(8_000_000, RR_7),
                  titles=["00000007 reported at 0:00:02.500, 2.500 s after its previous report",
                          "00000007 reported at 0:00:08.000, 5.500 s after its previous report"],
-                 none_of=["3.000 s after", "jitter, ms", "00000008 reported"])
+                 none_of=["00000007 reported at 0:00:02.900", "00000007 reported at 0:00:03.000", "jitter, ms"])
 
 # 50 others and this participant are too many for a BYE at once (6.3.7). 2 of the others say BYE in one compound and 1
 # in another one; then the record ends.
