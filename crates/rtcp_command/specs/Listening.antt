@@ -1,5 +1,5 @@
 -- What the options of `rtcp listen` say, and the first of them that is refused.
-use Rattle.std.specs.Prelude.{◌≡◌, ℕ, ◌≤◌, nat_le, ◌&&◌, Bool, List, if◌then◌else◌, Option, Some, None, option_and_then, option_map, string_bytes, Result, Ok, Err, codes}
+use Rattle.std.specs.Prelude.{◌≡◌, ℕ, ◌≤◌, nat_le, ◌&&◌, ◌||◌, not, Bool, is_some, List, if◌then◌else◌, Option, Some, None, option_and_then, option_map, string_bytes, Result, Ok, Err, codes}
 use Rattle.std.specs.Option.{ok_or}
 use Rattle.std.specs.Str.{bytes_eq}
 use Rattle.rtcp_engine.specs.Setups.{Setup}
@@ -21,7 +21,8 @@ pub record LinkTexts : Type 0 where
   pub rtcp : List ℕ
   pub peer : List ℕ
   pub seed : List ℕ
-  pub turns : List ℕ
+  pub turns : Option (List ℕ)
+  pub seconds : Option (List ℕ)
   pub recording : Option (List ℕ)
   pub show : List ℕ
 
@@ -31,7 +32,8 @@ link_texts_of options = record {
   rtcp = options.rtcp.now;
   peer = options.peer.now;
   seed = options.seed.now;
-  turns = options.turns.now;
+  turns = text_given options.turns;
+  seconds = text_given options.seconds;
   recording = text_given options.recording;
   show = options.show.now;
 }
@@ -43,7 +45,8 @@ link_texts_found found = record {
   rtcp = text_found found (codes "rtcp");
   peer = text_found found (codes "peer");
   seed = text_found found (codes "seed");
-  turns = text_found found (codes "turns");
+  turns = found (codes "turns");
+  seconds = found (codes "seconds");
   recording = found (codes "record");
   show = text_found found (codes "show");
 }
@@ -54,6 +57,26 @@ turns_in text =
     option_and_then (λ turns. if nat_le 1 turns && nat_le turns 1000000 then Some turns else None)
     (decimal_in 32 text)
 
+-- 1,000 if none are given
+abbrev pub turns_given : Option (List ℕ) → Option ℕ
+turns_given None = Some 1000
+turns_given (Some text) = turns_in text
+
+-- 1 to 1,000,000,000 seconds
+abbrev pub seconds_in : List ℕ → Option ℕ
+seconds_in text =
+    option_and_then (λ seconds. if nat_le 1 seconds && nat_le seconds 1000000000 then Some seconds else None)
+    (decimal_in 32 text)
+
+-- those of an option that need not be given
+abbrev pub seconds_given : Option (List ℕ) → Option (Option ℕ)
+seconds_given None = Some None
+seconds_given (Some text) = option_map Some (seconds_in text)
+
+-- Turns end a session if they are given, or nothing else ends it.
+abbrev pub counts_turns : LinkTexts → Bool
+counts_turns link = is_some link.turns || not (is_some link.seconds)
+
 -- a session over UDP
 pub record Listening : Type 0 where
   pub setup : Setup
@@ -62,6 +85,10 @@ pub record Listening : Type 0 where
   pub peer : Endpoint
   pub seed : ℕ
   pub turns : ℕ
+  -- whether they end it
+  pub counts_turns : Bool
+  -- after how many seconds it is left
+  pub seconds : Option ℕ
   -- the name of the file that it is recorded in
   pub recording : Option (List ℕ)
   -- whether it is shown while it runs
@@ -75,7 +102,8 @@ listen_in texts link = do
   rtcp ← ok_or (endpoint_in link.rtcp) (codes "rtcp")
   peer ← ok_or (endpoint_in link.peer) (codes "peer")
   seed ← ok_or (decimal_in 64 link.seed) (codes "seed")
-  turns ← ok_or (turns_in link.turns) (codes "turns")
+  turns ← ok_or (turns_given link.turns) (codes "turns")
+  seconds ← ok_or (seconds_given link.seconds) (codes "seconds")
   Ok (record {
     setup = setup;
     rtp = rtp;
@@ -83,6 +111,8 @@ listen_in texts link = do
     peer = peer;
     seed = seed;
     turns = turns;
+    counts_turns = counts_turns link;
+    seconds = seconds;
     recording = link.recording;
     show = bytes_eq link.show (codes "true");
   })
@@ -98,6 +128,8 @@ listening_of order recording = record {
   peer = endpoint_of order.peer;
   seed = order.seed;
   turns = order.turns;
+  counts_turns = order.counts_turns;
+  seconds = order.seconds;
   recording = recording;
   show = order.show;
 }

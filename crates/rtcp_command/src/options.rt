@@ -1,9 +1,9 @@
 //! The options of `rtcp replay` and of `rtcp listen`.
 
-ghost use Rattle.std.specs.Prelude.{◌≡◌, ◌≤◌, ◌<◌, ◌+◌, ◌++◌, ℕ, List, Ok, Err, Some, OnOk, IfOk, IfErr, IfSome, [], length, map, option_map, string_bytes, codes};
+ghost use Rattle.std.specs.Prelude.{◌≡◌, ◌≤◌, ◌<◌, ◌+◌, ◌++◌, ℕ, List, Ok, Err, Some, None, OnOk, IfOk, IfErr, IfSome, [], length, map, option_map, string_bytes, codes};
 ghost use Rattle.rtcp_wire.specs.Values.{ItemValue};
 ghost use Rattle.rtcp_engine.specs.Views.{clock_value, setup_of};
-ghost use Rattle.rtcp_command.specs.Listening.{HasTurns, IsListenOrder, link_texts_of, listen_in, listening_of, turns_in};
+ghost use Rattle.rtcp_command.specs.Listening.{HasTurns, IsListenOrder, link_texts_of, listen_in, listening_of, seconds_given, seconds_in, turns_given, turns_in};
 ghost use Rattle.rtcp_command.specs.Options.{bandwidth_in, clock_given, clocks_given, extras_in, item_in, lines_in, replay_in, setup_in, text_given, text_in, texts_in, texts_of, with_extras};
 ghost use Rattle.rtcp_text.specs.Numerals.{hex_text_in};
 
@@ -18,6 +18,12 @@ use std::net::SocketAddrV4;
 
 /// The most turns of a session.
 const MAX_TURNS: u32 = 1_000_000;
+
+/// The turns of a session that is given neither these nor another end.
+const TURNS: u32 = 1_000;
+
+/// The most seconds of a session: they stay below the greatest moment of a participant.
+const MAX_SECONDS: u32 = 1_000_000_000;
 
 /// The texts of the options that configure a participant, as a command line or their defaults give them.
 #[derive(Clone, Copy, Debug)]
@@ -48,7 +54,8 @@ pub(crate) struct LinkOptions<'a> {
     pub(crate) rtcp: &'a str,
     pub(crate) peer: &'a str,
     pub(crate) seed: &'a str,
-    pub(crate) turns: &'a str,
+    pub(crate) turns: Option<&'a str>,
+    pub(crate) seconds: Option<&'a str>,
     pub(crate) recording: Option<&'a str>,
     pub(crate) show: &'a str,
 }
@@ -125,7 +132,8 @@ fn read_session(
     let rtcp = read_endpoint(link.rtcp).ok_or("rtcp")?;
     let peer = read_endpoint(link.peer).ok_or("peer")?;
     let seed = read_decimal(link.seed.as_bytes()).ok_or("seed")?;
-    let turns = read_turns(link.turns).ok_or("turns")?;
+    let turns = read_given_turns(link.turns).ok_or("turns")?;
+    let seconds = read_given_seconds(link.seconds).map_err(|()| "seconds")?;
     Ok(ListenOrder {
         config,
         rtp,
@@ -133,6 +141,8 @@ fn read_session(
         peer,
         seed,
         turns,
+        counts_turns: link.turns.is_some() || link.seconds.is_none(),
+        seconds,
         recording: None,
         show: link.show == "true",
     })
@@ -152,6 +162,17 @@ fn read_path(alloc: Global, given: Option<&str>) -> Result<Option<String>, Alloc
     }
 }
 
+/// How many turns a session has: 1 to 1,000,000, or 1,000 if it is not told.
+fn read_given_turns(given: Option<&str>) -> Option<u32>
+    ensures read { result ≡ turns_given (text_given given.entry) }
+    ensures within { IfSome result (λ turns. (1 ≤ turns) × (turns ≤ 1000000)) }
+{
+    match given {
+        Some(text) => read_turns(text),
+        None => Some(TURNS),
+    }
+}
+
 /// How many turns a session has: 1 to 1,000,000.
 fn read_turns(text: &str) -> Option<u32>
     ensures read { result ≡ turns_in text.now }
@@ -160,6 +181,36 @@ fn read_turns(text: &str) -> Option<u32>
     let turns = read_short_decimal(text.as_bytes())?;
     if (1..=MAX_TURNS).contains(&turns) {
         Some(turns)
+    } else {
+        None
+    }
+}
+
+/// How many seconds a session lasts, if it is told.
+///
+/// # Errors
+///
+/// `()` where it is told, but is refused.
+fn read_given_seconds(given: Option<&str>) -> Result<Option<u32>, ()>
+    ensures read { IfOk result (λ seconds. seconds_given (text_given given.entry) ≡ Some seconds) }
+    ensures refused { IfErr result (λ _. seconds_given (text_given given.entry) ≡ None) }
+{
+    let Some(text) = given else {
+        return Ok(None);
+    };
+    match read_seconds(text) {
+        Some(seconds) => Ok(Some(seconds)),
+        None => Err(()),
+    }
+}
+
+/// How many seconds a session lasts: 1 to 1,000,000,000.
+fn read_seconds(text: &str) -> Option<u32>
+    ensures read { result ≡ seconds_in text.now }
+{
+    let seconds = read_short_decimal(text.as_bytes())?;
+    if (1..=MAX_SECONDS).contains(&seconds) {
+        Some(seconds)
     } else {
         None
     }

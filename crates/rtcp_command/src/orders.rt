@@ -44,8 +44,12 @@ pub struct ListenOrder {
     pub peer: SocketAddrV4,
     /// The seed of the random words.
     pub seed: u64,
-    /// How many turns are made before the participant leaves, 1 to 1,000,000.
+    /// How many turns are made before the participant leaves, 1 to 1,000,000, if they are counted.
     pub turns: u32,
+    /// Whether turns are counted: they are asked for, or nothing else ends the session.
+    pub counts_turns: bool,
+    /// After how many seconds the participant leaves, 1 to 1,000,000,000, if that is asked for.
+    pub seconds: Option<u32>,
     /// The file that the session is recorded in, if it is to be.
     pub recording: Option<String>,
     /// Whether the session is shown while it runs.

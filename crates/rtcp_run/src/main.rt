@@ -6,7 +6,7 @@
 //! `rtcp_command` has the command line, `rtcp_text` the texts and `rtcp_serve` the sessions. This file connects them.
 #![tactic(auto)]
 
-ghost use Rattle.std.specs.Prelude.{◌≡◌, ◌≤◌, ◌<◌, ◌^◌, IfOk};
+ghost use Rattle.std.specs.Prelude.{◌≡◌, ◌≤◌, ◌<◌, ◌*◌, ◌^◌, IfOk};
 ghost use Rattle.rtcp_command.specs.Listening.{HasTurns};
 
 use rand_core::{Rng, SeedableRng};
@@ -21,7 +21,8 @@ pub use rtcp_command::{
 use rtcp_engine::{Config, Participant};
 use rtcp_members::HeapTable;
 pub use rtcp_serve::{
-    Cause, End, Link, LinkFault, Observed, Observer, Port, Received, serve, serve_laws,
+    Cause, End, Ending, Link, LinkFault, MOST_TURNS, Observed, Observer, Port, Received, Until,
+    serve, serve_laws, serve_until,
 };
 use rtcp_show::Watcher;
 use rtcp_text::record::Recorder;
@@ -111,24 +112,47 @@ fn run_listen(rt: &HostRuntime, order: ListenOrder) -> Result<End, RunFault>
     let participant = Participant::with_table(order.config, table, word);
     let link = UdpLink::bind(rt, alloc, order.rtp, order.rtcp, order.peer).map_err(run_fault)?;
     let observer = (recorder, watcher);
-    let end = serve_on(Observed { link, observer }, participant, rng, order.turns);
+    let ending = order.seconds.map(until);
+    let turns = if order.counts_turns {
+        u64::from(order.turns)
+    } else {
+        MOST_TURNS
+    };
+    let end = serve_on(Observed { link, observer }, participant, rng, ending, turns);
     write_end(rt, &end)?;
     Ok(end)
 }
 
-/// Serves a session on a link, with these words, and gives its end.
-fn serve_on<L: Link + Drop>(
+/// The ending after so many seconds.
+fn until(seconds: u32) -> Until
+    ensures { result.moment ≡ seconds * 1000000 }
+{
+    Until {
+        moment: u64::from(seconds) * 1_000_000,
+    }
+}
+
+/// Serves a session on a link, with these words, until this ending or for so many turns, and gives its end.
+fn serve_on<L: Link + Drop, E: Ending + Drop>(
     mut link: L,
     mut participant: Participant<HeapTable>,
     mut rng: Pcg32,
-    turns: u32,
+    mut ending: E,
+    turns: u64,
 ) -> End
-    requires turns { (1 ≤ turns) × (turns ≤ 1000000) }
+    requires turns { turns ≤ 2 ^ 59 }
     requires receives { (L.value link).failed_receives < 2 ^ 63 }
     requires sends { (L.value link).failed_sends < 2 ^ 63 }
 {
     let mut buf = [0; 65_535];
-    serve(&mut link, &mut participant, &mut rng, turns, &mut buf)
+    serve_until(
+        &mut link,
+        &mut participant,
+        &mut rng,
+        &mut ending,
+        turns,
+        &mut buf,
+    )
 }
 
 /// Writes the line of an end to standard output.

@@ -6,10 +6,12 @@ use Rattle.std.proofs.lemmas.Result.{err_from_is_err_and}
 use Rattle.rtcp_serve.specs.declared.link.Port.{Port}
 use Rattle.rtcp_serve.specs.declared.link.Port.TheVariants.{Rtcp as RtcpPort}
 use Rattle.rtcp_serve.specs.declared.serving.Cause.{Cause}
+use Rattle.rtcp_serve.specs.declared.serving.End.{End}
 use Rattle.rtcp_serve.specs.declared.serving.Cause.TheVariants.{Done}
 use Rattle.rtcp_serve.specs.Links.{Call, LinkValue, GrowsBy, WereCalled, clock_read, compound_sent, port_heard, datagram, how_many, is_failed_receive, is_failed_send, Telling, telling}
 use Rattle.rand_core.specs.Stream.{Stream, next_u32}
 use Rattle.rtcp_engine.specs.Acts.{Act, ticked, left as asked_to_leave, EventValue, time_passed, leave_asked}
+use Rattle.rtcp_engine.specs.Histories.{History}
 use Rattle.rtcp_engine.specs.Answers.{answer_of, followed_by}
 use Rattle.rtcp_engine.specs.States.{ParticipantValue, StandsAt}
 use Rattle.rtcp_engine.specs.declared.step.Step.{Step}
@@ -17,9 +19,9 @@ use Rattle.rtcp_engine.specs.declared.refusal.Refusal.{Refusal}
 use Rattle.rtcp_engine.specs.Views.{answer_value}
 use Rattle.rtcp_engine.specs.Steps.{AnswerValue, OutValue}
 use Rattle.rtcp_serve.specs.declared.serving.tally.Tally.{Tally}
-use Rattle.rtcp_serve.specs.Tallies.{HasRoom, is_limit, with_arrival, with_datagram, with_moment, with_refused, with_send}
-use Rattle.rtcp_serve.specs.Serving.{Reader, Stage, resting, beginning, hearing, deciding, sending, ended, SessionState, rested, going, ReadsClock, Hears, Sends, Fits, at_stage, with_turns, turn_by, turn_or, after_turns, gone_on, left_with, event_at, arrival_at, after_port, came_with, heard_at, after_clock, after_sending, after_call, after_calls, AllFit, stage_to_send, ticked_with, ticked_now, with_tally}
-use Rattle.rtcp_serve.specs.Sessions.{Closes, EndsAs, EndsTurns, HasTurn, Holds, IsLeaveDue, Moves, Tells, Walks, led_to, next_at}
+use Rattle.rtcp_serve.specs.Tallies.{HasRoom, end_of, is_limit, with_arrival, with_datagram, with_moment, with_refused, with_send}
+use Rattle.rtcp_serve.specs.Serving.{Reader, Stage, resting, beginning, hearing, deciding, sending, ended, SessionState, rested, going, ReadsClock, Hears, Sends, Fits, at_stage, with_turns, turn_by, turn_or, after_turns, gone_on, left_with, event_at, arrival_at, after_port, came_with, heard_at, after_clock, after_sending, after_call, after_calls, AllFit, at_the_start, stage_to_send, ticked_with, ticked_now, with_tally}
+use Rattle.rtcp_serve.specs.Sessions.{Closes, EndsAs, EndsTurns, HasTurn, Holds, IsCut, IsLeaveDue, Moves, RunsSession, Tells, Walks, led_to, next_at}
 
 -- ---- Logs
 
@@ -486,6 +488,70 @@ pub closed_after : {A : Type 0} (total : ℕ) (t : SessionState) (result : Resul
     t.leaving ≡ true → IsClosed total t (EndsAs result)
 closed_after total t (Ok done) (rests, over) leaving = (ended Done, turns_end total t rests over leaving, refl)
 closed_after total t (Err cause) is leaving = closed_at total t is
+
+-- The last part of a session that begins is the whole of it.
+pub runs_as : {reader : Reader} {total : ℕ} {s : SessionState} {x y : LinkValue} {kept : ParticipantValue}
+    {words : Stream} {counted : Tally} {at : SessionState → Type 0} (closed : Closes reader total s x y kept words
+    counted at) (cause : Cause) (result : End) → closed.reached.stage ≡ ended cause → result ≡ end_of cause counted
+    → s.tellings ≡ [] → RunsSession reader total s kept words result x y
+runs_as {x = x} closed cause result ends is none =
+    let why = ap (λ (end : End). end.cause) is in
+    record {
+      calls = closed.calls;
+      reached = closed.reached;
+      comes = closed.comes;
+      participant = closed.holds.participant;
+      words = closed.holds.words;
+      ends = (
+        ends ∙ ap ended (sym why),
+        is ∙ ap (end_of cause) closed.holds.tally ∙ ap (λ cause. end_of cause closed.reached.tally) (sym why),
+      );
+      told = closed.tells.grows x.told (subst (λ tellings. GrowsBy tellings x.told x.told) (sym none)
+          (grows_by_none x.told));
+    }
+
+-- ---- Endings
+
+-- All turns were made.
+pub uncut_whole : (may_end : ℕ → Bool) (most : ℕ) → IsCut may_end most most
+uncut_whole may_end most = record { within = omega (arith); whole = inl refl }
+
+-- The ending ended them.
+pub cut_at : (may_end : ℕ → Bool) (most made moment : ℕ) → made ≤ most → IsTrue (may_end moment) →
+    IsCut may_end most made
+cut_at may_end most made moment within is = record { within = within; whole = inr (moment, is) }
+
+-- Where no ending ends them, all were.
+never_cut : (most made : ℕ) → (made ≡ most) ⊎ ((moment : ℕ) × IsTrue false) → made ≡ most
+never_cut most made (inl whole) = whole
+never_cut most made (inr (moment, never)) = absurd cc
+
+pub uncut : (most made : ℕ) → IsCut (λ moment. false) most made → made ≡ most
+uncut most made cut = never_cut most made cut.whole
+
+-- A session that no ending ends is one of all turns.
+pub runs_whole : {reader : Reader} {history : History} {words left : Stream} {kept : ParticipantValue} {result : End}
+    {x y : LinkValue} (most turns made further : ℕ) → most ≡ turns → IsCut (λ moment. false) most made
+    → IsCut (λ moment. false) most further
+    → RunsSession reader further (at_the_start history words made) kept left result x y
+    → RunsSession reader turns (at_the_start history words turns) kept left result x y
+runs_whole {reader = reader} {history = history} {words = words} {left = left} {kept = kept} {result = result} {x = x}
+    {y = y} most turns made further same leaves waits runs =
+    subst (λ n. RunsSession reader n (at_the_start history words turns) kept left result x y)
+    (uncut most further waits ∙ same)
+    (subst (λ n. RunsSession reader further (at_the_start history words n) kept left result x y)
+    (uncut most made leaves ∙ same) runs)
+
+-- Endings that may end turns at the same moments let as many be made.
+ends_alike : (one other : ℕ → Bool) (most made : ℕ) → ((at : ℕ) → one at ≡ other at)
+    → (made ≡ most) ⊎ ((moment : ℕ) × IsTrue (one moment)) → (made ≡ most) ⊎ ((moment : ℕ) × IsTrue (other moment))
+ends_alike one other most made same (inl whole) = inl whole
+ends_alike one other most made same (inr (moment, is)) = inr (moment, subst IsTrue (same moment) is)
+
+pub cut_alike : (one other : ℕ → Bool) (most made : ℕ) → ((at : ℕ) → one at ≡ other at) → IsCut one most made →
+    IsCut other most made
+cut_alike one other most made same cut =
+    record { within = cut.within; whole = ends_alike one other most made same cut.whole }
 
 -- ---- Room
 

@@ -200,21 +200,24 @@ going_accounts reader start total s sent accounts = rested_accounts reader start
 
 -- ---- Sessions
 
-pub session_accounts : (reader : Reader) (start : History) (words : Stream) (total : ℕ) (calls : List Call)
-    → AllFit reader total (at_the_start start words total) calls
-    → AccountsAt reader start (after_calls reader total (at_the_start start words total) calls) (given_in calls)
-session_accounts reader start words total [] fit = record { history = refl; handed = refl; acts = refl; answers = refl }
-session_accounts reader start words total (call ∷ earlier) (fit, fits) =
+pub session_accounts : (reader : Reader) (start : History) (words : Stream) (turns total : ℕ) (calls : List Call)
+    → AllFit reader total (at_the_start start words turns) calls
+    → AccountsAt reader start (after_calls reader total (at_the_start start words turns) calls) (given_in calls)
+session_accounts reader start words turns total [] fit =
+    record { history = refl; handed = refl; acts = refl; answers = refl }
+session_accounts reader start words turns total (call ∷ earlier) (fit, fits) =
     call_accounts reader start call _ (given_in earlier) fits
-    (going_accounts reader start total _ (given_in earlier) (session_accounts reader start words total earlier fit))
+    (going_accounts reader start total _ (given_in earlier)
+    (session_accounts reader start words turns total earlier fit))
 
-pub session_comes : (reader : Reader) (start : History) (words : Stream) (total : ℕ) (calls : List Call)
+pub session_comes : (reader : Reader) (start : History) (words : Stream) (turns total : ℕ) (calls : List Call)
     (t : SessionState)
     (x y : LinkValue)
-    → Comes reader total calls (at_the_start start words total) t x y → AccountsAt reader start t (given_in calls)
-session_comes reader start words total calls t x y comes =
+    → Comes reader total calls (at_the_start start words turns) t x y → AccountsAt reader start t (given_in calls)
+session_comes reader start words turns total calls t x y comes =
     subst (λ t. AccountsAt reader start t (given_in calls)) (sym comes.reached)
-    (going_accounts reader start total _ (given_in calls) (session_accounts reader start words total calls comes.fit))
+    (going_accounts reader start total _ (given_in calls)
+    (session_accounts reader start words turns total calls comes.fit))
 
 -- ---- Totals
 
@@ -302,12 +305,12 @@ session_counts reader total s (call ∷ earlier) totals (fit, fits) =
     (subst (λ tally. AreTotals tally earlier) (sym (going_counts total u))
     (session_counts reader total s earlier totals fit))
 
-pub session_totals : (reader : Reader) (start : History) (words : Stream) (total : ℕ) (calls : List Call)
+pub session_totals : (reader : Reader) (start : History) (words : Stream) (turns total : ℕ) (calls : List Call)
     (t : SessionState)
     (x y : LinkValue)
-    → Comes reader total calls (at_the_start start words total) t x y → AreTotals t.tally calls
-session_totals reader start words total calls t x y comes =
-    let s = at_the_start start words total in
+    → Comes reader total calls (at_the_start start words turns) t x y → AreTotals t.tally calls
+session_totals reader start words turns total calls t x y comes =
+    let s = at_the_start start words turns in
     subst (λ tally. AreTotals tally calls)
     (sym (ap (λ t. t.tally) comes.reached ∙ going_counts total (after_calls reader total s calls)))
     (session_counts reader total s calls (refl, refl, refl, refl) comes.fit)

@@ -1,4 +1,5 @@
 pub mod Links
+pub mod Endings
 pub mod Tallies
 pub mod Serving
 pub mod Sessions

@@ -1,7 +1,7 @@
 -- How far a session over a link has come, and what is kept of it.
-use Rattle.std.specs.Prelude.{◌≡◌, ℕ, suc, ◌⊎◌, IsTrue, is_some, Bool, false, List, Option, None, Result, Ok, Err}
+use Rattle.std.specs.Prelude.{◌≡◌, ◌≤◌, ℕ, suc, ◌⊎◌, IsTrue, is_some, Bool, true, false, List, Option, None, Result, Ok, Err}
 use Rattle.rand_core.specs.Stream.{Stream}
-use Rattle.rtcp_engine.specs.Histories.{life_at}
+use Rattle.rtcp_engine.specs.Histories.{History, life_at}
 use Rattle.rtcp_engine.specs.Lives.{next_in_life}
 use Rattle.rtcp_engine.specs.States.{ParticipantValue, StandsAt}
 use Rattle.rtcp_engine.specs.Steps.{AnswerValue}
@@ -11,7 +11,7 @@ use Rattle.rtcp_serve.specs.declared.serving.Cause.TheVariants.{Done}
 use Rattle.rtcp_serve.specs.declared.serving.tally.Tally.{Tally}
 use Rattle.rtcp_serve.specs.Tallies.{end_of}
 use Rattle.rtcp_serve.specs.Links.{Call, LinkValue, WereCalled, Telling, GrowsBy}
-use Rattle.rtcp_serve.specs.Serving.{Reader, Stage, resting, ended, SessionState, going, after_calls, AllFit}
+use Rattle.rtcp_serve.specs.Serving.{Reader, Stage, resting, ended, SessionState, going, after_calls, AllFit, at_the_start}
 
 -- What is kept is where a session stands.
 pub record Holds (s : SessionState) (kept : ParticipantValue) (left : Stream) (counted : Tally) : Type 0 where
@@ -120,3 +120,21 @@ pub record RunsSession
   pub words : left ≡ reached.words
   pub ends : IsEnd result reached
   pub told : GrowsBy reached.tellings before.told after.told
+
+-- ---- Endings
+
+-- How many turns were made where so many may be: all, unless an ending may end them at some moment.
+pub record IsCut (may_end : ℕ → Bool) (most made : ℕ) : Type 0 where
+  pub within : made ≤ most
+  pub whole : (made ≡ most) ⊎ ((moment : ℕ) × IsTrue (may_end moment))
+
+-- A session over a link whose turns may be ended, before the leave and after it: it is one of the turns that were
+-- made before the leave, and of so many at most after it.
+pub record RunsCut
+    (reader : Reader) (may_end : Bool → ℕ → Bool) (most : ℕ) (history : History) (words : Stream)
+    (kept : ParticipantValue) (left : Stream) (result : End) (before after : LinkValue) : Type 0 where
+  pub made : ℕ
+  pub further : ℕ
+  pub leaves : IsCut (may_end false) most made
+  pub waits : IsCut (may_end true) most further
+  pub runs : RunsSession reader further (at_the_start history words made) kept left result before after

@@ -1,5 +1,5 @@
 //! A participant on a link, which is a clock and two ports: [`serve`] drives it for a number of turns, and then lets it
-//! leave. Each compound that the participant hands out is sent over the link once, and the calls of the link, with the
+//! leave, and [`serve_until`] until an [`Ending`] is met, as a moment ([`Until`]). Each compound that the participant hands out is sent over the link once, and the calls of the link, with the
 //! random words, determine everything that it was told. Sockets, clock and random numbers are those of the link and the
 //! generator that the caller passes; the crate does not allocate.
 //!
@@ -14,11 +14,13 @@
 //! `Sessions`); `serve_laws` states in plain words what follows.
 #![tactic(auto)]
 
+mod ending;
 mod link;
 mod observer;
 pub mod serve_laws;
 mod serving;
 
+pub use ending::{Ending, Until};
 pub use link::{Link, LinkFault, Port, Received};
 pub use observer::{Observed, Observer};
-pub use serving::{Cause, End, serve};
+pub use serving::{Cause, End, MOST_TURNS, serve, serve_until};

@@ -1,4 +1,5 @@
-//! What a session over a link comes to, by its log alone. Nothing calls these.
+//! What a session over a link comes to, by its log alone: one of so many turns before its leave, and of so many further
+//! at most after it. Nothing calls these.
 
 ghost use Rattle.std.specs.Prelude.{◌≡◌, ◌++◌, ℕ, List, Some, reverse};
 ghost use Rattle.rand_core.specs.Stream.{Stream};
@@ -20,34 +21,34 @@ pub fn there_is_one_reader()
 /// The compounds that went to the link are those that the participant handed out, in their order, each once,
 /// whether or not sending them failed.
 pub fn compounds_go_out_once()
-    ensures handed { (reader : Reader) (history : History) (words : Stream) (turns : ℕ) (calls : List Call)
+    ensures handed { (reader : Reader) (history : History) (words : Stream) (turns further : ℕ) (calls : List Call)
         (t : SessionState) (before after : LinkValue) (cause : Cause) →
-        Comes reader turns calls (at_the_start history words turns) t before after → t.stage ≡ ended cause →
+        Comes reader further calls (at_the_start history words turns) t before after → t.stage ≡ ended cause →
         given_in calls ≡ handed_out history t.told }
-    ensures history { (reader : Reader) (history : History) (words : Stream) (turns : ℕ) (calls : List Call)
+    ensures history { (reader : Reader) (history : History) (words : Stream) (turns further : ℕ) (calls : List Call)
         (t : SessionState) (before after : LinkValue) →
-        Comes reader turns calls (at_the_start history words turns) t before after →
+        Comes reader further calls (at_the_start history words turns) t before after →
         t.history ≡ history_after history t.told }
 {}
 
 /// The events that a link is told are the acts that the participant was told, in their order, each with the answer of
 /// the history before it.
 pub fn links_are_told_all()
-    ensures acts { (reader : Reader) (history : History) (words : Stream) (turns : ℕ) (calls : List Call)
+    ensures acts { (reader : Reader) (history : History) (words : Stream) (turns further : ℕ) (calls : List Call)
         (t : SessionState) (before after : LinkValue) →
-        Comes reader turns calls (at_the_start history words turns) t before after →
+        Comes reader further calls (at_the_start history words turns) t before after →
         acts_in reader t.tellings ≡ t.told }
-    ensures answers { (reader : Reader) (history : History) (words : Stream) (turns : ℕ) (calls : List Call)
+    ensures answers { (reader : Reader) (history : History) (words : Stream) (turns further : ℕ) (calls : List Call)
         (t : SessionState) (before after : LinkValue) →
-        Comes reader turns calls (at_the_start history words turns) t before after →
+        Comes reader further calls (at_the_start history words turns) t before after →
         answers_in t.tellings ≡ answers_given history t.told }
 {}
 
 /// The totals of a session are counts of its calls.
 pub fn totals_count_calls()
-    ensures { (reader : Reader) (history : History) (words : Stream) (turns : ℕ) (calls : List Call)
+    ensures { (reader : Reader) (history : History) (words : Stream) (turns further : ℕ) (calls : List Call)
         (t : SessionState) (before after : LinkValue) →
-        Comes reader turns calls (at_the_start history words turns) t before after →
+        Comes reader further calls (at_the_start history words turns) t before after →
         (t.tally.received ≡ how_many is_datagram calls) × (t.tally.recv_failures ≡ how_many is_failed_receive calls)
         × (t.tally.sent ≡ how_many is_sent calls) × (t.tally.send_failures ≡ how_many is_failed_send calls) }
 {}
@@ -55,8 +56,8 @@ pub fn totals_count_calls()
 /// A link that tells its log tells the calls of a session, and with the words these determine all that the
 /// participant was told, and the end.
 pub fn a_log_determines_the_session()
-    ensures calls { (reader : Reader) (history : History) (words : Stream) (turns : ℕ) (calls others : List Call)
+    ensures calls { (reader : Reader) (history : History) (words : Stream) (turns further : ℕ) (calls others : List Call)
         (s t : SessionState) (before after : LinkValue) (log : List Call) → after.log ≡ Some log →
-        Comes reader turns calls (at_the_start history words turns) s before after →
-        Comes reader turns others (at_the_start history words turns) t before after → (calls ≡ others) × (s ≡ t) }
+        Comes reader further calls (at_the_start history words turns) s before after →
+        Comes reader further others (at_the_start history words turns) t before after → (calls ≡ others) × (s ≡ t) }
 {}

@@ -4,16 +4,20 @@ ghost use Rattle.std.specs.Prelude.{◌≡◌, ◌≤◌, ◌<◌, ◌^◌};
 ghost use Rattle.rtcp_engine.specs.Histories.{History};
 ghost use Rattle.rtcp_engine.specs.States.{StandsAt};
 ghost use Rattle.rtcp_serve.specs.Serving.{IsReader, Reader, SessionState, at_the_start, ended};
-ghost use Rattle.rtcp_serve.specs.Sessions.{EndsAs, RunsSession};
+ghost use Rattle.rtcp_serve.specs.Sessions.{EndsAs, RunsCut, RunsSession};
 
 mod tally;
 mod turns;
 
+use crate::ending::{Ending, Until};
 use crate::link::Link;
 use rand_core::Rng;
 use rtcp_engine::Participant;
 use rtcp_members::MemberTable;
 use tally::Tally;
+
+/// The most turns that [`serve_until`] makes before the leave: at a microsecond each they last for 18,000 years.
+pub const MOST_TURNS: u64 = 1 << 59;
 
 /// Why a session over a link ended.
 #[derive(Clone, Copy, Debug, PartialEq, Eq)]
@@ -76,7 +80,36 @@ pub fn serve<L: Link, T: MemberTable, R: Rng>(
         result (L.value link.old) (L.value link.new) }
 {
     let mut tally = Tally::new();
-    let returned = turns::session(link, participant, rng, &mut tally, turns, buf);
+    let ending = &mut None::<Until>;
+    let most = u64::from(turns);
+    let returned = turns::session(link, participant, rng, &mut tally, ending, most, buf);
+    tally.end(cause_of(returned))
+}
+
+/// Runs a participant on a link as [`serve`] does, until an ending is met, and then lets it leave. The ending is asked
+/// before each turn, with the greatest moment so far. It is asked again before each of the turns that are made after
+/// the leave, where the participant backs off before its BYE.
+///
+/// It leaves after so many turns too, at most [`MOST_TURNS`], so that it ends whatever the clock and the ending say.
+pub fn serve_until<L: Link, T: MemberTable, R: Rng, E: Ending>(
+    link: &mut L,
+    participant: &mut Participant<T>,
+    rng: &mut R,
+    ending: &mut E,
+    turns: u64,
+    buf: &mut [u8; 65_535],
+) -> End
+    requires turns { turns ≤ 2 ^ 59 }
+    requires receives { (L.value link.old).failed_receives < 2 ^ 63 }
+    requires sends { (L.value link.old).failed_sends < 2 ^ 63 }
+    // The session is one of some number of turns before the leave, and of some number at most after it. Either is all
+    // that may be, unless the ending said at some moment that they are over.
+    ensures serves { (reader : Reader) (history : History) → IsReader reader → StandsAt participant.old history →
+        RunsCut reader (E.may_end ending.old) turns history (R.stream rng.old) participant.new (R.stream rng.new)
+        result (L.value link.old) (L.value link.new) }
+{
+    let mut tally = Tally::new();
+    let returned = turns::session(link, participant, rng, &mut tally, ending, turns, buf);
     tally.end(cause_of(returned))
 }
 

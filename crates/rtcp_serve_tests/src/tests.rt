@@ -8,6 +8,7 @@ use std::process::Abort;
 use std::test::*;
 
 mod draws;
+mod endings;
 mod example;
 mod log;
 mod logs;

@@ -18,9 +18,10 @@ Take part in a session over UDP.
 
 RTP and RTCP come in at a port each, and reports go from the port of RTCP to the peer. In a turn
 the participant takes at most one datagram from each port, and sends what is due; where neither
-has one it waits until one comes, for at most 20 milliseconds. After the last turn it leaves:
-without a word if it has sent no report, else with a BYE. Where more than 50 are known that BYE
-waits for its turn, in at most as many turns again, and may not go out. It sends no RTP.
+has one it waits until one comes, for at most 20 milliseconds. After the last turn, or once
+--seconds N have passed, it leaves: without a word if it has sent no report, else with a BYE.
+Where more than 50 are known that BYE waits for its turn, in at most as many turns again and as
+long again, and may not go out. It sends no RTP.
 
 In a collision, where a datagram names the participant's own SSRC, it takes another one at random
 and sends a BYE for the old one if it has reported under it: once for each sender of such
@@ -29,7 +30,8 @@ datagrams, and at most eight times; later ones are refused.
 So turns measure no time. 1000 of them last 20 seconds where nothing comes. A packet takes two or
 three where it comes alone, and less where packets come together, but never less than one. An hour
 of audio in packets of 20 milliseconds takes 360000 to 540000 turns. The most, 1000000, last for
-two to three hours of it, and for 14 to 25 minutes of video of 600 packets a second.
+two to three hours of it, and for 14 to 25 minutes of video of 600 packets a second. With --seconds
+turns are not counted, unless --turns is given too: then what comes first ends the session.
 
 To join a sender of GStreamer on this machine, which reads RTCP at port 5007:
 
@@ -49,7 +51,7 @@ For either:
     rtcp listen --ssrc 000000aa --cname a --show --record call \\
         --rtp 127.0.0.1:5004 --rtcp 127.0.0.1:5005 --peer 127.0.0.1:5007
 
-One line comes out at the end: Done after the last turn, LinkDown where 64 receives in a row
+One line comes out at the end: Done where the participant left, LinkDown where 64 receives in a row
 failed, or Limit where the participant met a limit of its own; how many datagrams came, how many
 of them were refused, how many compounds were sent, how many sends and receives failed, and
 whether the BYE of leaving was sent.
@@ -79,7 +81,7 @@ The status is 0 at Done and Limit, 2 if the command line, an option or the confi
 refused, and 1 at LinkDown and if a port could not be bound, or writing or memory failed.";
 
 /// The options after those of the participant, in the order in which they are looked at.
-const OWN: [Row; 7] = [
+const OWN: [Row; 8] = [
     (
         "rtp",
         "ADDRESS:PORT",
@@ -107,8 +109,14 @@ const OWN: [Row; 7] = [
     (
         "turns",
         "N",
-        Absent::Is("1000"),
-        "Turns before the participant leaves, 1 to 1000000",
+        Absent::Nothing,
+        "Turns before the participant leaves, 1 to 1000000, for 1000 unless --seconds is given",
+    ),
+    (
+        "seconds",
+        "N",
+        Absent::Nothing,
+        "Seconds before the participant leaves, 1 to 1000000000",
     ),
     (
         "record",
@@ -154,7 +162,8 @@ fn link<'a>(matches: &ArgMatches<'a>) -> LinkOptions<'a>
         rtcp: given(matches, "rtcp"),
         peer: given(matches, "peer"),
         seed: given(matches, "seed"),
-        turns: given(matches, "turns"),
+        turns: matches.get_str("turns"),
+        seconds: matches.get_str("seconds"),
         recording: matches.get_str("record"),
         show: given(matches, "show"),
     }

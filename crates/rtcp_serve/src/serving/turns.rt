@@ -1,6 +1,6 @@
 //! The turns of a session over a link, and its leave.
 
-ghost use Rattle.std.specs.Prelude.{◌≡◌, ◌<◌, ◌+◌, ◌*◌, ℕ, false, [], ◌∷◌, OnOk};
+ghost use Rattle.std.specs.Prelude.{◌≡◌, ◌<◌, ◌+◌, ◌*◌, ℕ, Bool, true, false, [], ◌∷◌, OnOk};
 ghost use Rattle.rand_core.specs.Stream.{Stream, next_u32};
 ghost use Rattle.rtcp_engine.specs.Acts.{left};
 ghost use Rattle.rtcp_engine.specs.Promises.{Takes};
@@ -8,9 +8,10 @@ ghost use Rattle.rtcp_engine.specs.States.{ParticipantValue};
 ghost use Rattle.rtcp_engine.specs.Views.{answer_value, event_value};
 ghost use Rattle.rtcp_serve.specs.Links.{WereCalled, clock_read, telling};
 ghost use Rattle.rtcp_serve.specs.Serving.{IsReader, Reader, Stage, SessionState, after_port, arrival_at, deciding, event_at, hearing, resting, stage_to_send};
-ghost use Rattle.rtcp_serve.specs.Sessions.{Closes, EndsAs, EndsTurns, HasTurn, Holds, IsLeaveDue, Reaches, Walks, led_to};
+ghost use Rattle.rtcp_serve.specs.Sessions.{Closes, EndsAs, EndsTurns, HasTurn, Holds, IsCut, IsLeaveDue, Reaches, Walks, led_to};
 ghost use Rattle.rtcp_serve.specs.Tallies.{HasRoom, with_moment};
 
+use crate::ending::Ending;
 use crate::link::{Link, Port, Received};
 use crate::serving::Cause;
 use crate::serving::tally::{Tally, is_limit};
@@ -219,27 +220,34 @@ fn turn<L: Link, T: MemberTable, R: Rng>(
     tick(link, participant, rng, tally)
 }
 
-/// Makes turns, until the participant has left.
-fn make_turns<L: Link, T: MemberTable, R: Rng>(
+/// Makes turns, until the participant has left, or the ending ends them.
+fn make_turns<L: Link, T: MemberTable, R: Rng, E: Ending>(
     link: &mut L,
     participant: &mut Participant<T>,
     rng: &mut R,
     tally: &mut Tally,
-    turns: u32,
+    ending: &mut E,
+    has_left: bool,
+    turns: u64,
     buf: &mut [u8],
 ) -> Result<(), Cause>
     requires row { tally.old.failures < 64 }
     requires room { HasRoom (turns * 5) tally.old (L.value link.old) }
-    ensures leads { (reader : Reader) (total : ℕ) (s : SessionState) → IsReader reader →
-        Holds s participant.old (R.stream rng.old) tally.old → s.stage ≡ resting → s.turns ≡ turns →
+    ensures leads { (made : ℕ) × IsCut (E.may_end ending.old has_left) turns made
+        × ((reader : Reader) (total : ℕ) (s : SessionState) → IsReader reader →
+        Holds s participant.old (R.stream rng.old) tally.old → s.stage ≡ resting → s.turns ≡ made →
         (left : ℕ) × Walks reader total s s (L.value link.old) (L.value link.new) participant.new (R.stream rng.new)
-        tally.new (EndsTurns result) left s.leaving }
+        tally.new (EndsTurns result) left s.leaving) }
     ensures row { OnOk result (tally.new.failures < 64) }
     ensures room { (more : ℕ) → HasRoom (more + turns * 5) tally.old (L.value link.old) →
         HasRoom more tally.new (L.value link.new) }
+    ensures ending { (left : Bool) (at : ℕ) → E.may_end ending.new left at ≡ E.may_end ending.old left at }
 {
     'turns: for _ in 0..turns {
         if participant.next().is_none() {
+            return Ok(());
+        }
+        if ending.is_over(tally.moment, has_left) {
             return Ok(());
         }
         turn(link, participant, rng, tally, buf)?;
@@ -247,45 +255,50 @@ fn make_turns<L: Link, T: MemberTable, R: Rng>(
     Ok(())
 }
 
-/// Makes a session: turns, then the leave, and as many turns again while the participant backs off.
-pub(crate) fn session<L: Link, T: MemberTable, R: Rng>(
+/// Makes a session: turns, then the leave, and as many turns again at most while the participant backs off. The ending
+/// may end either.
+pub(crate) fn session<L: Link, T: MemberTable, R: Rng, E: Ending>(
     link: &mut L,
     participant: &mut Participant<T>,
     rng: &mut R,
     tally: &mut Tally,
-    turns: u32,
+    ending: &mut E,
+    turns: u64,
     buf: &mut [u8],
 ) -> Result<(), Cause>
     requires row { tally.old.failures < 64 }
     requires room { HasRoom (turns * 10 + 1) tally.old (L.value link.old) }
-    ensures serves { (reader : Reader) (s : SessionState) → IsReader reader →
-        Holds s participant.old (R.stream rng.old) tally.old → s.stage ≡ resting → s.turns ≡ turns →
-        s.leaving ≡ false → Closes reader turns s (L.value link.old) (L.value link.new) participant.new
-        (R.stream rng.new) tally.new (EndsAs result) }
+    ensures serves { (made further : ℕ) × IsCut (E.may_end ending.old false) turns made
+        × IsCut (E.may_end ending.old true) turns further × ((reader : Reader) (s : SessionState) → IsReader reader →
+        Holds s participant.old (R.stream rng.old) tally.old → s.stage ≡ resting → s.turns ≡ made →
+        s.leaving ≡ false → Closes reader further s (L.value link.old) (L.value link.new) participant.new
+        (R.stream rng.new) tally.new (EndsAs result)) }
 {
-    make_turns(link, participant, rng, tally, turns, buf)?;
+    make_turns(link, participant, rng, tally, ending, false, turns, buf)?;
     if participant.next().is_none() {
         return Ok(());
     }
-    leave(link, participant, rng, tally, turns, buf)
+    leave(link, participant, rng, tally, ending, turns, buf)
 }
 
 /// Draws a word, and asks the participant to leave at the greatest moment so far. While it backs off it is given as
-/// many turns again.
-fn leave<L: Link, T: MemberTable, R: Rng>(
+/// many turns again, unless the ending does.
+fn leave<L: Link, T: MemberTable, R: Rng, E: Ending>(
     link: &mut L,
     participant: &mut Participant<T>,
     rng: &mut R,
     tally: &mut Tally,
-    turns: u32,
+    ending: &mut E,
+    turns: u64,
     buf: &mut [u8],
 ) -> Result<(), Cause>
     requires row { tally.old.failures < 64 }
     requires room { HasRoom (turns * 5 + 1) tally.old (L.value link.old) }
-    ensures serves { (reader : Reader) (s : SessionState) → IsReader reader →
+    ensures serves { (further : ℕ) × IsCut (E.may_end ending.old true) turns further
+        × ((reader : Reader) (s : SessionState) → IsReader reader →
         Holds s participant.old (R.stream rng.old) tally.old → IsLeaveDue s →
-        Closes reader turns s (L.value link.old) (L.value link.new) participant.new (R.stream rng.new) tally.new
-        (EndsAs result) }
+        Closes reader further s (L.value link.old) (L.value link.new) participant.new (R.stream rng.new) tally.new
+        (EndsAs result)) }
 {
     let word = rng.next_u32();
     let answer = participant.leave(tally.moment, word);
@@ -296,7 +309,7 @@ fn leave<L: Link, T: MemberTable, R: Rng>(
     };
     tell(link, tally, &event, answer, participant)?;
     if was_taken {
-        make_turns(link, participant, rng, tally, turns, buf)
+        make_turns(link, participant, rng, tally, ending, true, turns, buf)
     } else {
         Ok(())
     }

@@ -5,10 +5,11 @@ use Rattle.rtcp_serve.proofs.serve_laws.a_log_determines_the_session.Goals as go
 
 pub returns : goal.returns
 returns c = record {
-  calls = λ reader history words turns calls others s t before after log told one other.
+  calls = λ reader history words turns further calls others s t before after log told one other.
       let same = one_growth calls others before.log after.log log told one.called.log other.called.log in (
         same,
-        one.reached ∙ ap (λ calls. going turns (after_calls reader turns (at_the_start history words turns) calls))
+        one.reached ∙ ap (λ calls. going further (after_calls reader further
+            (at_the_start history words turns) calls))
             same ∙ sym other.reached,
       );
 }

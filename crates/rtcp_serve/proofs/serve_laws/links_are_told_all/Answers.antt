@@ -2,9 +2,9 @@ use Rattle.rtcp_serve.proofs.SessionAccounts.{session_comes}
 use Rattle.rtcp_serve.proofs.serve_laws.links_are_told_all.Goals as goal
 
 pub returns-clause-acts : goal.returns-clause-acts
-returns-clause-acts c = λ reader history words turns calls t before after comes.
-    (session_comes reader history words turns calls t before after comes).acts
+returns-clause-acts c = λ reader history words turns further calls t before after comes.
+    (session_comes reader history words turns further calls t before after comes).acts
 
 pub returns-clause-answers : goal.returns-clause-answers
-returns-clause-answers c = λ reader history words turns calls t before after comes.
-    (session_comes reader history words turns calls t before after comes).answers
+returns-clause-answers c = λ reader history words turns further calls t before after comes.
+    (session_comes reader history words turns further calls t before after comes).answers

@@ -4,52 +4,63 @@ use Rattle.rtcp_engine.specs.Views.{answer_value}
 use Rattle.rtcp_serve.specs.declared.serving.Cause.TheVariants.{Done}
 use Rattle.rtcp_serve.specs.Serving.{resting, ended}
 use Rattle.rtcp_serve.specs.Sessions.{EndsAs, Reaches, led_to}
-use Rattle.rtcp_serve.proofs.LinkCalls.{IsClosed, closed_after, closed_at, closes, leave_told, led_as, stops, walks_on}
+use Rattle.rtcp_serve.proofs.LinkCalls.{IsClosed, closed_after, closed_at, closes, leave_told, led_as, stops, uncut_whole, walks_on}
 use Rattle.rtcp_serve.proofs.serving.turns.leave.Goals as goal
 
 pub returns-in_err-tell : goal.returns-in_err-tell
 returns-in_err-tell g c = record {
-  serves = λ reader s reads holds due.
-      let takes = c.leave-answer.ensures.takes in
-      let (u, goes, walk) = leave_told reader c.args.turns s _ _ _ _ _ _ _ _ _ _ _ holds due c.next_u32-word.ensures
-      (takes.answer s.history holds.participant) (takes.stands s.history holds.participant)
-      (c.tell.ensures.leads reader c.args.turns resting (ended Done) _ _) in
-      closes goes walk (stops
-      (λ r. Reaches (led_to resting (ended Done) (answer_value c.leave-answer.result)) r walk.reached)
-      (λ r. IsClosed c.args.turns walk.reached (EndsAs r)) c.from_residual.result c.in_err-tell.was
-      c.from_residual.ensures.1 (closed_at c.args.turns walk.reached) walk.ends);
+  serves = (
+    c.args.turns,
+    uncut_whole _ _,
+    λ reader s reads holds due.
+        let takes = c.leave-answer.ensures.takes in
+        let (u, goes, walk) = leave_told reader c.args.turns s _ _ _ _ _ _ _ _ _ _ _ holds due c.next_u32-word.ensures
+        (takes.answer s.history holds.participant) (takes.stands s.history holds.participant)
+        (c.tell.ensures.leads reader c.args.turns resting (ended Done) _ _) in
+        closes goes walk (stops
+        (λ r. Reaches (led_to resting (ended Done) (answer_value c.leave-answer.result)) r walk.reached)
+        (λ r. IsClosed c.args.turns walk.reached (EndsAs r)) c.from_residual.result c.in_err-tell.was
+        c.from_residual.ensures.1 (closed_at c.args.turns walk.reached) walk.ends),
+  );
 }
 
 pub make_turns-requires-clause-room : goal.make_turns-requires-clause-room
 make_turns-requires-clause-room g c = c.tell.ensures.room (c.args.turns * 5) c.requires.room
 
 pub returns-then-was_taken : goal.returns-then-was_taken
-returns-then-was_taken g c = record {
-  serves = λ reader s reads holds due.
-      let takes = c.leave-answer.ensures.takes in
-      let (u, goes, walk) = leave_told reader c.args.turns s _ _ _ _ _ _ _ _ _ _ _ holds due c.next_u32-word.ensures
-      (takes.answer s.history holds.participant) (takes.stands s.history holds.participant)
-      (c.tell.ensures.leads reader c.args.turns resting (ended Done) _ _) in
-      let stage = led_to resting (ended Done) (answer_value c.leave-answer.result) in
-      let rests = subst (λ r. Reaches stage r walk.reached) c.in_ok-tell.was walk.ends
-      ∙ led_as resting (ended Done) c.leave-answer.result ∙ ap (λ b. if b then resting else ended Done)
-      (sym c.is_ok-was_taken.ensures.value ∙ c.if-was_taken.true) in
-      let (left, further) = c.make_turns.ensures.leads reader c.args.turns walk.reached reads walk.holds rests
-      walk.turns in
-      let whole = walks_on walk further refl in
-      closes goes whole (closed_after c.args.turns whole.reached c.make_turns.result whole.ends whole.leaving);
+returns-then-was_taken g c = let (further, cut, leads) = c.make_turns.ensures.leads in record {
+  serves = (
+    further,
+    cut,
+    λ reader s reads holds due.
+        let takes = c.leave-answer.ensures.takes in
+        let (u, goes, walk) = leave_told reader further s _ _ _ _ _ _ _ _ _ _ _ holds due c.next_u32-word.ensures
+        (takes.answer s.history holds.participant) (takes.stands s.history holds.participant)
+        (c.tell.ensures.leads reader further resting (ended Done) _ _) in
+        let stage = led_to resting (ended Done) (answer_value c.leave-answer.result) in
+        let rests = subst (λ r. Reaches stage r walk.reached) c.in_ok-tell.was walk.ends
+        ∙ led_as resting (ended Done) c.leave-answer.result ∙ ap (λ b. if b then resting else ended Done)
+        (sym c.is_ok-was_taken.ensures.value ∙ c.if-was_taken.true) in
+        let (left, more) = leads reader further walk.reached reads walk.holds rests walk.turns in
+        let whole = walks_on walk more refl in
+        closes goes whole (closed_after further whole.reached c.make_turns.result whole.ends whole.leaving),
+  );
 }
 
 pub returns-else-was_taken : goal.returns-else-was_taken
 returns-else-was_taken g c = record {
-  serves = λ reader s reads holds due.
-      let takes = c.leave-answer.ensures.takes in
-      let (u, goes, walk) = leave_told reader c.args.turns s _ _ _ _ _ _ _ _ _ _ _ holds due c.next_u32-word.ensures
-      (takes.answer s.history holds.participant) (takes.stands s.history holds.participant)
-      (c.tell.ensures.leads reader c.args.turns resting (ended Done) _ _) in
-      let stage = led_to resting (ended Done) (answer_value c.leave-answer.result) in
-      let refused = subst (λ r. Reaches stage r walk.reached) c.in_ok-tell.was walk.ends
-      ∙ led_as resting (ended Done) c.leave-answer.result ∙ ap (λ b. if b then resting else ended Done)
-      (sym c.is_ok-was_taken.ensures.value ∙ c.if-was_taken.false) in
-      closes goes walk (closed_at c.args.turns walk.reached refused);
+  serves = (
+    c.args.turns,
+    uncut_whole _ _,
+    λ reader s reads holds due.
+        let takes = c.leave-answer.ensures.takes in
+        let (u, goes, walk) = leave_told reader c.args.turns s _ _ _ _ _ _ _ _ _ _ _ holds due c.next_u32-word.ensures
+        (takes.answer s.history holds.participant) (takes.stands s.history holds.participant)
+        (c.tell.ensures.leads reader c.args.turns resting (ended Done) _ _) in
+        let stage = led_to resting (ended Done) (answer_value c.leave-answer.result) in
+        let refused = subst (λ r. Reaches stage r walk.reached) c.in_ok-tell.was walk.ends
+        ∙ led_as resting (ended Done) c.leave-answer.result ∙ ap (λ b. if b then resting else ended Done)
+        (sym c.is_ok-was_taken.ensures.value ∙ c.if-was_taken.false) in
+        closes goes walk (closed_at c.args.turns walk.reached refused),
+  );
 }

@@ -1,4 +1,4 @@
-use Rattle.std.proofs.Common.{◌≡◌, ◌<◌, ◌+◌, ◌-◌, ◌*◌, ℕ}
+use Rattle.std.proofs.Common.{◌≡◌, ◌<◌, ◌+◌, ◌*◌, ℕ, Bool}
 use Rattle.rtcp_serve.specs.Serving.{Reader, IsReader, SessionState, resting}
 use Rattle.rtcp_serve.specs.Sessions.{Holds, Walks}
 use Rattle.rtcp_serve.specs.Tallies.{HasRoom}
@@ -9,8 +9,10 @@ invariant-turns g l = record {
   row : l.tally.failures < 64;
   room : (more : ℕ) → HasRoom (more + l.counter * 5) l.fn.tally (g.L.Link.value l.fn.link) →
       HasRoom more l.tally (g.L.Link.value l.link);
-  leads : (reader : Reader) (total : ℕ) (s : SessionState) → IsReader reader →
-      Holds s l.fn.participant (g.R.Rng.stream l.fn.rng) l.fn.tally → s.stage ≡ resting → s.turns ≡ l.turns →
-      Walks reader total s s (g.L.Link.value l.fn.link) (g.L.Link.value l.link) l.participant
-      (g.R.Rng.stream l.rng) l.tally (λ t. t.stage ≡ resting) (l.turns - l.counter) s.leaving;
+  leads : (reader : Reader) (total left : ℕ) (s : SessionState) → IsReader reader →
+      Holds s l.fn.participant (g.R.Rng.stream l.fn.rng) l.fn.tally → s.stage ≡ resting →
+      s.turns ≡ left + l.counter → Walks reader total s s (g.L.Link.value l.fn.link) (g.L.Link.value l.link)
+      l.participant (g.R.Rng.stream l.rng) l.tally (λ t. t.stage ≡ resting) left s.leaving;
+  ending : (left : Bool) (at : ℕ) →
+      g.E.Ending.may_end l.ending left at ≡ g.E.Ending.may_end l.fn.ending left at;
 }

@@ -1,29 +1,41 @@
 -- Turns, and then the leave.
-use Rattle.std.proofs.Common.{◌+◌, ◌*◌, is_some, not, refl, sym, ap, ◌∙◌, subst, arith}
+use Rattle.std.proofs.Common.{◌+◌, ◌*◌, true, is_some, not, refl, sym, ap, ◌∙◌, subst, arith}
 use Rattle.rtcp_serve.specs.declared.serving.Cause.TheVariants.{Done}
 use Rattle.rtcp_serve.specs.Serving.{ended}
 use Rattle.rtcp_serve.specs.Sessions.{EndsTurns, EndsAs, next_at}
-use Rattle.rtcp_serve.proofs.LinkCalls.{IsClosed, closed_at, closes, closes_on, gone_ends, less_room, none_left, stops, turns_left}
+use Rattle.rtcp_serve.proofs.LinkCalls.{IsClosed, closed_at, closes, closes_on, cut_alike, gone_ends, less_room, none_left, stops, turns_left, uncut_whole}
 use Rattle.rtcp_serve.proofs.serving.turns.session.Goals as goal
 
 pub returns-in_err-make_turns : goal.returns-in_err-make_turns
-returns-in_err-make_turns g c = record {
-  serves = λ reader s reads holds stage turns leaving.
-      let (left, walk) = c.make_turns.ensures.leads reader c.args.turns s reads holds stage turns in
-      closes refl walk (stops (λ r. EndsTurns r walk.reached)
-      (λ r. IsClosed c.args.turns walk.reached (EndsAs r)) c.from_residual.result c.in_err-make_turns.was
-      c.from_residual.ensures.1 (closed_at c.args.turns walk.reached) walk.ends);
+returns-in_err-make_turns g c = let (made, cut, leads) = c.make_turns.ensures.leads in record {
+  serves = (
+    made,
+    c.args.turns,
+    cut,
+    uncut_whole _ _,
+    λ reader s reads holds stage turns leaving.
+        let (left, walk) = leads reader c.args.turns s reads holds stage turns in
+        closes refl walk (stops (λ r. EndsTurns r walk.reached)
+        (λ r. IsClosed c.args.turns walk.reached (EndsAs r)) c.from_residual.result c.in_err-make_turns.was
+        c.from_residual.ensures.1 (closed_at c.args.turns walk.reached) walk.ends),
+  );
 }
 
 pub returns-then-is_none : goal.returns-then-is_none
-returns-then-is_none g c = record {
-  serves = λ reader s reads holds stage turns leaving.
-      let (left, walk) = c.make_turns.ensures.leads reader c.args.turns s reads holds stage turns in
-      let (rests, over) = subst (λ r. EndsTurns r walk.reached) c.in_ok-make_turns.was walk.ends in
-      let none = none_left (next_at walk.reached)
-      (ap is_some (sym (c.next.ensures.exact walk.reached.history walk.holds.participant)) ∙ c.is_none.ensures
-      ∙ ap not c.if-is_none.true) in
-      closes refl walk (ended Done, gone_ends c.args.turns walk.reached rests none, refl);
+returns-then-is_none g c = let (made, cut, leads) = c.make_turns.ensures.leads in record {
+  serves = (
+    made,
+    c.args.turns,
+    cut,
+    uncut_whole _ _,
+    λ reader s reads holds stage turns leaving.
+        let (left, walk) = leads reader c.args.turns s reads holds stage turns in
+        let (rests, over) = subst (λ r. EndsTurns r walk.reached) c.in_ok-make_turns.was walk.ends in
+        let none = none_left (next_at walk.reached)
+        (ap is_some (sym (c.next.ensures.exact walk.reached.history walk.holds.participant)) ∙ c.is_none.ensures
+        ∙ ap not c.if-is_none.true) in
+        closes refl walk (ended Done, gone_ends c.args.turns walk.reached rests none, refl),
+  );
 }
 
 pub leave-requires-clause-room : goal.leave-requires-clause-room
@@ -31,16 +43,24 @@ leave-requires-clause-room g c = c.make_turns.ensures.room (c.args.turns * 5 + 1
     (less_room (c.args.turns * 10 + 1) (c.args.turns * 5 + 1 + c.args.turns * 5) _ _ (omega (arith)) c.requires.room)
 
 pub returns : goal.returns
-returns g c = record {
-  serves = λ reader s reads holds stage turns leaving.
-      let (left, walk) = c.make_turns.ensures.leads reader c.args.turns s reads holds stage turns in
-      let (rests, over) = subst (λ r. EndsTurns r walk.reached) c.in_ok-make_turns.was walk.ends in
-      let there = ap is_some (sym (c.next.ensures.exact walk.reached.history walk.holds.participant))
-      ∙ c.is_none.ensures ∙ ap not c.if-is_none.false in
-      closes_on walk (c.leave.ensures.serves reader walk.reached reads walk.holds (record {
-        resting = rests;
-        there = there;
-        turns = turns_left walk.reached there over;
-        leaving = walk.leaving ∙ leaving;
-      }));
-}
+returns g c =
+    let (made, cut, leads) = c.make_turns.ensures.leads in
+    let (further, waits, closing) = c.leave.ensures.serves in record {
+      serves = (
+        made,
+        further,
+        cut,
+        cut_alike _ _ _ _ (c.make_turns.ensures.ending true) waits,
+        λ reader s reads holds stage turns leaving.
+            let (left, walk) = leads reader further s reads holds stage turns in
+            let (rests, over) = subst (λ r. EndsTurns r walk.reached) c.in_ok-make_turns.was walk.ends in
+            let there = ap is_some (sym (c.next.ensures.exact walk.reached.history walk.holds.participant))
+            ∙ c.is_none.ensures ∙ ap not c.if-is_none.false in
+            closes_on walk (closing reader walk.reached reads walk.holds (record {
+              resting = rests;
+              there = there;
+              turns = turns_left walk.reached there over;
+              leaving = walk.leaving ∙ leaving;
+            })),
+      );
+    }
