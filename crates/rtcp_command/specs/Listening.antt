@@ -1,5 +1,5 @@
 -- What the options of `rtcp listen` say, and the first of them that is refused.
-use Rattle.std.specs.Prelude.{◌≡◌, ℕ, ◌≤◌, nat_le, ◌&&◌, ◌||◌, not, Bool, is_some, List, if◌then◌else◌, Option, Some, None, option_and_then, option_map, string_bytes, Result, Ok, Err, codes}
+use Rattle.std.specs.Prelude.{◌≡◌, ℕ, ◌≤◌, ◌⊎◌, nat_le, ◌&&◌, ◌||◌, not, Bool, is_some, List, if◌then◌else◌, Option, Some, None, option_and_then, option_map, string_bytes, Result, Ok, Err, codes}
 use Rattle.std.specs.Option.{ok_or}
 use Rattle.std.specs.Str.{bytes_eq}
 use Rattle.rtcp_engine.specs.Setups.{Setup}
@@ -24,6 +24,7 @@ pub record LinkTexts : Type 0 where
   pub turns : Option (List ℕ)
   pub seconds : Option (List ℕ)
   pub recording : Option (List ℕ)
+  pub stop : Option (List ℕ)
   pub show : List ℕ
 
 abbrev pub link_texts_of : LinkOptions → LinkTexts
@@ -35,6 +36,7 @@ link_texts_of options = record {
   turns = text_given options.turns;
   seconds = text_given options.seconds;
   recording = text_given options.recording;
+  stop = text_given options.stop;
   show = options.show.now;
 }
 
@@ -48,6 +50,7 @@ link_texts_found found = record {
   turns = found (codes "turns");
   seconds = found (codes "seconds");
   recording = found (codes "record");
+  stop = found (codes "stop");
   show = text_found found (codes "show");
 }
 
@@ -75,7 +78,7 @@ seconds_given (Some text) = option_map Some (seconds_in text)
 
 -- Turns end a session if they are given, or nothing else ends it.
 abbrev pub counts_turns : LinkTexts → Bool
-counts_turns link = is_some link.turns || not (is_some link.seconds)
+counts_turns link = is_some link.turns || not (is_some link.seconds) && not (is_some link.stop)
 
 -- a session over UDP
 pub record Listening : Type 0 where
@@ -91,6 +94,8 @@ pub record Listening : Type 0 where
   pub seconds : Option ℕ
   -- the name of the file that it is recorded in
   pub recording : Option (List ℕ)
+  -- the name of the file that ends it
+  pub stop : Option (List ℕ)
   -- whether it is shown while it runs
   pub show : Bool
 
@@ -114,14 +119,15 @@ listen_in texts link = do
     counts_turns = counts_turns link;
     seconds = seconds;
     recording = link.recording;
+    stop = link.stop;
     show = bytes_eq link.show (codes "true");
   })
 
 -- ---- Orders
 
--- the session of an order, with the file that it is recorded in
-abbrev pub listening_of : ListenOrder → Option (List ℕ) → Listening
-listening_of order recording = record {
+-- the session of an order, with the file that it is recorded in and the one that ends it
+abbrev pub listening_of : ListenOrder → (recording stop : Option (List ℕ)) → Listening
+listening_of order recording stop = record {
   setup = setup_of order.config;
   rtp = endpoint_of order.rtp;
   rtcp = endpoint_of order.rtcp;
@@ -131,21 +137,24 @@ listening_of order recording = record {
   counts_turns = order.counts_turns;
   seconds = order.seconds;
   recording = recording;
+  stop = stop;
   show = order.show;
 }
 
 -- The options come to this order.
 abbrev pub IsListening : Order → Result Listening (List ℕ) → Type 0
-IsListening (Listen order) expected = expected ≡ Ok (listening_of order (option_map string_bytes order.recording))
+IsListening (Listen order) expected =
+    expected ≡ Ok (listening_of order (option_map string_bytes order.recording) (option_map string_bytes order.stop))
 IsListening (Text order) expected = ⊥
 
--- What the options come to is this order, or this fault. Memory is asked for only where there is to be a record.
+-- What the options come to is this order, or this fault. Memory is asked for only where a file is named.
 abbrev pub IsListenOrder : Result Order OrderFault → Result Listening (List ℕ) → Type 0
 IsListenOrder (Ok order) expected = IsListening order expected
 IsListenOrder (Err (BadOption name)) expected = expected ≡ Err name.now
 IsListenOrder (Err (Clap text)) expected = ⊥
 IsListenOrder (Err Memory) expected =
-    (listening : Listening) × (path : List ℕ) × (expected ≡ Ok listening) × (listening.recording ≡ Some path)
+    (listening : Listening) × (path : List ℕ) × (expected ≡ Ok listening)
+    × ((listening.recording ≡ Some path) ⊎ (listening.stop ≡ Some path))
 
 -- A session that is asked for has 1 to 1,000,000 turns.
 abbrev pub HasTurns : Order → Type 0

@@ -1,6 +1,6 @@
 //! The options of `rtcp replay` and of `rtcp listen`.
 
-ghost use Rattle.std.specs.Prelude.{◌≡◌, ◌≤◌, ◌<◌, ◌+◌, ◌++◌, ℕ, List, Ok, Err, Some, None, OnOk, IfOk, IfErr, IfSome, [], length, map, option_map, string_bytes, codes};
+ghost use Rattle.std.specs.Prelude.{◌≡◌, ◌≤◌, ◌<◌, ◌+◌, ◌++◌, ◌⊎◌, ℕ, List, Ok, Err, Some, None, OnOk, IfOk, IfErr, IfSome, [], length, map, option_map, string_bytes, codes};
 ghost use Rattle.rtcp_wire.specs.Values.{ItemValue};
 ghost use Rattle.rtcp_engine.specs.Views.{clock_value, setup_of};
 ghost use Rattle.rtcp_command.specs.Listening.{HasTurns, IsListenOrder, link_texts_of, listen_in, listening_of, seconds_given, seconds_in, turns_given, turns_in};
@@ -57,6 +57,7 @@ pub(crate) struct LinkOptions<'a> {
     pub(crate) turns: Option<&'a str>,
     pub(crate) seconds: Option<&'a str>,
     pub(crate) recording: Option<&'a str>,
+    pub(crate) stop: Option<&'a str>,
     pub(crate) show: &'a str,
 }
 
@@ -98,7 +99,7 @@ pub(crate) fn read_lines(text: &str) -> Option<u32>
 ///
 /// - [`OrderFault::Option`] with the name of the first option that is refused, in the order of the fields of both
 ///   structs above, without its dashes.
-/// - [`OrderFault::Memory`] where memory for the name of the record's file is refused.
+/// - [`OrderFault::Memory`] where memory for the name of a file is refused.
 pub(crate) fn read_listen(
     alloc: Global,
     options: Options<'_, '_>,
@@ -108,11 +109,15 @@ pub(crate) fn read_listen(
     ensures turns { IfOk result HasTurns }
 {
     let mut order = read_session(options, link).map_err(OrderFault::Option)?;
-    order.recording = read_path(alloc, link.recording).map_err(|_| OrderFault::Memory)?;
+    let (recording, stop) = read_paths(alloc, link.recording, link.stop).map_err(
+        |_| OrderFault::Memory,
+    )?;
+    order.recording = recording;
+    order.stop = stop;
     Ok(Order::Listen(order))
 }
 
-/// The same, without the file that the session is recorded in.
+/// The same, without the names of files.
 ///
 /// # Errors
 ///
@@ -122,7 +127,7 @@ fn read_session(
     link: LinkOptions<'_>,
 ) -> Result<ListenOrder, &'static str>
     ensures read { IfOk result (λ order. listen_in (texts_of options.entry) (link_texts_of link.entry)
-        ≡ Ok (listening_of order (text_given link.entry.recording))) }
+        ≡ Ok (listening_of order (text_given link.entry.recording) (text_given link.entry.stop))) }
     ensures turns { IfOk result (λ order. (1 ≤ order.turns) × (order.turns ≤ 1000000)) }
     ensures refused { IfErr result (λ name.
         listen_in (texts_of options.entry) (link_texts_of link.entry) ≡ Err name.now) }
@@ -141,11 +146,32 @@ fn read_session(
         peer,
         seed,
         turns,
-        counts_turns: link.turns.is_some() || link.seconds.is_none(),
+        counts_turns: link.turns.is_some() || (link.seconds.is_none() && link.stop.is_none()),
         seconds,
         recording: None,
+        stop: None,
         show: link.show == "true",
     })
+}
+
+/// The names of two files, each if it is given.
+fn read_paths(
+    alloc: Global,
+    recording: Option<&str>,
+    stop: Option<&str>,
+) -> Result<(Option<String>, Option<String>), AllocError>
+    ensures recording { IfOk result (λ paths. option_map string_bytes paths.0 ≡ text_given recording.entry) }
+    ensures stop { IfOk result (λ paths. option_map string_bytes paths.1 ≡ text_given stop.entry) }
+    ensures given { IfErr result (λ _. (path : List ℕ)
+        × ((text_given recording.entry ≡ Some path) ⊎ (text_given stop.entry ≡ Some path))) }
+{
+    match read_path(alloc, recording) {
+        Ok(recording) => match read_path(alloc, stop) {
+            Ok(stop) => Ok((recording, stop)),
+            Err(AllocError) => Err(AllocError),
+        },
+        Err(AllocError) => Err(AllocError),
+    }
 }
 
 /// The name of a file, if one is given.

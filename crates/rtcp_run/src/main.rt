@@ -1,13 +1,15 @@
 //! The program `rtcp`: it decodes RTCP datagrams, replays the events of a participant, and takes part in a session over
 //! UDP.
 //!
-//! Only this file touches the process: its command line, its standard streams and the file of a record. `rtcp_udp`
+//! Only this crate touches the process: its command line, its standard streams and files. `rtcp_udp`
 //! borrows its runtime for the clock and the sockets. Everything else works over any reader, writer and link:
 //! `rtcp_command` has the command line, `rtcp_text` the texts and `rtcp_serve` the sessions. This file connects them.
 #![tactic(auto)]
 
 ghost use Rattle.std.specs.Prelude.{◌≡◌, ◌≤◌, ◌<◌, ◌*◌, ◌^◌, IfOk};
 ghost use Rattle.rtcp_command.specs.Listening.{HasTurns};
+
+mod stop_file;
 
 use rand_core::{Rng, SeedableRng};
 use rand_pcg::Pcg32;
@@ -32,6 +34,7 @@ use std::env;
 use std::fs::{self, File};
 use std::io::{BufWriter, Write};
 use std::process::ExitCode;
+use stop_file::StopFile;
 
 fn main(rt: HostRuntime) -> ExitCode {
     let status = match asked(&rt) {
@@ -112,7 +115,7 @@ fn run_listen(rt: &HostRuntime, order: ListenOrder) -> Result<End, RunFault>
     let participant = Participant::with_table(order.config, table, word);
     let link = UdpLink::bind(rt, alloc, order.rtp, order.rtcp, order.peer).map_err(run_fault)?;
     let observer = (recorder, watcher);
-    let ending = order.seconds.map(until);
+    let ending = (order.seconds.map(until), StopFile::of(rt, order.stop));
     let turns = if order.counts_turns {
         u64::from(order.turns)
     } else {

@@ -18,10 +18,11 @@ Take part in a session over UDP.
 
 RTP and RTCP come in at a port each, and reports go from the port of RTCP to the peer. In a turn
 the participant takes at most one datagram from each port, and sends what is due; where neither
-has one it waits until one comes, for at most 20 milliseconds. After the last turn, or once
---seconds N have passed, it leaves: without a word if it has sent no report, else with a BYE.
-Where more than 50 are known that BYE waits for its turn, in at most as many turns again and as
-long again, and may not go out. It sends no RTP.
+has one it waits until one comes, for at most 20 milliseconds. After the last turn, once
+--seconds N have passed, or within half a second once the file of --stop is there, it leaves:
+without a word if it has sent no report, else with a BYE. Where more than 50 are known that BYE
+waits for its turn, in at most as many turns again and as long again, and may not go out. It sends
+no RTP.
 
 In a collision, where a datagram names the participant's own SSRC, it takes another one at random
 and sends a BYE for the old one if it has reported under it: once for each sender of such
@@ -31,7 +32,7 @@ So turns measure no time. 1000 of them last 20 seconds where nothing comes. A pa
 three where it comes alone, and less where packets come together, but never less than one. An hour
 of audio in packets of 20 milliseconds takes 360000 to 540000 turns. The most, 1000000, last for
 two to three hours of it, and for 14 to 25 minutes of video of 600 packets a second. With --seconds
-turns are not counted, unless --turns is given too: then what comes first ends the session.
+or --stop turns are not counted, unless --turns is given too: what comes first ends the session.
 
 To join a sender of GStreamer on this machine, which reads RTCP at port 5007:
 
@@ -58,7 +59,8 @@ whether the BYE of leaving was sent.
 
     end Done received=137 refused=0 sent=5 send-failures=0 recv-failures=0 bye=yes
 
-Ctrl-C ends the process as it ends any: no BYE is sent, and no line comes out.
+Ctrl-C ends the process as it ends any: no BYE is sent, and no line comes out. To leave in order,
+run tools/listen in place of rtcp listen: it turns ctrl-C, TERM and HUP into the file of --stop.
 
 With --show the session is written to standard error as it happens, a line for each RTCP datagram
 that comes in, each compound that goes out, and each call that is refused: the moment in seconds,
@@ -81,7 +83,7 @@ The status is 0 at Done and Limit, 2 if the command line, an option or the confi
 refused, and 1 at LinkDown and if a port could not be bound, or writing or memory failed.";
 
 /// The options after those of the participant, in the order in which they are looked at.
-const OWN: [Row; 8] = [
+const OWN: [Row; 9] = [
     (
         "rtp",
         "ADDRESS:PORT",
@@ -110,7 +112,7 @@ const OWN: [Row; 8] = [
         "turns",
         "N",
         Absent::Nothing,
-        "Turns before the participant leaves, 1 to 1000000, for 1000 unless --seconds is given",
+        "Turns before the participant leaves, 1 to 1000000, for 1000 unless another end is given",
     ),
     (
         "seconds",
@@ -123,6 +125,12 @@ const OWN: [Row; 8] = [
         "FILE",
         Absent::Nothing,
         "File in which the session is recorded, for rtcp replay",
+    ),
+    (
+        "stop",
+        "FILE",
+        Absent::Nothing,
+        "File that ends the session once it is there, as tools/listen does for ctrl-C",
     ),
     (
         "show",
@@ -165,6 +173,7 @@ fn link<'a>(matches: &ArgMatches<'a>) -> LinkOptions<'a>
         turns: matches.get_str("turns"),
         seconds: matches.get_str("seconds"),
         recording: matches.get_str("record"),
+        stop: matches.get_str("stop"),
         show: given(matches, "show"),
     }
 }

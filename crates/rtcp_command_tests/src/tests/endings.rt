@@ -21,22 +21,37 @@ const REQUIRED: [&str; 12] = [
     "127.0.0.1:5007",
 ];
 
-/// Options, and what they ask for: the turns, whether they are counted, and the seconds.
-type Asked = (&'static [&'static str], (u32, bool, Option<u32>));
+/// The turns, whether they are counted, the seconds, and the file that ends the session.
+type Ends = (u32, bool, Option<u32>, Option<&'static str>);
 
-static ASKED: [Asked; 7] = [
-    (&[], (1_000, true, None)),
-    (&["--turns", "1000"], (1_000, true, None)),
-    (&["--seconds", "1"], (1_000, false, Some(1))),
-    (&["--seconds=0000000060"], (1_000, false, Some(60))),
+/// Options, and what they ask for.
+type Asked = (&'static [&'static str], Ends);
+
+static ASKED: [Asked; 10] = [
+    (&[], (1_000, true, None, None)),
+    (&["--turns", "1000"], (1_000, true, None, None)),
+    (&["--seconds", "1"], (1_000, false, Some(1), None)),
+    (&["--seconds=0000000060"], (1_000, false, Some(60), None)),
     (
         &["--seconds", "1000000000"],
-        (1_000, false, Some(1_000_000_000)),
+        (1_000, false, Some(1_000_000_000), None),
     ),
-    (&["--seconds", "7", "--turns", "9"], (9, true, Some(7))),
+    (
+        &["--seconds", "7", "--turns", "9"],
+        (9, true, Some(7), None),
+    ),
     (
         &["--turns", "1000000", "--seconds", "7"],
-        (1_000_000, true, Some(7)),
+        (1_000_000, true, Some(7), None),
+    ),
+    (&["--stop", "a b'c"], (1_000, false, None, Some("a b'c"))),
+    (
+        &["--stop", "", "--record", "call", "--turns", "5"],
+        (5, true, None, Some("")),
+    ),
+    (
+        &["--stop=x", "--seconds=3"],
+        (1_000, false, Some(3), Some("x")),
     ),
 ];
 
@@ -49,7 +64,8 @@ fn endings(rt: HostRuntime) -> Result<(), Fail> {
         let Ok(Order::Listen(order)) = order(rt.alloc(), &words) else {
             return Err("it was refused")?;
         };
-        let found = (order.turns, order.counts_turns, order.seconds);
+        let stop = order.stop.as_ref().map(|file| file.as_str());
+        let found = (order.turns, order.counts_turns, order.seconds, stop);
         assert_eq!(rt; found, *wanted, "row {row}");
     }
     Ok(())
