@@ -1,5 +1,5 @@
 -- What the options of `rtcp listen` say, and the first of them that is refused.
-use Rattle.std.specs.Prelude.{◌≡◌, ℕ, ◌≤◌, ◌⊎◌, nat_le, ◌&&◌, ◌||◌, not, Bool, is_some, List, if◌then◌else◌, Option, Some, None, option_and_then, option_map, string_bytes, Result, Ok, Err, codes}
+use Rattle.std.specs.Prelude.{◌≡◌, ℕ, ◌≤◌, ◌⊎◌, nat_le, ◌&&◌, ◌||◌, not, Bool, true, false, is_some, List, if◌then◌else◌, Option, Some, None, option_and_then, option_map, string_bytes, Result, Ok, Err, codes}
 use Rattle.std.specs.Option.{ok_or}
 use Rattle.std.specs.Str.{bytes_eq}
 use Rattle.rtcp_engine.specs.Setups.{Setup}
@@ -54,6 +54,19 @@ link_texts_found found = record {
   show = text_found found (codes "show");
 }
 
+-- what stands for a draw from the system's generator
+abbrev pub is_random : List ℕ → Bool
+is_random text = bytes_eq text (codes "random")
+
+-- with an SSRC of 0 in place of one that is to be drawn
+abbrev pub settled_texts : OptionTexts → OptionTexts
+settled_texts texts = if is_random texts.ssrc then record texts { ssrc = codes "00000000" } else texts
+
+-- the seed, and whether one is to be drawn in place of it
+abbrev pub seed_in : List ℕ → Option (ℕ × Bool)
+seed_in text =
+    if is_random text then Some (1, true) else option_map (λ seed. (seed, false)) (decimal_in 64 text)
+
 -- 1 to 1,000,000 turns
 abbrev pub turns_in : List ℕ → Option ℕ
 turns_in text =
@@ -83,10 +96,14 @@ counts_turns link = is_some link.turns || not (is_some link.seconds) && not (is_
 -- a session over UDP
 pub record Listening : Type 0 where
   pub setup : Setup
+  -- whether its SSRC is to be drawn
+  pub draws_ssrc : Bool
   pub rtp : Endpoint
   pub rtcp : Endpoint
   pub peer : Endpoint
   pub seed : ℕ
+  -- whether another one is to be drawn
+  pub draws_seed : Bool
   pub turns : ℕ
   -- whether they end it
   pub counts_turns : Bool
@@ -102,19 +119,21 @@ pub record Listening : Type 0 where
 -- The session, or the name of the first option that is refused.
 abbrev pub listen_in : OptionTexts → LinkTexts → Result Listening (List ℕ)
 listen_in texts link = do
-  setup ← setup_in texts
+  setup ← setup_in (settled_texts texts)
   rtp ← ok_or (endpoint_in link.rtp) (codes "rtp")
   rtcp ← ok_or (endpoint_in link.rtcp) (codes "rtcp")
   peer ← ok_or (endpoint_in link.peer) (codes "peer")
-  seed ← ok_or (decimal_in 64 link.seed) (codes "seed")
+  seed ← ok_or (seed_in link.seed) (codes "seed")
   turns ← ok_or (turns_given link.turns) (codes "turns")
   seconds ← ok_or (seconds_given link.seconds) (codes "seconds")
   Ok (record {
     setup = setup;
+    draws_ssrc = is_random texts.ssrc;
     rtp = rtp;
     rtcp = rtcp;
     peer = peer;
-    seed = seed;
+    seed = seed.0;
+    draws_seed = seed.1;
     turns = turns;
     counts_turns = counts_turns link;
     seconds = seconds;
@@ -129,10 +148,12 @@ listen_in texts link = do
 abbrev pub listening_of : ListenOrder → (recording stop : Option (List ℕ)) → Listening
 listening_of order recording stop = record {
   setup = setup_of order.config;
+  draws_ssrc = order.draws_ssrc;
   rtp = endpoint_of order.rtp;
   rtcp = endpoint_of order.rtcp;
   peer = endpoint_of order.peer;
   seed = order.seed;
+  draws_seed = order.draws_seed;
   turns = order.turns;
   counts_turns = order.counts_turns;
   seconds = order.seconds;

@@ -4,7 +4,7 @@ use Rattle.rtcp_serve.specs.declared.serving.Cause.{Cause}
 use Rattle.rtcp_serve.specs.declared.serving.Cause.TheVariants.{Done, LinkDown, Limit}
 use Rattle.rtcp_serve.specs.declared.serving.End.{End}
 use Rattle.rtcp_command.specs.declared.fault.RunFault.{RunFault}
-use Rattle.rtcp_command.specs.declared.fault.RunFault.TheVariants.{Config, Text, Link, Record, Read, Write, Memory}
+use Rattle.rtcp_command.specs.declared.fault.RunFault.TheVariants.{Config, Text, Link, Record, Random, Read, Write, Memory}
 use Rattle.rtcp_command.specs.declared.orders.OrderFault.{OrderFault}
 use Rattle.rtcp_command.specs.declared.orders.OrderFault.TheVariants.{Clap, Option as BadOption, Memory as NoMemory}
 use Rattle.rtcp_text.specs.declared.fault.ReplayFault.{ReplayFault}
@@ -24,13 +24,14 @@ abbrev pub replay_fault : ReplayFault → RunFault
 replay_fault (BadConfig error) = Config error
 replay_fault (Run fault) = text_fault fault
 
--- 2 where the text or the configuration is refused, and 1 where the link, the file of a record, reading, writing or
--- memory failed
+-- 2 where the text or the configuration is refused, and 1 where the link, the file of a record, the system's generator,
+-- reading, writing or memory failed
 abbrev pub fault_status : RunFault → ℕ
 fault_status (Config error) = 2
 fault_status (Text line fault) = 2
 fault_status Link = 1
 fault_status Record = 1
+fault_status Random = 1
 fault_status Read = 1
 fault_status Write = 1
 fault_status Memory = 1

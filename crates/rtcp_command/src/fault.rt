@@ -24,6 +24,8 @@ pub enum RunFault {
     Link,
     /// The file of a record could not be created.
     Record,
+    /// The system's generator could not be read.
+    Random,
     /// A call of the reader failed.
     Read,
     /// A call of the writer failed, or took nothing.
@@ -40,8 +42,12 @@ pub(crate) fn fail<F: Write>(fault: RunFault, faults: &mut F) -> u8
     let _ = writeln!(faults, "{fault}");
     match fault {
         RunFault::Config(_) | RunFault::Text { .. } => 2,
-        RunFault::Link | RunFault::Record | RunFault::Read | RunFault::Write | RunFault::Memory =>
-            1,
+        RunFault::Link
+        | RunFault::Record
+        | RunFault::Random
+        | RunFault::Read
+        | RunFault::Write
+        | RunFault::Memory => 1,
     }
 }
 
@@ -52,6 +58,7 @@ impl fmt::Display for RunFault {
             RunFault::Text { line, fault } => write!(f, "line {line}: {fault}"),
             RunFault::Link => f.write_str("link"),
             RunFault::Record => f.write_str("record"),
+            RunFault::Random => f.write_str("random"),
             RunFault::Read => f.write_str("read"),
             RunFault::Write => f.write_str("write"),
             RunFault::Memory => f.write_str("memory"),

@@ -3,7 +3,7 @@
 ghost use Rattle.std.specs.Prelude.{◌≡◌, ◌≤◌, ◌<◌, ◌+◌, ◌++◌, ◌⊎◌, ℕ, List, Ok, Err, Some, None, OnOk, IfOk, IfErr, IfSome, [], length, map, option_map, string_bytes, codes};
 ghost use Rattle.rtcp_wire.specs.Values.{ItemValue};
 ghost use Rattle.rtcp_engine.specs.Views.{clock_value, setup_of};
-ghost use Rattle.rtcp_command.specs.Listening.{HasTurns, IsListenOrder, link_texts_of, listen_in, listening_of, seconds_given, seconds_in, turns_given, turns_in};
+ghost use Rattle.rtcp_command.specs.Listening.{HasTurns, IsListenOrder, link_texts_of, listen_in, listening_of, seconds_given, seconds_in, seed_in, settled_texts, turns_given, turns_in};
 ghost use Rattle.rtcp_command.specs.Options.{bandwidth_in, clock_given, clocks_given, extras_in, item_in, lines_in, replay_in, setup_in, text_given, text_in, texts_in, texts_of, with_extras};
 ghost use Rattle.rtcp_text.specs.Numerals.{hex_text_in};
 
@@ -15,6 +15,9 @@ use rtcp_text::numerals::{read_decimal, read_hex_text, read_long, read_short_dec
 use rtcp_text::settings_fields::read_clock;
 use std::alloc::{AllocError, Global};
 use std::net::SocketAddrV4;
+
+/// The text that stands for what the system draws.
+const RANDOM: &str = "random";
 
 /// The most turns of a session.
 const MAX_TURNS: u32 = 1_000_000;
@@ -132,19 +135,21 @@ fn read_session(
     ensures refused { IfErr result (λ name.
         listen_in (texts_of options.entry) (link_texts_of link.entry) ≡ Err name.now) }
 {
-    let config = read_config(options)?;
+    let config = read_config(settled(options))?;
     let rtp = read_endpoint(link.rtp).ok_or("rtp")?;
     let rtcp = read_endpoint(link.rtcp).ok_or("rtcp")?;
     let peer = read_endpoint(link.peer).ok_or("peer")?;
-    let seed = read_decimal(link.seed.as_bytes()).ok_or("seed")?;
+    let (seed, draws_seed) = read_seed(link.seed).ok_or("seed")?;
     let turns = read_given_turns(link.turns).ok_or("turns")?;
     let seconds = read_given_seconds(link.seconds).map_err(|()| "seconds")?;
     Ok(ListenOrder {
         config,
+        draws_ssrc: options.ssrc == RANDOM,
         rtp,
         rtcp,
         peer,
         seed,
+        draws_seed,
         turns,
         counts_turns: link.turns.is_some() || (link.seconds.is_none() && link.stop.is_none()),
         seconds,
@@ -186,6 +191,31 @@ fn read_path(alloc: Global, given: Option<&str>) -> Result<Option<String>, Alloc
         },
         None => Ok(None),
     }
+}
+
+/// These options, with an SSRC of 0 in place of one that is to be drawn.
+fn settled<'m, 'a>(options: Options<'m, 'a>) -> Options<'m, 'a>
+    ensures { texts_of result ≡ settled_texts (texts_of options.entry) }
+{
+    if options.ssrc == RANDOM {
+        Options {
+            ssrc: "00000000",
+            ..options
+        }
+    } else {
+        options
+    }
+}
+
+/// The seed of the random words, and whether one is to be drawn in place of it.
+fn read_seed(text: &str) -> Option<(u64, bool)>
+    ensures { result ≡ seed_in text.now }
+{
+    if text == RANDOM {
+        return Some((1, true));
+    }
+    let seed = read_decimal(text.as_bytes())?;
+    Some((seed, false))
 }
 
 /// How many turns a session has: 1 to 1,000,000, or 1,000 if it is not told.

@@ -36,6 +36,8 @@ pub enum TextOrder {
 pub struct ListenOrder {
     /// How the participant is configured. Nothing of it was tested against the ranges of a configuration.
     pub config: Config,
+    /// Whether its SSRC is to be drawn from the system's generator.
+    pub draws_ssrc: bool,
     /// Where RTP comes in.
     pub rtp: SocketAddrV4,
     /// Where RTCP comes in.
@@ -44,6 +46,8 @@ pub struct ListenOrder {
     pub peer: SocketAddrV4,
     /// The seed of the random words.
     pub seed: u64,
+    /// Whether another one is to be drawn from the system's generator.
+    pub draws_seed: bool,
     /// How many turns are made before the participant leaves, 1 to 1,000,000, if they are counted.
     pub turns: u32,
     /// Whether turns are counted: they are asked for, or nothing else ends the session.

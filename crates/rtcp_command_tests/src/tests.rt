@@ -7,6 +7,7 @@ use std::process::Abort;
 use std::test::Fail;
 
 mod commands;
+mod draws;
 mod endings;
 mod endpoints;
 mod ends;

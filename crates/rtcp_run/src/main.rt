@@ -6,7 +6,7 @@
 //! `rtcp_command` has the command line, `rtcp_text` the texts and `rtcp_serve` the sessions. This file connects them.
 #![tactic(auto)]
 
-ghost use Rattle.std.specs.Prelude.{◌≡◌, ◌≤◌, ◌<◌, ◌*◌, ◌^◌, IfOk};
+ghost use Rattle.std.specs.Prelude.{◌≡◌, ◌≤◌, ◌<◌, ◌*◌, ◌^◌, IfErr, IfOk};
 ghost use Rattle.rtcp_command.specs.Listening.{HasTurns};
 
 mod stop_file;
@@ -32,7 +32,7 @@ pub use rtcp_text::{Counted, LineFault, ReplayFault, TextFault, check, replay};
 use rtcp_udp::{BindFault, UdpLink};
 use std::env;
 use std::fs::{self, File};
-use std::io::{BufWriter, Write};
+use std::io::{BufWriter, Read, Write};
 use std::process::ExitCode;
 use stop_file::StopFile;
 
@@ -88,11 +88,18 @@ fn run_text(rt: &HostRuntime, order: TextOrder) -> u8 {
 ///
 /// # Errors
 ///
-/// Each of [`RunFault`]. A refused configuration is found before the file is created, and that before a port is bound.
-fn run_listen(rt: &HostRuntime, order: ListenOrder) -> Result<End, RunFault>
+/// Each of [`RunFault`]. A generator that cannot be read is found first, then a refused configuration, both before the
+/// file is created, and that before a port is bound.
+fn run_listen(rt: &HostRuntime, mut order: ListenOrder) -> Result<End, RunFault>
     requires { (1 ≤ order.turns) × (order.turns ≤ 1000000) }
 {
     let alloc = rt.alloc();
+    if order.draws_ssrc {
+        order.config.ssrc = (draw(rt)? % (1 << 32)) as u32;
+    }
+    if order.draws_seed {
+        order.seed = draw(rt)?;
+    }
     let mut rng = Pcg32::seed_from_u64(order.seed);
     let word = rng.next_u32();
     if let Some(error) = order.config.error() {
@@ -124,6 +131,24 @@ fn run_listen(rt: &HostRuntime, order: ListenOrder) -> Result<End, RunFault>
     let end = serve_on(Observed { link, observer }, participant, rng, ending, turns);
     write_end(rt, &end)?;
     Ok(end)
+}
+
+/// A number from the system's generator.
+///
+/// # Errors
+///
+/// [`RunFault::Random`] where it cannot be read.
+fn draw(rt: &HostRuntime) -> Result<u64, RunFault>
+    ensures { IfErr result (λ fault. fault ≡ RunFault.Random) }
+{
+    let mut octets = [0; 8];
+    let Ok(mut generator) = fs::open(rt, "/dev/urandom") else {
+        return Err(RunFault::Random);
+    };
+    match generator.read_exact(&mut octets) {
+        Ok(()) => Ok(u64::from_le_bytes(octets)),
+        Err(_) => Err(RunFault::Random),
+    }
 }
 
 /// The ending after so many seconds.

@@ -34,6 +34,11 @@ of audio in packets of 20 milliseconds takes 360000 to 540000 turns. The most, 1
 two to three hours of it, and for 14 to 25 minutes of video of 600 packets a second. With --seconds
 or --stop turns are not counted, unless --turns is given too: what comes first ends the session.
 
+The random words are those of a generator that --seed begins: with the default, 1, they are the same
+each time, so that listeners which are started together report together, in clumps. Give each
+--seed random, and --ssrc random for an SSRC of its own: both come from the system's generator, and
+the command that --record shows has what was drawn.
+
 To join a sender of GStreamer on this machine, which reads RTCP at port 5007:
 
     gst-launch-1.0 rtpbin name=session \\
@@ -106,7 +111,7 @@ const OWN: [Row; 9] = [
         "seed",
         "N",
         Absent::Is("1"),
-        "Seed of the random words, below 2^64",
+        "Seed of the random words, below 2^64, or random",
     ),
     (
         "turns",

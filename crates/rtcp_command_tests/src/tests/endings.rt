@@ -6,7 +6,7 @@ use rtcp_command::order::order;
 use std::test::Fail;
 
 /// The words of a command line that has all that is required.
-const REQUIRED: [&str; 12] = [
+pub(super) const REQUIRED: [&str; 12] = [
     "rtcp",
     "listen",
     "--ssrc",
