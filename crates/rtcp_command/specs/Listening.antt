@@ -24,6 +24,7 @@ pub record LinkTexts : Type 0 where
   pub turns : Option (List ℕ)
   pub seconds : Option (List ℕ)
   pub recording : Option (List ℕ)
+  pub force : List ℕ
   pub stop : Option (List ℕ)
   pub show : List ℕ
 
@@ -36,6 +37,7 @@ link_texts_of options = record {
   turns = text_given options.turns;
   seconds = text_given options.seconds;
   recording = text_given options.recording;
+  force = options.force.now;
   stop = text_given options.stop;
   show = options.show.now;
 }
@@ -50,6 +52,7 @@ link_texts_found found = record {
   turns = found (codes "turns");
   seconds = found (codes "seconds");
   recording = found (codes "record");
+  force = text_found found (codes "force");
   stop = found (codes "stop");
   show = text_found found (codes "show");
 }
@@ -111,6 +114,8 @@ pub record Listening : Type 0 where
   pub seconds : Option ℕ
   -- the name of the file that it is recorded in
   pub recording : Option (List ℕ)
+  -- whether that may be there already
+  pub overwrites : Bool
   -- the name of the file that ends it
   pub stop : Option (List ℕ)
   -- whether it is shown while it runs
@@ -138,6 +143,7 @@ listen_in texts link = do
     counts_turns = counts_turns link;
     seconds = seconds;
     recording = link.recording;
+    overwrites = bytes_eq link.force (codes "true");
     stop = link.stop;
     show = bytes_eq link.show (codes "true");
   })
@@ -158,6 +164,7 @@ listening_of order recording stop = record {
   counts_turns = order.counts_turns;
   seconds = order.seconds;
   recording = recording;
+  overwrites = order.overwrites;
   stop = stop;
   show = order.show;
 }

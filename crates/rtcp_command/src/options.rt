@@ -60,6 +60,7 @@ pub(crate) struct LinkOptions<'a> {
     pub(crate) turns: Option<&'a str>,
     pub(crate) seconds: Option<&'a str>,
     pub(crate) recording: Option<&'a str>,
+    pub(crate) force: &'a str,
     pub(crate) stop: Option<&'a str>,
     pub(crate) show: &'a str,
 }
@@ -154,6 +155,7 @@ fn read_session(
         counts_turns: link.turns.is_some() || (link.seconds.is_none() && link.stop.is_none()),
         seconds,
         recording: None,
+        overwrites: link.force == "true",
         stop: None,
         show: link.show == "true",
     })

@@ -56,6 +56,8 @@ pub struct ListenOrder {
     pub seconds: Option<u32>,
     /// The file that the session is recorded in, if it is to be.
     pub recording: Option<String>,
+    /// Whether that file may be there already, and is overwritten then.
+    pub overwrites: bool,
     /// The file that ends the session once it is there, if one is to.
     pub stop: Option<String>,
     /// Whether the session is shown while it runs.

@@ -14,6 +14,7 @@ mod ends;
 mod example;
 mod failing;
 mod options;
+mod recordings;
 mod records;
 mod replays;
 

@@ -9,10 +9,12 @@
 ghost use Rattle.std.specs.Prelude.{◌≡◌, ◌≤◌, ◌<◌, ◌*◌, ◌^◌, IfErr, IfOk};
 ghost use Rattle.rtcp_command.specs.Listening.{HasTurns};
 
+mod record_file;
 mod stop_file;
 
 use rand_core::{Rng, SeedableRng};
 use rand_pcg::Pcg32;
+use record_file::RecordFile;
 use rtcp_command::ends::end_line;
 use rtcp_command::order::refuse;
 use rtcp_command::replay_command::replay_line;
@@ -20,7 +22,7 @@ use rtcp_command::session_recorder::SessionRecorder;
 pub use rtcp_command::{
     ListenOrder, Order, OrderFault, RunFault, TextOrder, command, laws, listen, order,
 };
-use rtcp_engine::{Config, Participant};
+use rtcp_engine::Participant;
 use rtcp_members::HeapTable;
 pub use rtcp_serve::{
     Cause, End, Ending, Link, LinkFault, MOST_TURNS, Observed, Observer, Port, Received, Until,
@@ -109,7 +111,7 @@ fn run_listen(rt: &HostRuntime, mut order: ListenOrder) -> Result<End, RunFault>
     let table = HeapTable::with_room(alloc, capacity).map_err(|_| RunFault::Memory)?;
     let recorder = match &order.recording {
         Some(file) => Some(SessionRecorder {
-            recorder: begin_record(rt, &order.config, word, file)?,
+            recorder: begin_record(rt, &order, word, file)?,
             faults: rt.stderr(),
         }),
         None => None,
@@ -199,16 +201,21 @@ fn write_end(rt: &HostRuntime, end: &End) -> Result<(), RunFault> {
 ///
 /// # Errors
 ///
-/// - [`RunFault::Record`] where the file cannot be created.
+/// - [`RunFault::Record`] where the file cannot be created, or is there already and is not to be overwritten.
 /// - [`RunFault::Memory`] where memory is refused.
 fn begin_record(
     rt: &HostRuntime,
-    config: &Config,
+    order: &ListenOrder,
     word: u32,
     file: &str,
-) -> Result<Recorder<File>, RunFault> {
-    let writer = fs::create(rt, file).map_err(|_| RunFault::Record)?;
-    let line = replay_line(rt.alloc(), config, word, file).map_err(|_| RunFault::Memory)?;
+) -> Result<Recorder<RecordFile>, RunFault> {
+    let created = if order.overwrites {
+        fs::create(rt, file)
+    } else {
+        File::create_new(rt, file)
+    };
+    let writer = RecordFile::new(created.map_err(|_| RunFault::Record)?);
+    let line = replay_line(rt.alloc(), &order.config, word, file).map_err(|_| RunFault::Memory)?;
     let _ = rt.stderr().write_all(&line);
     Ok(Recorder::new(rt.alloc(), writer))
 }

@@ -82,13 +82,13 @@ as in a string of C; and round-trip= if the source reported on a sender report o
 
 With --record FILE each event that the participant is told is written to the file as it happens,
 as a line that rtcp replay reads. The command that plays it again is written to standard error
-at the start.
+at the start. A file that is there already is refused without --force.
 
 The status is 0 at Done and Limit, 2 if the command line, an option or the configuration was
 refused, and 1 at LinkDown and if a port could not be bound, or writing or memory failed.";
 
 /// The options after those of the participant, in the order in which they are looked at.
-const OWN: [Row; 9] = [
+const OWN: [Row; 10] = [
     (
         "rtp",
         "ADDRESS:PORT",
@@ -130,6 +130,12 @@ const OWN: [Row; 9] = [
         "FILE",
         Absent::Nothing,
         "File in which the session is recorded, for rtcp replay",
+    ),
+    (
+        "force",
+        "",
+        Absent::IsFlag,
+        "Overwrite the file of --record if it is there",
     ),
     (
         "stop",
@@ -178,6 +184,7 @@ fn link<'a>(matches: &ArgMatches<'a>) -> LinkOptions<'a>
         turns: matches.get_str("turns"),
         seconds: matches.get_str("seconds"),
         recording: matches.get_str("record"),
+        force: given(matches, "force"),
         stop: matches.get_str("stop"),
         show: given(matches, "show"),
     }
