@@ -26,6 +26,7 @@ pub mod command;
 pub mod endpoint;
 pub mod ends;
 mod fault;
+pub mod groups;
 pub mod laws;
 pub mod listen;
 mod options;

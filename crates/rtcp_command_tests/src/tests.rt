@@ -13,6 +13,7 @@ mod endpoints;
 mod ends;
 mod example;
 mod failing;
+mod groups;
 mod options;
 mod recordings;
 mod records;

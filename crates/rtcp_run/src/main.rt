@@ -16,6 +16,7 @@ use rand_core::{Rng, SeedableRng};
 use rand_pcg::Pcg32;
 use record_file::RecordFile;
 use rtcp_command::ends::end_line;
+use rtcp_command::groups::group_warnings;
 use rtcp_command::order::refuse;
 use rtcp_command::replay_command::replay_line;
 use rtcp_command::session_recorder::SessionRecorder;
@@ -123,6 +124,8 @@ fn run_listen(rt: &HostRuntime, mut order: ListenOrder) -> Result<End, RunFault>
     };
     let participant = Participant::with_table(order.config, table, word);
     let link = UdpLink::bind(rt, alloc, order.rtp, order.rtcp, order.peer).map_err(run_fault)?;
+    let warnings = group_warnings(alloc, order.rtp, order.rtcp).map_err(|_| RunFault::Memory)?;
+    let _ = rt.stderr().write_all(&warnings);
     let observer = (recorder, watcher);
     let ending = (order.seconds.map(until), StopFile::of(rt, order.stop));
     let turns = if order.counts_turns {

@@ -49,12 +49,12 @@ To join a sender of GStreamer on this machine, which reads RTCP at port 5007:
 
 Or one of FFmpeg, which binds that port too:
 
-    ffmpeg -re -f lavfi -i sine -ar 8000 -c:a pcm_mulaw -f rtp \\
-        'rtp://127.0.0.1:5004?rtcpport=5005&localrtcpport=5007'
+    ffmpeg -nostdin -hide_banner -loglevel error -re -f lavfi -i sine -ar 8000 -c:a pcm_mulaw \\
+        -f rtp 'rtp://127.0.0.1:5004?rtcpport=5005&localrtcpport=5007'
 
 For either:
 
-    rtcp listen --ssrc 000000aa --cname a --show --record call \\
+    rtcp listen --ssrc random --seed random --cname a --seconds 60 --show --record call \\
         --rtp 127.0.0.1:5004 --rtcp 127.0.0.1:5005 --peer 127.0.0.1:5007
 
 One line comes out at the end: Done where the participant left, LinkDown where 64 receives in a row
