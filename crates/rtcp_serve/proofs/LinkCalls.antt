@@ -21,7 +21,7 @@ use Rattle.rtcp_engine.specs.Steps.{AnswerValue, OutValue}
 use Rattle.rtcp_serve.specs.declared.serving.tally.Tally.{Tally}
 use Rattle.rtcp_serve.specs.Tallies.{HasRoom, end_of, is_limit, with_arrival, with_datagram, with_moment, with_refused, with_send}
 use Rattle.rtcp_serve.specs.Serving.{Reader, Stage, resting, beginning, hearing, deciding, sending, ended, SessionState, rested, going, ReadsClock, Hears, Sends, Fits, at_stage, with_turns, turn_by, turn_or, after_turns, gone_on, left_with, event_at, arrival_at, after_port, came_with, heard_at, after_clock, after_sending, after_call, after_calls, AllFit, at_the_start, stage_to_send, ticked_with, ticked_now, with_tally}
-use Rattle.rtcp_serve.specs.Sessions.{Closes, EndsAs, EndsTurns, HasTurn, Holds, IsCut, IsLeaveDue, Moves, RunsSession, Tells, Walks, led_to, next_at}
+use Rattle.rtcp_serve.specs.Sessions.{Closes, EndsAs, EndsTurns, HasTurn, Holds, IsCut, IsLeaveDue, Moves, RunsSession, TellsLink, Walks, led_to, next_at}
 
 -- ---- Logs
 
@@ -116,7 +116,7 @@ moves_by reader total call s t x y goes fits called = record {
 -- ---- Tellings
 
 -- nothing is told
-pub tells_none : (s t : SessionState) (x y : LinkValue) → t.tellings ≡ s.tellings → y.told ≡ x.told → Tells s t x y
+pub tells_none : (s t : SessionState) (x y : LinkValue) → t.tellings ≡ s.tellings → y.told ≡ x.told → TellsLink s t x y
 tells_none s t x y same kept = record {
   grows = λ start grown. subst (GrowsBy t.tellings start) (sym kept)
       (subst (λ tellings. GrowsBy tellings start x.told) (sym same) grown);
@@ -124,7 +124,7 @@ tells_none s t x y same kept = record {
 
 -- one event is told
 pub tells_one : (one : Telling) (s t : SessionState) (x y : LinkValue) → t.tellings ≡ one ∷ s.tellings
-    → GrowsBy (one ∷ []) x.told y.told → Tells s t x y
+    → GrowsBy (one ∷ []) x.told y.told → TellsLink s t x y
 tells_one one s t x y same grew = record {
   grows = λ start grown. subst (λ tellings. GrowsBy tellings start y.told) (sym same)
       (grows_on s.tellings (one ∷ []) start x.told y.told grown grew);
@@ -163,7 +163,7 @@ module _ {reader : Reader} {total : ℕ} {s u : SessionState} {x y : LinkValue} 
 
   -- calls and tellings before it
   pub walks_after : {w : LinkValue} {v r : SessionState} {calls : List Call} → Moves reader total calls v u w x
-      → Tells r s w x → Walks reader total s u x y kept words counted at n b
+      → TellsLink r s w x → Walks reader total s u x y kept words counted at n b
       → Walks reader total r v w y kept words counted at n b
   walks_after {calls = calls} moves tells walk = record {
     calls = walk.calls ++ calls;

@@ -58,7 +58,7 @@ pub record Moves (reader : Reader) (total : ℕ) (calls : List Call) (s t : Sess
 
 -- Between two standings a link was told what the participant was told: if all that it was told since some start was
 -- what the participant had been told at the first, it is so at the second.
-pub record Tells (s t : SessionState) (before after : LinkValue) : Type 0 where
+pub record TellsLink (s t : SessionState) (before after : LinkValue) : Type 0 where
   pub grows : (start : Option (List Telling)) → GrowsBy s.tellings start before.told
       → GrowsBy t.tellings start after.told
 
@@ -70,7 +70,7 @@ pub record Walks
   pub calls : List Call
   pub reached : SessionState
   pub moves : Moves reader total calls from reached before after
-  pub tells : Tells since reached before after
+  pub tells : TellsLink since reached before after
   pub holds : Holds reached kept words counted
   pub ends : at reached
   pub turns : reached.turns ≡ turns_left
@@ -99,7 +99,7 @@ pub record Closes
   pub calls : List Call
   pub reached : SessionState
   pub comes : Comes reader total calls s reached before after
-  pub tells : Tells s reached before after
+  pub tells : TellsLink s reached before after
   pub holds : Holds reached kept words counted
   pub ends : at reached
 

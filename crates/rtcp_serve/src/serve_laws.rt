@@ -56,8 +56,8 @@ pub fn totals_count_calls()
 /// A link that tells its log tells the calls of a session, and with the words these determine all that the
 /// participant was told, and the end.
 pub fn a_log_determines_the_session()
-    ensures calls { (reader : Reader) (history : History) (words : Stream) (turns further : ℕ) (calls others : List Call)
-        (s t : SessionState) (before after : LinkValue) (log : List Call) → after.log ≡ Some log →
-        Comes reader further calls (at_the_start history words turns) s before after →
+    ensures calls { (reader : Reader) (history : History) (words : Stream) (turns further : ℕ)
+        (calls others : List Call) (s t : SessionState) (before after : LinkValue) (log : List Call) →
+        after.log ≡ Some log → Comes reader further calls (at_the_start history words turns) s before after →
         Comes reader further others (at_the_start history words turns) t before after → (calls ≡ others) × (s ≡ t) }
 {}

@@ -107,8 +107,8 @@ static ASKED: [Asked; 13] = [
         word_and_lines: (u32::MAX, u32::MAX),
         ..PLAIN
     },
-    // RTCP's bandwidth is the twentieth part of the session's, in octets. A quarter of it is for senders, and each share
-    // is the greatest number of 32 bits where it does not fit those.
+    // RTCP's bandwidth is the twentieth part of the session's, in octets. A quarter of it is for senders, and each
+    // share is the greatest number of 32 bits where it does not fit those.
     Asked {
         options: &["--session-bps", "0"],
         ranges: [1_024, 1_472, 0, 0, 8_000],

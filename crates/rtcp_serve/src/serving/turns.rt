@@ -123,7 +123,8 @@ fn tell<L: Link, T: MemberTable>(
 ) -> Result<(), Cause>
     requires room { HasRoom 1 tally.old (L.value link.old) }
     ensures leads { (reader : Reader) (total : ℕ) (next refused : Stage) (kept : ParticipantValue) (words : Stream)
-        (s t : SessionState) → Holds t kept words tally.old → t.stage ≡ stage_to_send next refused (answer_value answer) →
+        (s t : SessionState) → Holds t kept words tally.old →
+        t.stage ≡ stage_to_send next refused (answer_value answer) →
         t.tellings ≡ telling (event_value event.now) (answer_value answer) ∷ s.tellings →
         Walks reader total s t (L.value link.old) (L.value link.new) kept words tally.new
         (Reaches (led_to next refused (answer_value answer)) result) t.turns t.leaving }

@@ -90,8 +90,8 @@ fn left_at(
     Ok((sent, link.log.calls.len(), drawn))
 }
 
-/// A session is left at the first moment at or past its end that it sees before a turn. A turn makes four calls and draws
-/// two words, the leave one. The first turn sends a report, and a leave after it a BYE.
+/// A session is left at the first moment at or past its end that it sees before a turn. A turn makes four calls and
+/// draws two words, the leave one. The first turn sends a report, and a leave after it a BYE.
 #[test]
 fn moments(rt: HostRuntime) -> Result<(), Fail> {
     let alloc = rt.alloc();

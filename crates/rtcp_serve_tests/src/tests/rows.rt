@@ -332,8 +332,8 @@ static CASES: [Case<'static>; 16] = [
         },
         ..PLAIN
     },
-    // The own SSRC: another one is taken, and none of the old one was heard. No compound has an odd number of octets. Five
-    // datagrams, two of them refused, three ticks and the leave.
+    // The own SSRC: another one is taken, and none of the old one was heard. No compound has an odd number of octets.
+    // Five datagrams, two of them refused, three ticks and the leave.
     Case {
         name: "a datagram on the port of RTCP is told as a compound, and one on that of RTP as a packet",
         coming: &[
@@ -419,8 +419,8 @@ static CASES: [Case<'static>; 16] = [
         },
         ..GIVES_UP
     },
-    // Under the new SSRC a report goes out in the third turn, and the leave has a BYE of its own. A report of the new SSRC
-    // that comes from the same peer is refused.
+    // Under the new SSRC a report goes out in the third turn, and the leave has a BYE of its own. A report of the new
+    // SSRC that comes from the same peer is refused.
     Case {
         name: "the same by an RTP packet, and a leave with another BYE",
         moments: MOMENTS,
