@@ -5,90 +5,97 @@ use Rattle.hex.specs.declared.error.FromHexError.{FromHexError}
 use Rattle.rtcp_wire.proofs.LawLemmas.{accepted_or_faulty-always_one, accepted_or_faulty-never_both, one_fault, one_reading}
 use Rattle.rtcp_text.specs.declared.fault.LineFault.{LineFault}
 use Rattle.rtcp_text.specs.declared.fault.LineFault.TheVariants.{Hex}
-use Rattle.rtcp_text.specs.Check.{IsAnswer, AnswersHex, IsNotHex, IsCheckText}
+use Rattle.rtcp_wire.specs.Values.{RtcpPacket}
+use Rattle.rtcp_text.specs.Check.{IsAnswerBy, AnswersHexBy, IsNotHex, IsCheckTextBy}
 use Rattle.rtcp_text.specs.declared.fault.TextFault.{TextFault}
 use Rattle.rtcp_text.specs.Lines.{IsTextFrom, Writes}
 use Rattle.rtcp_text.specs.Progress.{RunLeaves}
-use Rattle.rtcp_text.specs.Text.{accepted_text, fault_text}
+use Rattle.rtcp_text.specs.Text.{fault_text}
 use Rattle.rtcp_text.proofs.TextLemmas.{IsTotal, IsUnique, text_exists, text_continues, one_text, IsTextBy-shown}
 use Rattle.rtcp_text.proofs.ClauseLemmas.{Continues, RunLeaves-weaker, Writes-weaker}
 
--- A line is answered by itself.
-abbrev answers_alone : {S : Type 0} → S → List ℕ → List ℕ → S → Type 0
-answers_alone state line text next = AnswersHex line text
+module _ (shows : List RtcpPacket → List ℕ) where
+  -- A line is answered by itself.
+  abbrev answers_alone : {S : Type 0} → S → List ℕ → List ℕ → S → Type 0
+  answers_alone state line text next = AnswersHexBy shows line text
 
--- ---- Each line has an answer or a fault
+  -- ---- Each line has an answer or a fault
 
-answer_exists : (octets : List ℕ) → (answer : List ℕ) × IsAnswer octets answer
-answer_exists octets =
-    elim (accepted_or_faulty-always_one octets) [
-      | inl accepted ↦ (accepted_text accepted.0, inl (accepted.0, accepted.1, refl))
-      | inr refused ↦ (fault_text refused.0, inr (refused.0, refused.1, refl))
-    ]
+  answer_exists : (octets : List ℕ) → (answer : List ℕ) × IsAnswerBy shows octets answer
+  answer_exists octets =
+      elim (accepted_or_faulty-always_one octets) [
+        | inl accepted ↦ (shows accepted.0, inl (accepted.0, accepted.1, refl))
+        | inr refused ↦ (fault_text refused.0, inr (refused.0, refused.1, refl))
+      ]
 
-line_exists : (line : List ℕ) (r : Result (List ℕ) FromHexError) → decode_of line ≡ r
-    → ((fault : LineFault) × IsNotHex line fault) ⊎ ((text : List ℕ) × (next : Unit {0}) × AnswersHex line text)
-line_exists line (Ok octets) is = let answer = answer_exists octets in inr (answer.0, tt, (octets, is, answer.1))
-line_exists line (Err e) is = inl (Hex, (refl, subst IsErr (sym is) refl))
+  line_exists : (line : List ℕ) (r : Result (List ℕ) FromHexError) → decode_of line ≡ r
+      → ((fault : LineFault) × IsNotHex line fault) ⊎
+      ((text : List ℕ) × (next : Unit {0}) × AnswersHexBy shows line text)
+  line_exists line (Ok octets) is = let answer = answer_exists octets in inr (answer.0, tt, (octets, is, answer.1))
+  line_exists line (Err e) is = inl (Hex, (refl, subst IsErr (sym is) refl))
 
-total : IsTotal {S = Unit {0}} answers_alone IsNotHex
-total state line = line_exists line (decode_of line) refl
+  total : IsTotal {S = Unit {0}} answers_alone IsNotHex
+  total state line = line_exists line (decode_of line) refl
 
--- ---- And only one
+  -- ---- And only one
 
-one_answer : (octets text text' : List ℕ) → IsAnswer octets text → IsAnswer octets text' → text ≡ text'
-one_answer octets text text' (inl h) (inl k) = h.2 ∙ ap accepted_text (one_reading octets h.0 k.0 h.1 k.1) ∙ sym k.2
-one_answer octets text text' (inl h) (inr k) = absurd (accepted_or_faulty-never_both octets h.0 k.0 h.1 k.1)
-one_answer octets text text' (inr h) (inl k) = absurd (accepted_or_faulty-never_both octets k.0 h.0 k.1 h.1)
-one_answer octets text text' (inr h) (inr k) = h.2 ∙ ap fault_text (one_fault octets h.0 k.0 h.1 k.1) ∙ sym k.2
+  one_answer : (octets text text' : List ℕ) → IsAnswerBy shows octets text → IsAnswerBy shows octets text' →
+      text ≡ text'
+  one_answer octets text text' (inl h) (inl k) = h.2 ∙ ap shows (one_reading octets h.0 k.0 h.1 k.1) ∙ sym k.2
+  one_answer octets text text' (inl h) (inr k) = absurd (accepted_or_faulty-never_both octets h.0 k.0 h.1 k.1)
+  one_answer octets text text' (inr h) (inl k) = absurd (accepted_or_faulty-never_both octets k.0 h.0 k.1 h.1)
+  one_answer octets text text' (inr h) (inr k) = h.2 ∙ ap fault_text (one_fault octets h.0 k.0 h.1 k.1) ∙ sym k.2
 
-one_of_line : (line text text' : List ℕ) → AnswersHex line text → AnswersHex line text' → text ≡ text'
-one_of_line line text text' (octets, is, is_answer) (octets', is', is_answer') =
-    let same : octets ≡ octets' = cc (is, is') in
-    one_answer octets text text' is_answer (subst (λ o. IsAnswer o text') (sym same) is_answer')
+  one_of_line : (line text text' : List ℕ) → AnswersHexBy shows line text → AnswersHexBy shows line text' → text ≡ text'
+  one_of_line line text text' (octets, is, is_answer) (octets', is', is_answer') =
+      let same : octets ≡ octets' = cc (is, is') in
+      one_answer octets text text' is_answer (subst (λ o. IsAnswerBy shows o text') (sym same) is_answer')
 
-never_both : (line text : List ℕ) (fault : LineFault) → IsNotHex line fault → AnswersHex line text → ⊥
-never_both line text fault (same, is_err) (octets, is, is_answer) = let failed = rw is at is_err in cc
+  never_both : (line text : List ℕ) (fault : LineFault) → IsNotHex line fault → AnswersHexBy shows line text → ⊥
+  never_both line text fault (same, is_err) (octets, is, is_answer) = let failed = rw is at is_err in cc
 
-unique : IsUnique {S = Unit {0}} answers_alone IsNotHex
-unique = record {
-  answer = λ state next next' line text text' h k. (one_of_line line text text' h k, refl);
-  fault = λ line fault fault' h k. h.0 ∙ sym k.0;
-  never_both = λ state next line text fault h k. never_both line text fault h k;
-}
+  unique : IsUnique {S = Unit {0}} answers_alone IsNotHex
+  unique = record {
+    answer = λ state next next' line text text' h k. (one_of_line line text text' h k, refl);
+    fault = λ line fault fault' h k. h.0 ∙ sym k.0;
+    never_both = λ state next line text fault h k. never_both line text fault h k;
+  }
 
--- ---- The text of a check
+  -- ---- The text of a check
 
-pub check_text_exists : (most n : ℕ) (lines : List (List ℕ)) → (text : List ℕ) × (end : Option (ℕ × LineFault))
-    × IsCheckText most n lines text end
-check_text_exists most n lines = let found = text_exists most answers_alone IsNotHex total n tt lines in
-    (found.0, found.1, found.2.1)
+  pub check_text_exists : (most n : ℕ) (lines : List (List ℕ)) → (text : List ℕ) × (end : Option (ℕ × LineFault))
+      × IsCheckTextBy shows most n lines text end
+  check_text_exists most n lines = let found = text_exists most answers_alone IsNotHex total n tt lines in
+      (found.0, found.1, found.2.1)
 
-pub one_check_text : (most n : ℕ) (lines : List (List ℕ)) (text text' : List ℕ) (end end' : Option (ℕ × LineFault))
-    → IsCheckText most n lines text end → IsCheckText most n lines text' end' → (text ≡ text') × (end ≡ end')
-one_check_text most n lines text text' end end' h k = one_text most answers_alone IsNotHex unique n tt tt tt lines text
-    text' end end' h k
+  pub one_check_text : (most n : ℕ) (lines : List (List ℕ)) (text text' : List ℕ) (end end' : Option (ℕ × LineFault))
+      → IsCheckTextBy shows most n lines text end → IsCheckTextBy shows most n lines text' end' →
+      (text ≡ text') × (end ≡ end')
+  one_check_text most n lines text text' end end' h k = one_text most answers_alone IsNotHex unique n tt tt tt lines
+      text
+      text' end end' h k
 
-pub check_text_continues : (most : ℕ) → Continues (IsCheckText most 1)
-check_text_continues most lines others text texts =
-    let found = text_continues most answers_alone IsNotHex total 1 tt lines others text (tt, texts) in
-    (found.0, found.1, found.2.1)
+  pub check_text_continues : (most : ℕ) → Continues (IsCheckTextBy shows most 1)
+  check_text_continues most lines others text texts =
+      let found = text_continues most answers_alone IsNotHex total 1 tt lines others text (tt, texts) in
+      (found.0, found.1, found.2.1)
 
--- What an answerer of single lines writes is the text of a check.
-IsCheckText-from : {S : Type 0} (most n : ℕ) (state : S) (lines : List (List ℕ)) (text : List ℕ)
-    (end : Option (ℕ × LineFault))
-    → IsTextFrom {S = S} most answers_alone IsNotHex n state lines text end → IsCheckText most n lines text end
-IsCheckText-from {S} most n state lines text end (last, texts) =
-    (IsTextBy-shown {S = S} {T = Unit {0}} most answers_alone answers_alone IsNotHex (λ shown s. Unit {0})
-    (λ s next shown line answer shows h. (tt, tt, h))
-    n state last tt lines text end tt texts).2
+  -- What an answerer of single lines writes is the text of a check.
+  IsCheckText-from : {S : Type 0} (most n : ℕ) (state : S) (lines : List (List ℕ)) (text : List ℕ)
+      (end : Option (ℕ × LineFault))
+      → IsTextFrom {S = S} most answers_alone IsNotHex n state lines text end →
+      IsCheckTextBy shows most n lines text end
+  IsCheckText-from {S} most n state lines text end (last, texts) =
+      (IsTextBy-shown {S = S} {T = Unit {0}} most answers_alone answers_alone IsNotHex (λ shown s. Unit {0})
+      (λ s next shown line answer same h. (tt, tt, h))
+      n state last tt lines text end tt texts).2
 
--- And so what it leaves is what a check leaves.
-pub check_leaves : {S A : Type 0} (most : ℕ) (state : S) (r : Result A TextFault)
-    (remaining held holds left : Option (List ℕ))
-    → Writes remaining held holds (RunLeaves (IsTextFrom {S = S} most answers_alone IsNotHex 1 state) r left) →
-    Writes remaining held holds (RunLeaves (IsCheckText most 1) r left)
-check_leaves {S} most state r remaining held holds left writes =
-    let IsText = IsTextFrom {S = S} most answers_alone IsNotHex 1 state in
-    Writes-weaker remaining held holds (RunLeaves IsText r left) (RunLeaves (IsCheckText most 1) r left)
-    (RunLeaves-weaker IsText (IsCheckText most 1) (IsCheckText-from most 1 state) r left) writes
+  -- And so what it leaves is what a check leaves.
+  pub check_leaves : {S A : Type 0} (most : ℕ) (state : S) (r : Result A TextFault)
+      (remaining held holds left : Option (List ℕ))
+      → Writes remaining held holds (RunLeaves (IsTextFrom {S = S} most answers_alone IsNotHex 1 state) r left) →
+      Writes remaining held holds (RunLeaves (IsCheckTextBy shows most 1) r left)
+  check_leaves {S} most state r remaining held holds left writes =
+      let IsText = IsTextFrom {S = S} most answers_alone IsNotHex 1 state in
+      Writes-weaker remaining held holds (RunLeaves IsText r left) (RunLeaves (IsCheckTextBy shows most 1) r left)
+      (RunLeaves-weaker IsText (IsCheckTextBy shows most 1) (IsCheckText-from most 1 state) r left) writes

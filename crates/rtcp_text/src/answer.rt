@@ -3,28 +3,31 @@
 use crate::answerer::Answerer;
 use crate::digit_pairs::{DecodeFault, decode};
 use crate::fault::{LineFault, TextFault};
-use crate::text::push_checked;
+use crate::showing::Showing;
+use crate::text::push_shown;
 use std::alloc::{AllocError, Global};
 
 /// Answers each line of hex by itself. The buffer of the octets is kept from line to line.
 #[derive(Drop)]
-pub(crate) struct Checker {
+pub(crate) struct Checker<S> {
     datagram: Vec<u8>,
+    showing: S,
 }
 
-impl Checker {
-    /// A checker with an empty buffer.
-    pub(crate) fn new(alloc: Global) -> Self {
+impl<S: Showing> Checker<S> {
+    /// A checker with an empty buffer, which shows datagrams so.
+    pub(crate) fn new(alloc: Global, showing: S) -> Self {
         Checker {
             datagram: Vec::new(alloc),
+            showing,
         }
     }
 }
 
-impl Answerer for Checker {
-    ghost use Rattle.rtcp_text.specs.Check.{AnswersHex, IsNotHex};
+impl<S: Showing> Answerer for Checker<S> {
+    ghost use Rattle.rtcp_text.specs.Check.{AnswersHexBy, IsNotHex};
 
-    ghost answers = { λ before line text after. AnswersHex line text };
+    ghost answers = { λ before line text after. AnswersHexBy S.line line text };
 
     ghost refuses = { IsNotHex };
 
@@ -39,7 +42,7 @@ impl Answerer for Checker {
                 });
             }
         }
-        match push_checked(text, &self.datagram) {
+        match push_shown(text, &self.datagram, &self.showing) {
             Ok(()) => Ok(()),
             Err(AllocError) => Err(TextFault::Memory),
         }

@@ -1,7 +1,7 @@
 //! A check of a text: an answer for each line of hex.
 
 ghost use Rattle.std.specs.Prelude.{◌≡◌, ◌≢◌, ◌≤◌, ◌↔◌, ℕ, Some, None, OnOk};
-ghost use Rattle.rtcp_text.specs.Check.{IsTextOf, IsPrefixOfText, AnswersWhatCame, AnswersLinesBefore, AnswersUpToBlock};
+ghost use Rattle.rtcp_text.specs.Check.{IsTextOf, IsTextOfBy, IsPrefixOfText, IsPrefixOfTextBy, AnswersWhatCame, AnswersLinesBefore, AnswersUpToBlock, ShowsWhatCame, ShowsLinesBefore, ShowsUpToBlock};
 ghost use Rattle.rtcp_text.specs.Counted.{failures_of, inner_of};
 ghost use Rattle.rtcp_text.specs.Lines.{Wrote};
 ghost use Rattle.rtcp_text.specs.declared.fault.LineFault.{LineFault as Fault};
@@ -11,6 +11,7 @@ use crate::blocks::answer_blocks;
 use crate::counted::Counted;
 use crate::fault::TextFault;
 use crate::laws::one_text;
+use crate::showing::{Brief, Showing};
 use rtcp_wire::laws::accepted_or_faulty;
 use std::alloc::Global;
 use std::io::{Read, Write};
@@ -107,5 +108,44 @@ pub fn check_up_to<R: Read, W: Write>(
     // So every input has a text, of which what is written is a prefix, and only one.
     accepted_or_faulty();
     one_text();
-    answer_blocks(alloc, lines, Checker::new(alloc), reader, writer)
+    check_as(alloc, lines, Brief, reader, writer)
+}
+
+/// [`check_up_to`], where accepted datagrams are shown in another way. All else is the same.
+///
+/// # Errors
+///
+/// Those of [`check`].
+pub fn check_as<S: Showing, R: Read, W: Write>(
+    alloc: Global,
+    lines: u32,
+    showing: S,
+    reader: &mut Counted<R>,
+    writer: &mut Counted<W>,
+) -> Result<(), TextFault>
+    requires reader_unfailed { failures_of reader.old ≡ 0 }
+    requires writer_unfailed { failures_of writer.old ≡ 0 }
+
+    // What is written is always a prefix of the text of the whole input.
+    ensures prefix { Wrote R.remaining W.contents reader.old writer.old writer.new (IsPrefixOfTextBy S.line lines) }
+    ensures whole { OnOk result
+        (Wrote R.remaining W.contents reader.old writer.old writer.new (IsTextOfBy S.line lines None)) }
+    ensures refused { (line : ℕ) (fault : Fault) → result ≡ Err (TextFault.Text line fault)
+        → Wrote R.remaining W.contents reader.old writer.old writer.new (IsTextOfBy S.line lines (Some (line, fault))) }
+    ensures read { result ≡ Err TextFault.Read
+        → Wrote R.remaining W.contents reader.old writer.old writer.new
+        (ShowsWhatCame S.line lines (R.remaining (inner_of reader.new))) }
+    ensures memory { result ≡ Err TextFault.Memory
+        → Wrote R.remaining W.contents reader.old writer.old writer.new (ShowsLinesBefore S.line lines) }
+    ensures memory_block { result ≡ Err TextFault.Memory
+        → Wrote R.remaining W.contents reader.old writer.old writer.new
+        (ShowsUpToBlock S.line lines (R.remaining (inner_of reader.new))) }
+
+    // A call failed exactly where the fault says so, and only one.
+    ensures read_failed { (result ≡ Err TextFault.Read) ↔ (failures_of reader.new ≢ 0) }
+    ensures write_failed { (result ≡ Err TextFault.Write) ↔ (failures_of writer.new ≢ 0) }
+    ensures read_once { failures_of reader.new ≤ 1 }
+    ensures write_once { failures_of writer.new ≤ 1 }
+{
+    answer_blocks(alloc, lines, Checker::new(alloc, showing), reader, writer)
 }

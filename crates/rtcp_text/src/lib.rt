@@ -33,8 +33,10 @@ mod player;
 pub mod record;
 pub mod replay;
 pub mod settings_fields;
+mod showing;
 pub mod text;
 mod writing;
 
 pub use counted::Counted;
 pub use fault::{LineFault, ReplayFault, TextFault, config_name};
+pub use showing::Showing;

@@ -8,7 +8,7 @@
 
 ghost use Rattle.std.specs.Prelude.{◌≡◌, ◌++◌, ℕ, List, OnOk};
 ghost use Rattle.rtcp_wire.specs.Views.{packet_value};
-ghost use Rattle.rtcp_text.specs.Check.{IsAnswer};
+ghost use Rattle.rtcp_text.specs.Check.{IsAnswer, IsAnswerBy};
 ghost use Rattle.rtcp_text.specs.Text.{packet_text, accepted_text, reason_text, fault_text, fault_words};
 
 mod answers;
@@ -22,6 +22,7 @@ mod reports;
 mod settings;
 mod tail;
 
+use crate::showing::{Brief, Showing};
 pub(crate) use answers::push_reply;
 pub use answers::{push_answer, push_start};
 use descriptions::push_description;
@@ -37,8 +38,20 @@ use std::alloc::AllocError;
 pub fn push_checked(out: &mut Vec<u8>, datagram: &[u8]) -> Result<(), AllocError>
     ensures { OnOk result ((text : List ℕ) × IsAnswer datagram.now text × (out.new.items ≡ out.old.items ++ text)) }
 {
+    push_shown(out, datagram, &Brief)
+}
+
+/// Appends the line that answers a datagram: its packets as they are shown, or its first fault.
+pub(crate) fn push_shown<S: Showing>(
+    out: &mut Vec<u8>,
+    datagram: &[u8],
+    showing: &S,
+) -> Result<(), AllocError>
+    ensures { OnOk result ((text : List ℕ) × IsAnswerBy S.line datagram.now text
+        × (out.new.items ≡ out.old.items ++ text)) }
+{
     match Compound::read(datagram) {
-        Ok(compound) => push_accepted(out, &compound),
+        Ok(compound) => showing.push_line(out, &compound),
         Err(fault) => push_fault(out, &fault),
     }
 }
