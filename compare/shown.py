@@ -1,5 +1,5 @@
-"""A plain model of what `rtcp listen --show` writes to standard error, by the record of the session, written from
-docs/FORMATS.md and docs/PROTOCOL.md alone."""
+"""A plain model of what `rtcp listen --show` writes to standard error, by the record of the session, and of the text of
+`rtcp check --plain`, written from docs/FORMATS.md and docs/PROTOCOL.md alone."""
 import re
 
 import decoder
@@ -35,6 +35,70 @@ def blocks_of(kind, count, body):
         return None, []
     return body[:4], [body[start + BLOCK * i:start + BLOCK * (i + 1)] for i in range(count)]
 
+
+# ---- Plain words
+
+ITEMS = {1: "cname", 2: "name", 3: "email", 4: "phone", 5: "loc", 6: "tool", 7: "note", 8: "priv"}
+
+
+def number(octets):
+    return int.from_bytes(octets, "big")
+
+
+def seconds(fixed, bits):
+    """Seconds as a fixed-point number with so many bits after the point, rounded down to microseconds."""
+    whole, part = divmod(fixed, 1 << bits)
+    return f"{whole}.{part * SECOND >> bits:06}s"
+
+
+def quoted(octets):
+    return f'"{escaped(octets)}"'
+
+
+def plain_block(block, rate):
+    tenths = block[4] * 1000 // 256
+    jitter, last_report = number(block[12:16]), number(block[16:20])
+    return (f" block about={block[:4].hex()} loss={tenths // 10}.{tenths % 10}%"
+            f" lost={int.from_bytes(block[5:8], 'big', signed=True)} highest={number(block[8:12])}"
+            f" jitter={f'{jitter}units' if rate is None else time_text(jitter * SECOND // rate)}"
+            f" lsr={seconds(last_report, 16) if last_report else 'none'} dlsr={seconds(number(block[20:24]), 16)}")
+
+
+def plain_report(kind, count, body, rate):
+    end = 24 if kind == 200 else 4
+    sent = (f" ntp={seconds(number(body[4:12]), 32)} rtp={number(body[12:16])} packets={number(body[16:20])}"
+            f" octets={number(body[20:24])}") if kind == 200 else ""
+    blocks = "".join(plain_block(block, rate) for block in blocks_of(kind, count, body)[1])
+    size = len(body) - end - BLOCK * count
+    extension = f" extension={size}" if size else ""
+    return f"{'SR' if kind == 200 else 'RR'} ssrc={body[:4].hex()}{sent}{blocks}{extension}"
+
+
+def plain_packet(kind, count, body, rate):
+    if kind in (200, 201):
+        return plain_report(kind, count, body, rate)
+    if kind == 202:
+        items = lambda texts: "".join(f" {ITEMS.get(item, f'item{item}')}={quoted(text)}" for item, text in texts)
+        chunks = decoder.description_chunks(body, count)
+        return "SDES" + "".join(f" ssrc={source.hex()}{items(texts)}" for source, texts in chunks)
+    if kind == 203:
+        reason = body[4 * count:]
+        text = f" reason={quoted(reason[1:1 + reason[0]])}" if reason else ""
+        return "BYE" + "".join(f" ssrc={body[4 * i:4 * i + 4].hex()}" for i in range(count)) + text
+    if kind == 204:
+        return f"APP ssrc={body[:4].hex()} subtype={count} name={quoted(body[4:8])} data={len(body) - 8}"
+    return f"OTHER type={kind} count={count} body={len(body)}"
+
+
+def plain_answer(octets, rate=None):
+    """The line of `rtcp check --plain` for a datagram, or of a session whose clock has so many units a second."""
+    answer = decoder.answer(octets)
+    if not answer.startswith("ok "):
+        return answer
+    return "ok " + " ".join(plain_packet(*packet, rate) for packet in decoder.packets(octets))
+
+
+# ---- A session
 
 class Shown:
     """A session of `rtcp listen` with these options of a participant, whose compounds go to this peer."""
@@ -76,7 +140,6 @@ class Shown:
     def note(self, moment, octets):
         """Keeps CNAMEs and round trips of the sources that are listed."""
         arrived = participant.ntp_timestamp(self.participant.options["ntp"], moment) >> 16
-        number = lambda octets: int.from_bytes(octets, "big")
         for kind, count, body in decoder.packets(octets):
             reporter, blocks = blocks_of(kind, count, body)
             for block in blocks:

@@ -1,5 +1,5 @@
 -- What the options that configure a participant and those of `rtcp replay` say, and the first that is refused.
-use Rattle.std.specs.Prelude.{◌≡◌, ℕ, ◌/◌, ◌^◌, ◌-◌, nat_le, min, List, [], ◌∷◌, ◌++◌, length, map, if◌then◌else◌, Option, Some, None, option_map, option_and_then, unwrap_or, Result, Ok, Err, codes}
+use Rattle.std.specs.Prelude.{◌≡◌, ℕ, ◌/◌, ◌^◌, ◌-◌, Bool, true, false, nat_le, min, List, [], ◌∷◌, ◌++◌, length, map, if◌then◌else◌, Option, Some, None, option_map, option_and_then, unwrap_or, Result, Ok, Err, codes}
 use Rattle.std.specs.Borrow.{Bor}
 use Rattle.std.specs.Int.{w32, w64}
 use Rattle.std.specs.Option.{ok_or}
@@ -10,7 +10,7 @@ use Rattle.rtcp_engine.specs.Setups.{ClockValue, Setup}
 use Rattle.rtcp_engine.specs.Views.{setup_of}
 use Rattle.rtcp_command.specs.declared.options.Options.{Options}
 use Rattle.rtcp_command.specs.declared.orders.TextOrder.{TextOrder}
-use Rattle.rtcp_command.specs.declared.orders.TextOrder.TheVariants.{Check, Replay}
+use Rattle.rtcp_command.specs.declared.orders.TextOrder.TheVariants.{Check, CheckPlain, Replay}
 use Rattle.rtcp_command.specs.declared.orders.OrderFault.{OrderFault}
 use Rattle.rtcp_command.specs.declared.orders.OrderFault.TheVariants.{Clap, Option as BadOption, Memory}
 use Rattle.rtcp_text.specs.Numerals.{decimal_in, hex_in, hex_text_in}
@@ -207,14 +207,16 @@ replay_in texts word lines = do
 abbrev pub IsReplayOrder : Result TextOrder OrderFault → Result (Setup × ℕ × ℕ) (List ℕ) → Type 0
 IsReplayOrder (Ok (Replay config word lines)) expected = expected ≡ Ok (setup_of config, word, lines)
 IsReplayOrder (Ok (Check lines)) expected = ⊥
+IsReplayOrder (Ok (CheckPlain lines)) expected = ⊥
 IsReplayOrder (Err (BadOption name)) expected = expected ≡ Err name.now
 IsReplayOrder (Err (Clap text)) expected = ⊥
 IsReplayOrder (Err Memory) expected = ⊥
 
--- The number of lines is this order's, or refused.
-abbrev pub IsCheckOrder : Result TextOrder OrderFault → Option ℕ → Type 0
-IsCheckOrder (Ok (Check lines)) expected = expected ≡ Some lines
-IsCheckOrder (Ok (Replay config word lines)) expected = ⊥
-IsCheckOrder (Err (BadOption name)) expected = (expected ≡ None) × (name.now ≡ codes "lines")
-IsCheckOrder (Err (Clap text)) expected = ⊥
-IsCheckOrder (Err Memory) expected = ⊥
+-- The number of lines is this order's, or refused; and so is whether plain words are asked for.
+abbrev pub IsCheckOrder : Result TextOrder OrderFault → (plain : Bool) → Option ℕ → Type 0
+IsCheckOrder (Ok (Check lines)) plain expected = (expected ≡ Some lines) × (plain ≡ false)
+IsCheckOrder (Ok (CheckPlain lines)) plain expected = (expected ≡ Some lines) × (plain ≡ true)
+IsCheckOrder (Ok (Replay config word lines)) plain expected = ⊥
+IsCheckOrder (Err (BadOption name)) plain expected = (expected ≡ None) × (name.now ≡ codes "lines")
+IsCheckOrder (Err (Clap text)) plain expected = ⊥
+IsCheckOrder (Err Memory) plain expected = ⊥

@@ -1,21 +1,24 @@
 -- What a run over text writes, by its order.
-use Rattle.std.specs.Prelude.{◌≡◌, ℕ, List, Option, Some}
+use Rattle.std.specs.Prelude.{◌≡◌, ℕ, List, Option, Some, None}
 use Rattle.rtcp_engine.specs.declared.config.ConfigError.{ConfigError}
 use Rattle.rtcp_engine.specs.Refused.{error_in}
 use Rattle.rtcp_engine.specs.Taken.{begun}
 use Rattle.rtcp_engine.specs.Views.{setup_of}
 use Rattle.rtcp_text.specs.declared.fault.LineFault.{LineFault}
 use Rattle.rtcp_command.specs.declared.orders.TextOrder.{TextOrder}
-use Rattle.rtcp_command.specs.declared.orders.TextOrder.TheVariants.{Check, Replay}
-use Rattle.rtcp_text.specs.Check.{IsTextOf}
+use Rattle.rtcp_command.specs.declared.orders.TextOrder.TheVariants.{Check, CheckPlain, Replay}
+use Rattle.rtcp_plain.specs.Plain.{plain_text}
+use Rattle.rtcp_text.specs.Check.{IsTextOf, IsTextOfBy}
 use Rattle.rtcp_text.specs.Replay.{IsSessionOf}
 
 -- the whole text that an order gives for an input, with its end
 abbrev pub IsTextOfOrder : TextOrder → Option (ℕ × LineFault) → List ℕ → List ℕ → Type 0
 IsTextOfOrder (Check lines) end = IsTextOf lines end
+IsTextOfOrder (CheckPlain lines) end = IsTextOfBy (plain_text None) lines end
 IsTextOfOrder (Replay config word lines) end = IsSessionOf lines (begun (setup_of config) word) end
 
 -- The order has a configuration that is refused so.
 abbrev pub RefusesConfig : TextOrder → ConfigError → Type 0
 RefusesConfig (Check lines) error = ⊥
+RefusesConfig (CheckPlain lines) error = ⊥
 RefusesConfig (Replay config word lines) error = error_in (setup_of config) ≡ Some error

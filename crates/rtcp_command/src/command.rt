@@ -10,6 +10,7 @@ ghost use Rattle.rtcp_text.specs.declared.fault.LineFault.{LineFault as Fault};
 
 use crate::fault::{RunFault, fail};
 use crate::orders::TextOrder;
+use rtcp_plain::check_plain;
 use rtcp_text::Counted;
 use rtcp_text::check::check_up_to;
 use rtcp_text::replay::replay_up_to;
@@ -50,7 +51,7 @@ pub fn command<R: Read + Drop, W: Write + Drop, F: Write>(
 ///
 /// # Errors
 ///
-/// Those of [`check_up_to`] or [`replay_up_to`], and [`RunFault::Write`] where the flush fails, whatever failed before.
+/// Those of [`check_up_to`], [`check_plain`] or [`replay_up_to`], and [`RunFault::Write`] where the flush fails, whatever failed before.
 fn run<R: Read, W: Write>(
     alloc: Global,
     order: TextOrder,
@@ -84,6 +85,11 @@ fn run<R: Read, W: Write>(
             lines,
         } => {
             let outcome = replay_up_to(alloc, lines, reader, writer, config, word);
+            flush(writer)?;
+            outcome?;
+        }
+        TextOrder::CheckPlain { lines } => {
+            let outcome = check_plain(alloc, lines, reader, writer);
             flush(writer)?;
             outcome?;
         }

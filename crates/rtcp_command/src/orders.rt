@@ -20,6 +20,11 @@ pub enum TextOrder {
         /// The most lines that are answered, at least 1.
         lines: u32,
     },
+    /// Shows what each datagram is, in plain words.
+    CheckPlain {
+        /// The most lines that are answered, at least 1.
+        lines: u32,
+    },
     /// Shows what a participant answers to each event.
     Replay {
         /// How the participant is configured. Nothing of it was tested against the ranges of a configuration.

@@ -1,10 +1,11 @@
 //! The subcommand `check` of the command line.
 
 ghost use Rattle.std.specs.Prelude.{codes};
+ghost use Rattle.std.specs.Str.{bytes_eq};
 ghost use Rattle.clap.specs.Matches.{found_of, first_value};
 ghost use Rattle.rtcp_command.specs.Options.{IsCheckOrder, lines_in, text_found};
 
-use super::options::{LINES, given, with_options};
+use super::options::{Absent, LINES, Row, given, with_options};
 use crate::options::read_lines;
 use crate::orders::{OrderFault, TextOrder};
 use clap::{ArgMatches, Command};
@@ -26,16 +27,24 @@ offset of the packet that has it.
     ok RR(11223344,[],0) SDES([11223344{1=616263}])
     F2 Version at 8
 
+With --plain the packets are in plain words: losses in per cent, times in seconds, texts as
+text, the jitter of report blocks in units of the RTP timestamp.
+
+    ok RR ssrc=11223344 SDES ssrc=11223344 cname=\"abc\"
+
 A line of more than 131200 characters, a line after the first N of --lines and a line that is
 not hex end the run: the number of the line and its fault are written to standard error.
 
 The status is 0 if every line was answered, 2 if the command line, an option or a line of the
 text was refused, and 1 if reading, writing or memory failed.";
 
+/// The option of plain words.
+const PLAIN: Row = ("plain", "", Absent::IsFlag, "Show datagrams in plain words");
+
 /// The subcommand, as `clap` reads it.
 pub(super) fn subcommand<'a>(alloc: Global) -> Result<Command<'a>, AllocError> {
     let command = Command::new(alloc, "check").about(ABOUT).long_about(LONG);
-    with_options(alloc, command, &[LINES])
+    with_options(alloc, command, &[LINES, PLAIN])
 }
 
 /// What the words after `check` ask for.
@@ -44,9 +53,12 @@ pub(super) fn subcommand<'a>(alloc: Global) -> Result<Command<'a>, AllocError> {
 ///
 /// [`OrderFault::Option`] where the number of lines is refused.
 pub(super) fn order(matches: &ArgMatches<'_>) -> Result<TextOrder, OrderFault>
-    ensures { IsCheckOrder result (lines_in (text_found (first_value (found_of matches.now)) (codes "lines"))) }
+    ensures { IsCheckOrder result
+        (bytes_eq (text_found (first_value (found_of matches.now)) (codes "plain")) (codes "true"))
+        (lines_in (text_found (first_value (found_of matches.now)) (codes "lines"))) }
 {
     match read_lines(given(matches, "lines")) {
+        Some(lines) if given(matches, "plain") == "true" => Ok(TextOrder::CheckPlain { lines }),
         Some(lines) => Ok(TextOrder::Check { lines }),
         None => Err(OrderFault::Option("lines")),
     }

@@ -160,6 +160,33 @@ static COMMAND_LINES: [(&[&str], &str); 7] = [
     ),
 ];
 
+/// Plain words, where they are asked for. A datagram that is refused, and a line that is no hex, end as with `check`.
+#[test]
+fn plain(rt: HostRuntime) -> Result<(), Fail> {
+    let alloc = rt.alloc();
+    let asked = order(alloc, &["rtcp", "check", "--lines", "3", "--plain"]);
+    assert!(rt; matches!(asked, Ok(Order::Text(TextOrder::CheckPlain { lines: 3 }))));
+    let (status, line) = refused(alloc, &["rtcp", "check", "--plain", "--lines", "0"])?;
+    assert_eq!(rt; status, 2);
+    same(&rt, &line, b"option lines\n", "no line");
+    let mut faults = Vec::new(alloc);
+    let mut written = [0; 40];
+    let text = "80c9000100000007\n\nx\n";
+    let check = TextOrder::CheckPlain { lines: 3 };
+    let ended = command(
+        alloc,
+        check,
+        text.as_bytes(),
+        written.as_mut_slice(),
+        &mut faults,
+    );
+    assert_eq!(rt; ended, 2);
+    let want = b"ok RR ssrc=00000007\nF1 Short at 0\n";
+    same(&rt, written.split_at(want.len()).0, want, "plain");
+    same(&rt, &faults, b"line 3: X4 Hex\n", "a line that is no hex");
+    Ok(())
+}
+
 #[test]
 fn orders(rt: HostRuntime) -> Result<(), Fail> {
     let alloc = rt.alloc();

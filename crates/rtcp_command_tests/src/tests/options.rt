@@ -32,7 +32,9 @@ fn replayed(alloc: Global, words: &[&str]) -> Result<(Config, WordAndLines), Fai
             word,
             lines,
         } => Ok((config, WordAndLines { word, lines })),
-        TextOrder::Check { lines: _ } => Err("it is a check")?,
+        TextOrder::Check { lines: _ } | TextOrder::CheckPlain { lines: _ } => {
+            Err("it is a check")?
+        }
     }
 }
 

@@ -40,3 +40,18 @@ returns-in_ok-outcome-in-Replay-clause-whole g c =
     subst (λ o. Wrote g.R.Read.remaining g.W.Write.contents c.args.reader.now c.args.writer.now
     c.flush-in-Replay.new.writer (IsTextOfOrder o None)) (sym c.in-Replay.is)
     (Writes-kept _ _ _ _ _ c.flush-in-Replay.ensures.kept c.in_ok-outcome-in-Replay.ensures.whole)
+
+pub returns-in_err-outcome-in-CheckPlain-clause-refused : goal.returns-in_err-outcome-in-CheckPlain-clause-refused
+returns-in_err-outcome-in-CheckPlain-clause-refused g c = λ line fault is.
+    let found = check_refused c.in_err-outcome-in-CheckPlain.field-0.0 line fault
+    (sym (rw is at c.from_residual-in_err-outcome-in-CheckPlain.ensures.1)) in
+    subst (λ o. Wrote g.R.Read.remaining g.W.Write.contents c.args.reader.now c.args.writer.now
+    c.flush-in-CheckPlain.new.writer (IsTextOfOrder o (Some (line, fault)))) (sym c.in-CheckPlain.is)
+    (Writes-kept _ _ _ _ _ c.flush-in-CheckPlain.ensures.kept
+    (c.in_err-outcome-in-CheckPlain.ensures.refused line fault (ap Err found)))
+
+pub returns-in_ok-outcome-in-CheckPlain-clause-whole : goal.returns-in_ok-outcome-in-CheckPlain-clause-whole
+returns-in_ok-outcome-in-CheckPlain-clause-whole g c =
+    subst (λ o. Wrote g.R.Read.remaining g.W.Write.contents c.args.reader.now c.args.writer.now
+    c.flush-in-CheckPlain.new.writer (IsTextOfOrder o None)) (sym c.in-CheckPlain.is)
+    (Writes-kept _ _ _ _ _ c.flush-in-CheckPlain.ensures.kept c.in_ok-outcome-in-CheckPlain.ensures.whole)
