@@ -101,13 +101,22 @@ def plain_answer(octets, rate=None):
 # ---- A session
 
 class Shown:
-    """A session of `rtcp listen` with these options of a participant, whose compounds go to this peer."""
+    """A session of `rtcp listen` with these options of a participant, whose compounds go to this peer. In plain words
+    the jitter of report blocks is by the clock of `--rate`, and in units if there is a `--clock`."""
 
-    def __init__(self, options, to):
+    def __init__(self, options, to, is_plain=False):
         self.participant, self.to = participant.Participant(participant.configuration(options)), to
+        rate = None if "--clock" in options else int(options[options.index("--rate") + 1])
+        self.answer = (lambda octets: plain_answer(octets, rate)) if is_plain else decoder.answer
         self.cnames, self.trips = {}, {}  # of the sources that are listed
         self.second, self.last = 0, None
         self.lines = []
+
+    def header(self, rtp, rtcp):
+        """The line before those of the session, with the numbers of where it receives."""
+        options = self.participant.options
+        return (f"session ssrc={self.participant.ssrc:08x} cname={quoted(options['cname'])} rtp={peer_text(rtp)}"
+                f" rtcp={peer_text(rtcp)} peer={peer_text(self.to)}")
 
     def tell(self, line):
         """Tells it a line of the record."""
@@ -116,7 +125,7 @@ class Shown:
         taken, now = answer.startswith("ok "), moment_text(moment)
         if kind == b"rtcp":
             octets = b"" if fields[2] == b"-" else bytes.fromhex(fields[2].decode())
-            text = decoder.answer(octets) if taken else answer
+            text = self.answer(octets) if taken else answer
             self.lines.append(f"{now} in {peer_text(int(fields[0]))} {text}")
         elif not taken:
             self.lines.append(f"{now} " + (f"rtp {peer_text(int(fields[0]))} " if kind == b"rtp" else "") + answer)
@@ -132,7 +141,7 @@ class Shown:
         if changed := re.search(r" ssrc=[0-9a-f]{8}$", answer):
             self.lines.append(now + changed[0])
         if out := re.search(r" out=(?:report|bye):([0-9a-f]+)", answer):
-            self.lines.append(f"{now} out {peer_text(self.to)} {decoder.answer(bytes.fromhex(out[1]))}")
+            self.lines.append(f"{now} out {peer_text(self.to)} {self.answer(bytes.fromhex(out[1]))}")
 
     def listed(self):
         return self.participant.sources if self.participant.is_present() else {}
@@ -178,9 +187,11 @@ class Shown:
             self.lines += [f"{now} {shown[0]}", *shown[1:]]
 
 
-def text_of(options, to, record):
-    """What a session with this record wrote."""
-    shown = Shown(options, to)
+def text_of(options, rtp, rtcp, to, record, is_plain=False):
+    """What a session with this record wrote, where datagrams are shown in plain words or not. `rtp`, `rtcp` and `to`
+    are the numbers of where it receives and sends."""
+    shown = Shown(options, to, is_plain)
+    shown.lines.append(shown.header(rtp, rtcp))
     for line in record.splitlines():
         shown.tell(line)
     return "".join(line + "\n" for line in shown.lines)

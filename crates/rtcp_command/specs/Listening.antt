@@ -27,6 +27,7 @@ pub record LinkTexts : Type 0 where
   pub force : List ℕ
   pub stop : Option (List ℕ)
   pub show : List ℕ
+  pub plain : List ℕ
 
 abbrev pub link_texts_of : LinkOptions → LinkTexts
 link_texts_of options = record {
@@ -40,6 +41,7 @@ link_texts_of options = record {
   force = options.force.now;
   stop = text_given options.stop;
   show = options.show.now;
+  plain = options.plain.now;
 }
 
 -- the texts that a command line gives
@@ -55,6 +57,7 @@ link_texts_found found = record {
   force = text_found found (codes "force");
   stop = found (codes "stop");
   show = text_found found (codes "show");
+  plain = text_found found (codes "plain");
 }
 
 -- what stands for a draw from the system's generator
@@ -120,6 +123,8 @@ pub record Listening : Type 0 where
   pub stop : Option (List ℕ)
   -- whether it is shown while it runs
   pub show : Bool
+  -- whether that is in plain words
+  pub plain : Bool
 
 -- The session, or the name of the first option that is refused.
 abbrev pub listen_in : OptionTexts → LinkTexts → Result Listening (List ℕ)
@@ -146,6 +151,7 @@ listen_in texts link = do
     overwrites = bytes_eq link.force (codes "true");
     stop = link.stop;
     show = bytes_eq link.show (codes "true");
+    plain = bytes_eq link.plain (codes "true");
   })
 
 -- ---- Orders
@@ -167,6 +173,7 @@ listening_of order recording stop = record {
   overwrites = order.overwrites;
   stop = stop;
   show = order.show;
+  plain = order.plain;
 }
 
 -- The options come to this order.

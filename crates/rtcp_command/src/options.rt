@@ -63,6 +63,8 @@ pub(crate) struct LinkOptions<'a> {
     pub(crate) force: &'a str,
     pub(crate) stop: Option<&'a str>,
     pub(crate) show: &'a str,
+    /// Whether datagrams are shown in plain words: `true` or `false`.
+    pub(crate) plain: &'a str,
 }
 
 /// The configuration, the word of the start and the number of lines that the options of `replay` say. Whether a
@@ -158,6 +160,7 @@ fn read_session(
         overwrites: link.force == "true",
         stop: None,
         show: link.show == "true",
+        plain: link.plain == "true",
     })
 }
 

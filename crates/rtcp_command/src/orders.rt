@@ -67,6 +67,8 @@ pub struct ListenOrder {
     pub stop: Option<String>,
     /// Whether the session is shown while it runs.
     pub show: bool,
+    /// Whether datagrams are shown in plain words.
+    pub plain: bool,
 }
 
 /// Why a command line gives no order.

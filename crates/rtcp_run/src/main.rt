@@ -29,7 +29,7 @@ pub use rtcp_serve::{
     Cause, End, Ending, Link, LinkFault, MOST_TURNS, Observed, Observer, Port, Received, Until,
     serve, serve_laws, serve_until,
 };
-use rtcp_show::Watcher;
+use rtcp_show::{Watcher, Wording, push_header};
 use rtcp_text::record::Recorder;
 pub use rtcp_text::{Counted, LineFault, ReplayFault, TextFault, check, replay};
 use rtcp_udp::{BindFault, UdpLink};
@@ -117,8 +117,11 @@ fn run_listen(rt: &HostRuntime, mut order: ListenOrder) -> Result<End, RunFault>
         }),
         None => None,
     };
+    let closing = closing(rt, &order, word)?;
     let watcher = if order.show {
-        Some(Watcher::new(alloc, order.config.ntp_base, order.peer, rt.stderr()))
+        write_header(rt, &order)?;
+        let watcher = Watcher::new(alloc, order.config.ntp_base, order.peer, rt.stderr());
+        Some(watcher.with_wording(wording(&order)))
     } else {
         None
     };
@@ -134,8 +137,49 @@ fn run_listen(rt: &HostRuntime, mut order: ListenOrder) -> Result<End, RunFault>
         MOST_TURNS
     };
     let end = serve_on(Observed { link, observer }, participant, rng, ending, turns);
+    let _ = rt.stderr().write_all(&closing);
     write_end(rt, &end)?;
     Ok(end)
+}
+
+/// Writes the line before those of a session that is shown to standard error. A failed write is ignored.
+///
+/// # Errors
+///
+/// [`RunFault::Memory`] where memory is refused.
+fn write_header(rt: &HostRuntime, order: &ListenOrder) -> Result<(), RunFault> {
+    let mut line = Vec::new(rt.alloc());
+    let (ssrc, cname) = (order.config.ssrc, &order.config.cname);
+    push_header(&mut line, ssrc, cname, order.rtp, order.rtcp, order.peer).map_err(
+        |_| RunFault::Memory,
+    )?;
+    let _ = rt.stderr().write_all(&line);
+    Ok(())
+}
+
+/// What is written to standard error after a session: where it is recorded and shown, the command that plays the record
+/// again, which by then stands far above.
+///
+/// # Errors
+///
+/// [`RunFault::Memory`] where memory is refused.
+fn closing(rt: &HostRuntime, order: &ListenOrder, word: u32) -> Result<Vec<u8>, RunFault> {
+    match &order.recording {
+        Some(file) if order.show => {
+            replay_line(rt.alloc(), &order.config, word, file).map_err(|_| RunFault::Memory)
+        }
+        _ => Ok(Vec::new(rt.alloc())),
+    }
+}
+
+/// How the datagrams of a session are shown. In plain words the jitter of report blocks has the rate of the one clock,
+/// where there is no other.
+fn wording(order: &ListenOrder) -> Wording {
+    match (order.plain, order.config.clocks.is_empty()) {
+        (false, _) => Wording::Brief,
+        (true, true) => Wording::Plain(Some(order.config.rate)),
+        (true, false) => Wording::Plain(None),
+    }
 }
 
 /// A number from the system's generator.

@@ -15,6 +15,10 @@ pub trait Observer {
         answer: &Answer,
         participant: &Participant<T>,
     );
+
+    /// Is called after each compound that the link was asked to send: whether that failed. Where nothing else is said it
+    /// does nothing.
+    fn sent(&mut self, _failed: bool) {}
 }
 
 impl<O: Observer> Observer for Option<O> {
@@ -26,6 +30,12 @@ impl<O: Observer> Observer for Option<O> {
     ) {
         if let Some(observer) = self {
             observer.told(event, answer, participant);
+        }
+    }
+
+    fn sent(&mut self, failed: bool) {
+        if let Some(observer) = self {
+            observer.sent(failed);
         }
     }
 }
@@ -40,10 +50,15 @@ impl<A: Observer, B: Observer> Observer for (A, B) {
         self.0.told(event, answer, participant);
         self.1.told(event, answer, participant);
     }
+
+    fn sent(&mut self, failed: bool) {
+        self.0.sent(failed);
+        self.1.sent(failed);
+    }
 }
 
 /// A link whose session an observer watches. Everything else is left to the link inside, which is told after the
-/// observer.
+/// observer, and sends before the observer is told of it.
 #[derive(Drop)]
 pub struct Observed<L, O> {
     /// The link inside.
@@ -64,7 +79,9 @@ impl<L: Link, O: Observer> Link for Observed<L, O> {
     }
 
     fn send(&mut self, bytes: &[u8]) -> Result<(), LinkFault> {
-        self.link.send(bytes)
+        let sent = self.link.send(bytes);
+        self.observer.sent(sent.is_err());
+        sent
     }
 
     fn told<T: MemberTable>(

@@ -23,3 +23,9 @@ said whole pushed timed cleared moment given rows emptied those empty time space
     end ∙ ap (λ xs. pushed ++ xs) (same ∙ listed ∙ ap (λ xs. xs ++ those) none)
     ∙ ap (λ xs. xs ++ those) (space ∙ ap (λ xs. xs ++ 32 ∷ []) (time ∙ ap (λ xs. xs ++ moment) empty))
     ∙ append_assoc moment (32 ∷ []) those
+
+-- Four parts are written one after the other.
+pub four_parts :
+    (o0 o1 o2 o3 o4 a b c d : List ℕ)
+    → o1 ≡ o0 ++ a → o2 ≡ o1 ++ b → o3 ≡ o2 ++ c → o4 ≡ o3 ++ d → o4 ≡ o0 ++ (a ++ b ++ c ++ d)
+four_parts o0 o1 o2 o3 o4 a b c d h1 h2 h3 h4 = rw (h4, h3, h2, h1) (simp append_assoc)

@@ -1,4 +1,6 @@
 pub mod Numbers
+pub mod Wordings
+pub mod Headers
 pub mod Lines
 pub mod Notes
 pub mod Rows

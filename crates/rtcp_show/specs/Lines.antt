@@ -1,4 +1,5 @@
--- The lines of an event and its answer, as `rtcp listen --show` writes them.
+-- The lines of an event and its answer, as `rtcp listen --show` writes them. `shows` is how the packets of a datagram
+-- are shown.
 use Rattle.std.specs.Prelude.{◌≡◌, ℕ, List, [], ◌∷◌, ◌++◌, Option, Some, None, Ok, Err, codes}
 use Rattle.rtcp_wire.specs.Grammar.{IsAccepted}
 use Rattle.rtcp_wire.specs.Values.{RtcpPacket}
@@ -6,8 +7,8 @@ use Rattle.rtcp_engine.specs.Acts.{EventValue, rtcp_arrived, rtp_arrived, packet
 use Rattle.rtcp_engine.specs.Steps.{OutValue, AnswerValue}
 use Rattle.rtcp_engine.specs.declared.refusal.Refusal.{Refusal}
 use Rattle.rtcp_text.specs.AnswerText.{refusal_text}
-use Rattle.rtcp_text.specs.Check.{IsAnswer}
-use Rattle.rtcp_text.specs.Text.{hex_word}
+use Rattle.rtcp_text.specs.Check.{IsAnswerBy}
+use Rattle.rtcp_text.specs.Text.{accepted_text, hex_word}
 use Rattle.rtcp_show.specs.Numbers.{moment_text, peer_text}
 
 -- ---- Parts
@@ -28,10 +29,11 @@ ReadsAs (rtcp_arrived moment peer word octets) packets = IsAccepted octets packe
 ReadsAs event packets = ⊥
 
 -- An RTCP datagram has the text of `check` where it was taken.
-abbrev pub ShowsRtcp : (moment peer : ℕ) → (octets : List ℕ) → AnswerValue → List ℕ → Type 0
-ShowsRtcp moment peer octets (Ok step) text =
-    (checked : List ℕ) × IsAnswer octets checked × (text ≡ passing_text moment (codes " in ") peer ++ checked)
-ShowsRtcp moment peer octets (Err refusal) text =
+abbrev pub ShowsRtcp : (shows : List RtcpPacket → List ℕ) → (moment peer : ℕ) → (octets : List ℕ) → AnswerValue →
+    List ℕ → Type 0
+ShowsRtcp shows moment peer octets (Ok step) text =
+    (checked : List ℕ) × IsAnswerBy shows octets checked × (text ≡ passing_text moment (codes " in ") peer ++ checked)
+ShowsRtcp shows moment peer octets (Err refusal) text =
     text ≡ passing_text moment (codes " in ") peer ++ refused_text refusal
 
 -- An RTP datagram is shown only where it was refused.
@@ -44,14 +46,14 @@ abbrev pub told_text : (moment : ℕ) → AnswerValue → List ℕ
 told_text moment (Ok step) = []
 told_text moment (Err refusal) = moment_text moment ++ codes " " ++ refused_text refusal
 
-abbrev pub ShowsEvent : EventValue → AnswerValue → List ℕ → Type 0
-ShowsEvent (rtcp_arrived moment peer word octets) answer text = ShowsRtcp moment peer octets answer text
-ShowsEvent (rtp_arrived moment peer word octets) answer text = text ≡ rtp_text moment peer answer
-ShowsEvent (packet_sent moment timestamp octets) answer text = text ≡ told_text moment answer
-ShowsEvent (time_passed moment first_word second_word) answer text = text ≡ told_text moment answer
-ShowsEvent (leave_asked moment word) answer text = text ≡ told_text moment answer
-ShowsEvent (settings_given moment settings) answer text = text ≡ told_text moment answer
-ShowsEvent (forget_asked moment ssrc) answer text = text ≡ told_text moment answer
+abbrev pub ShowsEvent : (shows : List RtcpPacket → List ℕ) → EventValue → AnswerValue → List ℕ → Type 0
+ShowsEvent shows (rtcp_arrived moment peer word octets) answer text = ShowsRtcp shows moment peer octets answer text
+ShowsEvent shows (rtp_arrived moment peer word octets) answer text = text ≡ rtp_text moment peer answer
+ShowsEvent shows (packet_sent moment timestamp octets) answer text = text ≡ told_text moment answer
+ShowsEvent shows (time_passed moment first_word second_word) answer text = text ≡ told_text moment answer
+ShowsEvent shows (leave_asked moment word) answer text = text ≡ told_text moment answer
+ShowsEvent shows (settings_given moment settings) answer text = text ≡ told_text moment answer
+ShowsEvent shows (forget_asked moment ssrc) answer text = text ≡ told_text moment answer
 
 -- ---- What was answered
 
@@ -61,15 +63,20 @@ changed_text moment None = []
 changed_text moment (Some ssrc) = moment_text moment ++ codes " ssrc=" ++ hex_word ssrc ++ 10 ∷ []
 
 -- The compound that goes out, if there is one, has the text of `check`. `to` is where it goes.
-abbrev pub ShowsOut : (moment to : ℕ) → Option OutValue → List ℕ → Type 0
-ShowsOut moment to None text = text ≡ []
-ShowsOut moment to (Some out) text =
-    (checked : List ℕ) × IsAnswer out.octets checked × (text ≡ passing_text moment (codes " out ") to ++ checked)
+abbrev pub ShowsOut : (shows : List RtcpPacket → List ℕ) → (moment to : ℕ) → Option OutValue → List ℕ → Type 0
+ShowsOut shows moment to None text = text ≡ []
+ShowsOut shows moment to (Some out) text =
+    (checked : List ℕ) × IsAnswerBy shows out.octets checked
+    × (text ≡ passing_text moment (codes " out ") to ++ checked)
 
-abbrev pub ShowsAnswer : (moment to : ℕ) → AnswerValue → List ℕ → Type 0
-ShowsAnswer moment to (Ok step) text =
-    (sent : List ℕ) × ShowsOut moment to step.out sent × (text ≡ changed_text moment step.changed ++ sent)
-ShowsAnswer moment to (Err refusal) text = text ≡ []
+abbrev pub ShowsAnswer : (shows : List RtcpPacket → List ℕ) → (moment to : ℕ) → AnswerValue → List ℕ → Type 0
+ShowsAnswer shows moment to (Ok step) text =
+    (sent : List ℕ) × ShowsOut shows moment to step.out sent × (text ≡ changed_text moment step.changed ++ sent)
+ShowsAnswer shows moment to (Err refusal) text = text ≡ []
+
+-- a compound that went out, and was not handed to the network
+abbrev pub unsent_text : (moment to : ℕ) → List ℕ
+unsent_text moment to = moment_text moment ++ codes " unsent " ++ peer_text to ++ 10 ∷ []
 
 -- ---- Both
 
@@ -83,7 +90,11 @@ moment_of_event (settings_given moment settings) = moment
 moment_of_event (forget_asked moment ssrc) = moment
 
 -- what came, and then what was answered
+abbrev pub ShowsBothBy : (shows : List RtcpPacket → List ℕ) → (to : ℕ) → EventValue → AnswerValue → List ℕ → Type 0
+ShowsBothBy shows to event answer text =
+    (came : List ℕ) × ShowsEvent shows event answer came
+    × ((answered : List ℕ) × ShowsAnswer shows (moment_of_event event) to answer answered × (text ≡ came ++ answered))
+
+-- the same, with the text of `check`
 abbrev pub ShowsBoth : (to : ℕ) → EventValue → AnswerValue → List ℕ → Type 0
-ShowsBoth to event answer text =
-    (came : List ℕ) × ShowsEvent event answer came
-    × ((answered : List ℕ) × ShowsAnswer (moment_of_event event) to answer answered × (text ≡ came ++ answered))
+ShowsBoth to event answer text = ShowsBothBy accepted_text to event answer text

@@ -1,7 +1,10 @@
 -- Numbers and addresses, as `rtcp listen --show` writes them.
-use Rattle.std.specs.Prelude.{ℕ, ◌+◌, ◌/◌, ◌%◌, ◌^◌, List, ◌++◌, drop, codes}
+use Rattle.std.specs.Prelude.{ℕ, ◌+◌, ◌*◌, ◌/◌, ◌%◌, ◌^◌, List, ◌++◌, drop, codes}
 use Rattle.std.specs.Fmt.{decimal}
+use Rattle.std.specs.Net.Addr.{ipv4_bits}
+use Rattle.std.specs.Net.Socket.{v4_ip, v4_port}
 use Rattle.std.specs.Net.Text.{dotted_text}
+use Rattle.std.specs.declared.net.socket_addr.SocketAddrV4.{SocketAddrV4}
 
 -- Units, a point, and the rest with as many digits as the unit has zeros: the digits of the unit and the rest, without
 -- the first.
@@ -11,6 +14,10 @@ fixed_text unit number = decimal (number / unit) ++ codes "." ++ drop 1 (decimal
 -- a moment of so many microseconds, in seconds
 abbrev pub moment_text : ℕ → List ℕ
 moment_text moment = fixed_text 1000000 moment
+
+-- the number of an address and a port
+abbrev pub number_of_endpoint : SocketAddrV4 → ℕ
+number_of_endpoint endpoint = ipv4_bits (v4_ip endpoint) * 65536 + v4_port endpoint
 
 -- The number of a peer is its IPv4 address times 65,536, plus its port.
 abbrev pub peer_text : ℕ → List ℕ

@@ -10,13 +10,17 @@
 //! `specs/` defines the texts: those of an event and its answer (`Lines`), and the row of a source (`Rows`).
 #![tactic(auto)]
 
+mod header;
 mod lines;
 mod notes;
 mod numbers;
 mod rows;
 mod watcher;
+mod wording;
 
+pub use header::push_header;
 pub use lines::push_lines;
 pub use notes::Note;
 pub use rows::push_row;
 pub use watcher::Watcher;
+pub use wording::Wording;

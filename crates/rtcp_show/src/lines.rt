@@ -3,13 +3,15 @@
 ghost use Rattle.std.specs.Prelude.{◌≡◌, ◌++◌, List, ℕ, IfSome, OnOk, option_map};
 ghost use Rattle.rtcp_wire.specs.Grammar.{IsAccepted};
 ghost use Rattle.rtcp_engine.specs.Views.{answer_value, event_value, out_value, step_value};
-ghost use Rattle.rtcp_text.specs.Check.{IsAnswer};
-ghost use Rattle.rtcp_show.specs.Lines.{ReadsAs, ShowsAnswer, ShowsBoth, ShowsEvent, ShowsOut, ShowsRtcp, changed_text, moment_of_event as moment_in, passing_text, refused_text, rtp_text, told_text};
+ghost use Rattle.rtcp_text.specs.Check.{IsAnswerBy};
+ghost use Rattle.rtcp_show.specs.Wordings.{shown_in};
+ghost use Rattle.rtcp_show.specs.Lines.{ReadsAs, ShowsAnswer, ShowsBoth, ShowsBothBy, ShowsEvent, ShowsOut, ShowsRtcp, changed_text, moment_of_event as moment_in, passing_text, refused_text, rtp_text, told_text, unsent_text};
 
 use crate::numbers::{push_moment, push_peer};
+use crate::wording::{Wording, push_compound, push_octets};
 use rtcp_engine::{Answer, Event, Out, Refusal};
 use rtcp_text::text::digits::push_word;
-use rtcp_text::text::{push_accepted, push_answer, push_checked};
+use rtcp_text::text::push_answer;
 use rtcp_wire::Compound;
 use std::alloc::AllocError;
 
@@ -35,23 +37,24 @@ pub fn push_lines(
     ensures { OnOk result ((text : List ℕ) × ShowsBoth to (event_value event.now) (answer_value answer.now) text
         × (out.new.items ≡ out.old.items ++ text)) }
 {
-    push_read_lines(out, to, event, answer, &None)
+    push_read_lines(out, Wording::Brief, to, event, answer, &None)
 }
 
-/// The same, with the compound of the datagram where it is read already.
+/// The same in a wording, with the compound of the datagram where it is read already.
 pub(crate) fn push_read_lines(
     out: &mut Vec<u8>,
+    wording: Wording,
     to: u64,
     event: &Event<'_>,
     answer: &Answer,
     compound: &Option<Compound<'_>>,
 ) -> Result<(), AllocError>
     requires { IfSome compound.now (ReadsAs (event_value event.now)) }
-    ensures { OnOk result ((text : List ℕ) × ShowsBoth to (event_value event.now) (answer_value answer.now) text
+    ensures { OnOk result ((text : List ℕ) × ShowsBothBy (shown_in wording) to (event_value event.now) (answer_value answer.now) text
         × (out.new.items ≡ out.old.items ++ text)) }
 {
-    push_event(out, event, answer, compound)?;
-    push_answered(out, moment_of(event), to, answer)
+    push_event(out, wording, event, answer, compound)?;
+    push_answered(out, wording, moment_of(event), to, answer)
 }
 
 /// The compound of an event, where it brought a datagram that was taken.
@@ -82,12 +85,13 @@ pub(crate) fn moment_of(event: &Event<'_>) -> u64
 /// Appends what is shown of an event.
 fn push_event(
     out: &mut Vec<u8>,
+    wording: Wording,
     event: &Event<'_>,
     answer: &Answer,
     compound: &Option<Compound<'_>>,
 ) -> Result<(), AllocError>
     requires { IfSome compound.now (ReadsAs (event_value event.now)) }
-    ensures { OnOk result ((text : List ℕ) × ShowsEvent (event_value event.now) (answer_value answer.now) text
+    ensures { OnOk result ((text : List ℕ) × ShowsEvent (shown_in wording) (event_value event.now) (answer_value answer.now) text
         × (out.new.items ≡ out.old.items ++ text)) }
 {
     match event {
@@ -96,7 +100,7 @@ fn push_event(
             peer,
             bytes,
             ..
-        } => push_rtcp(out, *now, *peer, bytes, answer, compound),
+        } => push_rtcp(out, wording, *now, *peer, bytes, answer, compound),
         Event::ArriveRtp { now, peer, .. } => push_rtp(out, *now, *peer, answer),
         Event::SentRtp { now, .. }
         | Event::Tick { now, .. }
@@ -109,6 +113,7 @@ fn push_event(
 /// Appends the line of an RTCP datagram.
 fn push_rtcp(
     out: &mut Vec<u8>,
+    wording: Wording,
     now: u64,
     peer: u64,
     bytes: &[u8],
@@ -116,12 +121,12 @@ fn push_rtcp(
     compound: &Option<Compound<'_>>,
 ) -> Result<(), AllocError>
     requires { IfSome compound.now (IsAccepted bytes.now) }
-    ensures { OnOk result ((text : List ℕ) × ShowsRtcp now peer bytes.now (answer_value answer.now) text
+    ensures { OnOk result ((text : List ℕ) × ShowsRtcp (shown_in wording) now peer bytes.now (answer_value answer.now) text
         × (out.new.items ≡ out.old.items ++ text)) }
 {
     push_passing(out, now, b" in ", peer)?;
     match answer {
-        Ok(_) => push_datagram(out, bytes, compound),
+        Ok(_) => push_datagram(out, wording, bytes, compound),
         Err(refusal) => push_refused(out, refusal),
     }
 }
@@ -129,15 +134,16 @@ fn push_rtcp(
 /// Appends the text of `check` of a datagram, by its compound where it is read already.
 fn push_datagram(
     out: &mut Vec<u8>,
+    wording: Wording,
     bytes: &[u8],
     compound: &Option<Compound<'_>>,
 ) -> Result<(), AllocError>
     requires { IfSome compound.now (IsAccepted bytes.now) }
-    ensures { OnOk result ((text : List ℕ) × IsAnswer bytes.now text × (out.new.items ≡ out.old.items ++ text)) }
+    ensures { OnOk result ((text : List ℕ) × IsAnswerBy (shown_in wording) bytes.now text × (out.new.items ≡ out.old.items ++ text)) }
 {
     match compound {
-        Some(compound) => push_accepted(out, compound),
-        None => push_checked(out, bytes),
+        Some(compound) => push_compound(out, compound, wording),
+        None => push_octets(out, bytes, wording),
     }
 }
 
@@ -169,14 +175,20 @@ fn push_told(out: &mut Vec<u8>, now: u64, answer: &Answer) -> Result<(), AllocEr
 }
 
 /// Appends what is shown of an answer.
-fn push_answered(out: &mut Vec<u8>, now: u64, to: u64, answer: &Answer) -> Result<(), AllocError>
-    ensures { OnOk result ((text : List ℕ) × ShowsAnswer now to (answer_value answer.now) text
+fn push_answered(
+    out: &mut Vec<u8>,
+    wording: Wording,
+    now: u64,
+    to: u64,
+    answer: &Answer,
+) -> Result<(), AllocError>
+    ensures { OnOk result ((text : List ℕ) × ShowsAnswer (shown_in wording) now to (answer_value answer.now) text
         × (out.new.items ≡ out.old.items ++ text)) }
 {
     match answer {
         Ok(step) => {
             push_changed(out, now, step.changed)?;
-            push_out(out, now, to, &step.out)
+            push_out(out, wording, now, to, &step.out)
         }
         Err(_) => Ok(()),
     }
@@ -197,17 +209,34 @@ fn push_changed(out: &mut Vec<u8>, now: u64, changed: Option<u32>) -> Result<(),
 }
 
 /// Appends the line of a compound that goes out, where there is one.
-fn push_out(out: &mut Vec<u8>, now: u64, to: u64, sent: &Option<Out>) -> Result<(), AllocError>
-    ensures { OnOk result ((text : List ℕ) × ShowsOut now to (option_map out_value sent.now) text
+fn push_out(
+    out: &mut Vec<u8>,
+    wording: Wording,
+    now: u64,
+    to: u64,
+    sent: &Option<Out>,
+) -> Result<(), AllocError>
+    ensures { OnOk result ((text : List ℕ) × ShowsOut (shown_in wording) now to (option_map out_value sent.now) text
         × (out.new.items ≡ out.old.items ++ text)) }
 {
     match sent {
         Some(sent) => {
             push_passing(out, now, b" out ", to)?;
-            push_checked(out, &sent.bytes)
+            push_octets(out, &sent.bytes, wording)
         }
         None => Ok(()),
     }
+}
+
+/// Appends the line of a compound that was not handed to the network.
+pub(crate) fn push_unsent(out: &mut Vec<u8>, now: u64, to: u64) -> Result<(), AllocError>
+    ensures { OnOk result (out.new.items ≡ out.old.items ++ unsent_text now to) }
+{
+    push_moment(out, now)?;
+    out.extend_from_slice(b" unsent ")?;
+    push_peer(out, to)?;
+    out.push(b'\n')?;
+    Ok(())
 }
 
 /// Appends a moment, a word and a peer.

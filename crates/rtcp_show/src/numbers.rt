@@ -2,11 +2,12 @@
 
 ghost use Rattle.std.specs.Prelude.{◌≡◌, ◌≤◌, ◌++◌, ◌∷◌, [], OnOk};
 ghost use Rattle.std.specs.Fmt.{decimal};
-ghost use Rattle.rtcp_show.specs.Numbers.{fixed_text, moment_text, peer_text};
+ghost use Rattle.rtcp_show.specs.Numbers.{fixed_text, moment_text, number_of_endpoint, peer_text};
 
 use itoa::Buffer;
 use rtcp_text::text::digits::push_decimal;
 use std::alloc::AllocError;
+use std::net::SocketAddrV4;
 
 /// Appends a moment of so many microseconds, in seconds.
 pub(crate) fn push_moment(out: &mut Vec<u8>, moment: u64) -> Result<(), AllocError>
@@ -29,6 +30,13 @@ pub(crate) fn push_fixed(out: &mut Vec<u8>, number: u64, unit: u64) -> Result<()
         Some((_, fraction)) => out.extend_from_slice(fraction),
         None => Ok(()),
     }
+}
+
+/// The number of an address and a port.
+pub(crate) fn number_of_endpoint(endpoint: SocketAddrV4) -> u64
+    ensures { result ≡ number_of_endpoint endpoint }
+{
+    u64::from(endpoint.ip().to_bits()) * 65_536 + u64::from(endpoint.port())
 }
 
 /// Appends the address and the port of a peer, by the number of it.

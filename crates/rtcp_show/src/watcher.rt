@@ -7,12 +7,15 @@ ghost use Rattle.std.specs.Net.Socket.{v4_ip, v4_port};
 ghost use Rattle.rtcp_engine.specs.Histories.{History};
 ghost use Rattle.rtcp_engine.specs.States.{StandsAt};
 ghost use Rattle.rtcp_engine.specs.Views.{answer_value, event_value};
-ghost use Rattle.rtcp_show.specs.Lines.{ReadsAs, ShowsBoth, moment_of_event as moment_in};
+ghost use Rattle.rtcp_show.specs.Wordings.{shown_in};
+ghost use Rattle.rtcp_show.specs.declared.wording.Wording.TheVariants.{Brief};
+ghost use Rattle.rtcp_show.specs.Lines.{ReadsAs, ShowsBothBy, moment_of_event as moment_in, unsent_text};
 
-use crate::lines::{compound_of, moment_of, push_read_lines};
+use crate::lines::{compound_of, moment_of, push_read_lines, push_unsent};
 use crate::notes::Notes;
-use crate::numbers::push_moment;
+use crate::numbers::{number_of_endpoint, push_moment};
 use crate::rows::push_sources;
+use crate::wording::Wording;
 use rtcp_clock::ntp_of;
 use rtcp_engine::{Answer, Event, Participant};
 use rtcp_members::MemberTable;
@@ -34,6 +37,8 @@ pub(crate) struct Terms {
     ntp_base: u64,
     /// The number of the peer to which compounds go.
     to: u64,
+    /// How the packets of datagrams are shown.
+    wording: Wording,
 }
 
 /// Observes a session, and writes its lines to `writer`: those of each event and its answer
@@ -52,6 +57,8 @@ pub struct Watcher<W> {
     next_rows: Vec<u8>,
     /// The last second in which the sources were looked at.
     second: u64,
+    /// The moment of the last event.
+    moment: u64,
 }
 
 impl<W: Drop> Watcher<W> {
@@ -62,13 +69,15 @@ impl<W: Drop> Watcher<W> {
         ensures terms { terms_of result ≡ record {
           ntp_base = ntp_base;
           to = ipv4_bits (v4_ip to) * 65536 + v4_port to;
+          wording = Brief;
         } }
         ensures writer { writer_of result ≡ writer }
     {
         Watcher {
             terms: Terms {
                 ntp_base,
-                to: u64::from(to.ip().to_bits()) * 65_536 + u64::from(to.port()),
+                to: number_of_endpoint(to),
+                wording: Wording::Brief,
             },
             notes: Notes::new(alloc),
             writer,
@@ -76,7 +85,24 @@ impl<W: Drop> Watcher<W> {
             rows: Vec::new(alloc),
             next_rows: Vec::new(alloc),
             second: 0,
+            moment: 0,
         }
+    }
+
+    /// The same watcher, which shows the packets of datagrams in this wording.
+    pub fn with_wording(self, wording: Wording) -> Watcher<W>
+        ensures terms { terms_of result ≡ record {
+          ntp_base = (terms_of self).ntp_base;
+          to = (terms_of self).to;
+          wording = wording;
+        } }
+        ensures writer { writer_of result ≡ writer_of self }
+    {
+        let terms = Terms {
+            wording,
+            ..self.terms
+        };
+        Watcher { terms, ..self }
     }
 }
 
@@ -108,7 +134,7 @@ impl<W: Write> Watcher<W> {
         ensures terms { terms_of self.new ≡ terms_of self.old }
         ensures written { (history : History) → StandsAt participant.now history →
             OnOk result ((lines those : List ℕ)
-            × ShowsBoth (terms_of self.old).to (event_value event.now) (answer_value answer.now) lines
+            × ShowsBothBy (shown_in (terms_of self.old).wording) (terms_of self.old).to (event_value event.now) (answer_value answer.now) lines
             × ShowsThose (moment_in (event_value event.now)) history those
             × Appends (held_by W.contents self.old) (held_by W.contents self.new) (lines ++ those)) }
     {
@@ -126,6 +152,24 @@ impl<W: Write> Watcher<W> {
         }
     }
 
+    /// Writes that the compound of the event before was not handed to the network, at this moment.
+    ///
+    /// # Errors
+    ///
+    /// - [`TextFault::Write`] where a call of the writer fails.
+    /// - [`TextFault::Memory`] where memory is refused.
+    pub fn watch_unsent(&mut self, moment: u64) -> Result<(), TextFault>
+        ensures terms { terms_of self.new ≡ terms_of self.old }
+        ensures written { OnOk result (Appends (held_by W.contents self.old) (held_by W.contents self.new)
+            (unsent_text moment (terms_of self.old).to)) }
+    {
+        self.text.clear();
+        match push_unsent(&mut self.text, moment, self.terms.to) {
+            Ok(()) => self.write(),
+            Err(AllocError) => Err(TextFault::Memory),
+        }
+    }
+
     /// Writes the lines of an event and its answer.
     fn show_event(
         &mut self,
@@ -136,11 +180,19 @@ impl<W: Write> Watcher<W> {
         requires { IfSome compound.now (ReadsAs (event_value event.now)) }
         ensures terms { terms_of self.new ≡ terms_of self.old }
         ensures written { OnOk result ((lines : List ℕ)
-            × ShowsBoth (terms_of self.old).to (event_value event.now) (answer_value answer.now) lines
+            × ShowsBothBy (shown_in (terms_of self.old).wording) (terms_of self.old).to (event_value event.now) (answer_value answer.now) lines
             × Appends (held_by W.contents self.old) (held_by W.contents self.new) lines) }
     {
         self.text.clear();
-        match push_read_lines(&mut self.text, self.terms.to, event, answer, compound) {
+        let terms = self.terms;
+        match push_read_lines(
+            &mut self.text,
+            terms.wording,
+            terms.to,
+            event,
+            answer,
+            compound,
+        ) {
             Ok(()) => self.write(),
             Err(AllocError) => Err(TextFault::Memory),
         }
@@ -217,6 +269,14 @@ impl<W: Write> Observer for Watcher<W> {
         answer: &Answer,
         participant: &Participant<T>,
     ) {
+        self.moment = moment_of(event);
         let _ = self.watch(event, answer, participant);
+    }
+
+    /// Writes that a send failed, at the moment of the event before.
+    fn sent(&mut self, failed: bool) {
+        if failed {
+            let _ = self.watch_unsent(self.moment);
+        }
     }
 }

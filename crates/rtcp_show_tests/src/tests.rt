@@ -5,6 +5,7 @@ use rtcp_engine::{Answer, Config, Out, OutKind, Step};
 use std::process::Abort;
 
 mod example;
+mod header;
 mod lines;
 mod rows;
 mod watching;

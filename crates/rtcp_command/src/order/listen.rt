@@ -80,6 +80,9 @@ A source that is no member has valid=no, or left= and when. What came of its pac
 row if one was counted, the CNAME if one was read, its quotes, backslashes and what is not printed
 as in a string of C; and round-trip= if the source reported on a sender report of this SSRC.
 
+With --plain too, datagrams are shown in the plain words of rtcp check --plain: with --clock the
+jitter of report blocks is in units of the RTP timestamp, and otherwise in milliseconds by --rate.
+
 With --record FILE each event that the participant is told is written to the file as it happens,
 as a line that rtcp replay reads. The command that plays it again is written to standard error
 at the start. A file that is there already is refused without --force.
@@ -88,7 +91,7 @@ The status is 0 at Done and Limit, 2 if the command line, an option or the confi
 refused, and 1 at LinkDown and if a port could not be bound, or writing or memory failed.";
 
 /// The options after those of the participant, in the order in which they are looked at.
-const OWN: [Row; 10] = [
+const OWN: [Row; 11] = [
     (
         "rtp",
         "ADDRESS:PORT",
@@ -149,6 +152,7 @@ const OWN: [Row; 10] = [
         Absent::IsFlag,
         "Show the session on standard error while it runs",
     ),
+    ("plain", "", Absent::IsFlag, "Show datagrams in plain words"),
 ];
 
 /// The subcommand, as `clap` reads it.
@@ -187,5 +191,6 @@ fn link<'a>(matches: &ArgMatches<'a>) -> LinkOptions<'a>
         force: given(matches, "force"),
         stop: matches.get_str("stop"),
         show: given(matches, "show"),
+        plain: given(matches, "plain"),
     }
 }

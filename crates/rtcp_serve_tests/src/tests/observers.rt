@@ -13,6 +13,18 @@ use rtcp_serve::{Observed, Observer};
 struct Counts {
     told: usize,
     agreed: usize,
+    /// How many sends it was told of, and how many of them failed.
+    sent: (usize, usize),
+}
+
+impl Counts {
+    fn new() -> Counts {
+        Counts {
+            told: 0,
+            agreed: 0,
+            sent: (0, 0),
+        }
+    }
 }
 
 impl Observer for Counts {
@@ -29,6 +41,12 @@ impl Observer for Counts {
             }
         }
     }
+
+    fn sent(&mut self, failed: bool) {
+        let (all, failures) = self.sent;
+        let failures = failures.saturating_add(usize::from(failed));
+        self.sent = (all.saturating_add(1), failures);
+    }
 }
 
 /// A participant that gains two members, refuses a datagram and leaves. Both observers and the link inside are told.
@@ -41,7 +59,7 @@ fn observers_see_the_participant(rt: HostRuntime) -> Result<(), Fail> {
         Coming::Nothing,
         Coming::Named(8),
     ];
-    let (first, second) = (Counts { told: 0, agreed: 0 }, Counts { told: 0, agreed: 0 });
+    let (first, second) = (Counts::new(), Counts::new());
     let mut link = Observed {
         link: MemoryLink::new(rt.alloc(), &[0], &coming, &[], 40)?,
         observer: ((first, Some(second)), None::<Counts>),
@@ -56,5 +74,21 @@ fn observers_see_the_participant(rt: HostRuntime) -> Result<(), Fail> {
     assert_eq!(rt; link.link.watch.tellings.len(), 7);
     let cause = reads(&rt, rt.alloc(), &link.link, participant(&rt), 3);
     assert_eq!(rt; cause, Cause::Done);
+    Ok(())
+}
+
+/// A report that the link fails to send, and the BYE: both observers are told of both.
+#[test]
+fn observers_are_told_of_sends(rt: HostRuntime) -> Result<(), Fail> {
+    let moments = [0, 1_026_037, 500_000, 2_000_000];
+    let mut link = Observed {
+        link: MemoryLink::new(rt.alloc(), &moments, &[], &[0], 40)?,
+        observer: (Counts::new(), Some(Counts::new())),
+    };
+    let (end, _) = served(&mut link, &mut participant(&rt), 2);
+    assert_eq!(rt; (end.sent, end.send_failures), (2, 1));
+    let (first, second) = link.observer;
+    assert_eq!(rt; first.sent, (2, 1));
+    assert_eq!(rt; second.map(|counts| counts.sent), Some((2, 1)));
     Ok(())
 }

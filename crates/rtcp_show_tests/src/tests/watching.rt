@@ -1,9 +1,10 @@
 //! What a watcher writes of a session.
 
-use super::{PEER, config, named};
+use super::{PEER, config, named, same, taken};
 use rtcp_engine::{Answer, Event, Participant};
 use rtcp_members::SortedTable;
-use rtcp_show::Watcher;
+use rtcp_serve::Observer;
+use rtcp_show::{Watcher, Wording};
 use std::alloc::Global;
 use std::io;
 use std::io::{ErrorKind, Write};
@@ -134,6 +135,64 @@ fn session(rt: HostRuntime) -> Result<(), Fail> {
     assert_eq!(rt; watched.unwritten, 0);
     let text = watched.watcher.into_inner();
     assert_eq!(rt; text.as_slice(), SESSION.as_bytes());
+    Ok(())
+}
+
+const PLAIN: &str = "\
+0.100000 in 127.0.0.1:5007 ok RR ssrc=00000007 SDES ssrc=00000007 cname=\"a\"
+2.000000 out 127.0.0.1:5007 ok RR ssrc=000000aa SDES ssrc=000000aa cname=\"a\"
+2.000000 members=2 senders=0
+source=00000007 sends=no cname=\"a\"
+3.000000 in 127.0.0.1:5007 ok RR ssrc=00000007 \
+block about=000000aa loss=0.0% lost=0 highest=0 jitter=0.000ms lsr=2.000000s dlsr=0.500000s
+3.000000 members=2 senders=0
+source=00000007 sends=no round-trip=500.000ms cname=\"a\"
+3.500000 in 127.0.0.1:5007 refused E5 Wire: F1 Short at 0
+";
+
+/// In plain words what comes and what goes out is named. All else is as it was.
+#[test]
+fn plain(rt: HostRuntime) -> Result<(), Fail> {
+    let Watched {
+        participant,
+        watcher,
+        unwritten,
+    } = Watched::new(rt.alloc(), Vec::new(rt.alloc()))?;
+    let mut watched = Watched {
+        participant,
+        watcher: watcher.with_wording(Wording::Plain(Some(8_000))),
+        unwritten,
+    };
+    watched.rtcp(100_000, &named(7));
+    watched.tick(2_000_000);
+    watched.rtcp(3_000_000, &BLOCK);
+    watched.rtcp(3_500_000, &[]);
+    assert_eq!(rt; watched.unwritten, 0);
+    let text = watched.watcher.into_inner();
+    assert_eq!(rt; text.as_slice(), PLAIN.as_bytes());
+    Ok(())
+}
+
+/// A send that fails is told, at the moment of the event before it; one that does not fail is not.
+#[test]
+fn unsent(rt: HostRuntime) -> Result<(), Fail> {
+    let mut watched = Watched::new(rt.alloc(), Vec::new(rt.alloc()))?;
+    let event = Event::Tick {
+        now: 2_500_000,
+        w1: 0,
+        w2: 0,
+    };
+    watched
+        .watcher
+        .told(&event, &taken(None, None), &watched.participant);
+    watched.watcher.sent(false);
+    watched.watcher.sent(true);
+    let written = watched.watcher.watch_unsent(3_000_001);
+    assert!(rt; written.is_ok());
+    let text = watched.watcher.into_inner();
+    let want =
+        "2.500000 members=1 senders=0\n2.500000 unsent 127.0.0.1:5007\n3.000001 unsent 127.0.0.1:5007\n";
+    same(&rt, &text, want.as_bytes(), "sends");
     Ok(())
 }
 

@@ -123,3 +123,22 @@ fn understood(rt: HostRuntime) -> Result<(), Fail> {
     }
     Ok(())
 }
+
+/// Plain words are asked for by `--plain`, with `--show` or without.
+#[test]
+fn plain_words(rt: HostRuntime) -> Result<(), Fail> {
+    let rows: [(&[&str], (bool, bool)); 4] = [
+        (&[], (false, false)),
+        (&["--show"], (true, false)),
+        (&["--plain"], (false, true)),
+        (&["--plain", "--show"], (true, true)),
+    ];
+    for (options, asked) in &rows {
+        let words = with(rt.alloc(), REQUIRED, options)?;
+        let Ok(Order::Listen(order)) = order(rt.alloc(), &words) else {
+            return Err("it was refused")?;
+        };
+        assert_eq!(rt; (order.show, order.plain), *asked);
+    }
+    Ok(())
+}

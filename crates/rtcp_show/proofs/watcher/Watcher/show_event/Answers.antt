@@ -2,7 +2,8 @@ use Rattle.std.proofs.Common.{◌≡◌, ◌++◌, ◌∙◌, ap, subst, List, �
 use Rattle.std.proofs.lemmas.Result.{on_ok_weaker}
 use Rattle.std.specs.Io.KnownBytes.{Appends}
 use Rattle.rtcp_engine.specs.Views.{answer_value, event_value}
-use Rattle.rtcp_show.specs.Lines.{ShowsBoth}
+use Rattle.rtcp_show.specs.Lines.{ShowsBothBy}
+use Rattle.rtcp_show.specs.Wordings.{shown_in}
 use Rattle.rtcp_show.specs.Watchers.{held_by, terms_of}
 use Rattle.rtcp_show.proofs.watcher.Watcher.show_event.Goals as goal
 
@@ -12,7 +13,8 @@ returns-in-Ok-clause-written g c =
     let holds = held_by g.W.Write.contents c.write.new.self in
     let text = c.push_read_lines.new.out.items in
     let Says : List ℕ → Type 0 =
-    ShowsBoth (terms_of c.args.self.now).to (event_value c.args.event.now) (answer_value c.args.answer.now) in
+    ShowsBothBy (shown_in (terms_of c.args.self.now).wording) (terms_of c.args.self.now).to
+    (event_value c.args.event.now) (answer_value c.args.answer.now) in
     let given : (lines : List ℕ) × Says lines × (text ≡ c.clear.new.self.items ++ lines) = c.in-Ok.ensures in
     let same : text ≡ given.0 = given.2 ∙ ap (λ xs. xs ++ given.0) c.clear.ensures.items in
     let step : Appends held holds text → (lines : List ℕ) × Says lines × Appends held holds lines =
