@@ -109,7 +109,7 @@ class Shown:
         rate = None if "--clock" in options else int(options[options.index("--rate") + 1])
         self.answer = (lambda octets: plain_answer(octets, rate)) if is_plain else decoder.answer
         self.cnames, self.trips = {}, {}  # of the sources that are listed
-        self.second, self.last = 0, None
+        self.second, self.last, self.roles = 0, None, {}
         self.lines = []
 
     def header(self, rtp, rtcp):
@@ -133,6 +133,8 @@ class Shown:
             self.tell_answer(now, answer)
         if taken and kind == b"rtcp":
             self.note(moment, octets)
+        if taken and self.participant.is_present():
+            self.show_changes(now)
         if moment // SECOND > self.second:
             self.second = moment // SECOND
             self.show_sources(now)
@@ -159,6 +161,19 @@ class Shown:
                 for item, text in items:
                     if item == CNAME and number(identifier) in self.listed():
                         self.cnames[number(identifier)] = text
+
+    def show_changes(self, now):
+        """Who joined, left, began or ceased to send."""
+        role = lambda source: (1 + source.counts_as_sender()) if source.is_member() else 0  # 0 away, 1 member, 2 sender
+        roles = {ssrc: role(source) for ssrc, source in self.listed().items()}
+        for ssrc in sorted(self.roles | roles):
+            was, now_is = self.roles.get(ssrc, 0), roles.get(ssrc, 0)
+            has_left = ssrc in roles and self.listed()[ssrc].left is not None
+            gone = was and not now_is
+            lines = {"joined": not was and now_is, "began-sending": was < 2 == now_is,
+                     "stopped-sending": now_is < 2 == was, "bye": gone and has_left, "timed-out": gone and not has_left}
+            self.lines += [f"{now} {word}={ssrc:08x}" for word, so in lines.items() if so]
+        self.roles = roles
 
     def row(self, ssrc):
         source, text = self.listed()[ssrc], f"source={ssrc:08x}"

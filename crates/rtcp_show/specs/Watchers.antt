@@ -1,5 +1,7 @@
 -- What a clause reads of a watcher.
-use Rattle.std.specs.Prelude.{◌≡◌, ◌⊎◌, ℕ, List, [], ◌∷◌, ◌++◌, Option}
+use Rattle.std.specs.Prelude.{◌≡◌, ◌⊎◌, ℕ, List, [], ◌∷◌, ◌++◌, map, Option}
+use Rattle.rtcp_listing.specs.Differences.{ListedValue, listed_of}
+use Rattle.rtcp_members.specs.ListViews.{state_value}
 use Rattle.rtcp_members.specs.Told.{StateValue}
 use Rattle.rtcp_engine.specs.Histories.{History, life_at, setup_at}
 use Rattle.rtcp_engine.specs.Lives.{WalksInLife, members_in_life, senders_in_life}
@@ -15,6 +17,10 @@ terms_of watcher = watcher.terms
 
 abbrev pub writer_of : {W : Type 0} → Watcher W → W
 writer_of watcher = watcher.writer
+
+-- the sources, as they were after the last event that changed a role
+abbrev pub listing_of : {W : Type 0} → Watcher W → List ListedValue
+listing_of watcher = map (λ state. listed_of (state_value state)) watcher.listing.items
 
 -- what the writer holds, where that is known
 abbrev pub held_by : {W : Type 0} → (W → Option (List ℕ)) → Watcher W → Option (List ℕ)

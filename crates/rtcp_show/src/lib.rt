@@ -10,6 +10,7 @@
 //! `specs/` defines the texts: those of an event and its answer (`Lines`), and the row of a source (`Rows`).
 #![tactic(auto)]
 
+mod changes;
 mod header;
 mod lines;
 mod notes;
@@ -18,6 +19,7 @@ mod rows;
 mod watcher;
 mod wording;
 
+pub use changes::push_change;
 pub use header::push_header;
 pub use lines::push_lines;
 pub use notes::Note;

@@ -7,10 +7,12 @@ ghost use Rattle.std.specs.Net.Socket.{v4_ip, v4_port};
 ghost use Rattle.rtcp_engine.specs.Histories.{History};
 ghost use Rattle.rtcp_engine.specs.States.{StandsAt};
 ghost use Rattle.rtcp_engine.specs.Views.{answer_value, event_value};
+ghost use Rattle.rtcp_show.specs.Changes.{ShowsChanges};
 ghost use Rattle.rtcp_show.specs.Wordings.{shown_in};
 ghost use Rattle.rtcp_show.specs.declared.wording.Wording.TheVariants.{Brief};
 ghost use Rattle.rtcp_show.specs.Lines.{ReadsAs, ShowsBothBy, moment_of_event as moment_in, unsent_text};
 
+use crate::changes::{push_changes, push_listing};
 use crate::lines::{compound_of, moment_of, push_read_lines, push_unsent};
 use crate::notes::Notes;
 use crate::numbers::{number_of_endpoint, push_moment};
@@ -18,7 +20,7 @@ use crate::rows::push_sources;
 use crate::wording::Wording;
 use rtcp_clock::ntp_of;
 use rtcp_engine::{Answer, Event, Participant};
-use rtcp_members::MemberTable;
+use rtcp_members::{MemberTable, SourceState};
 use rtcp_serve::Observer;
 use rtcp_text::TextFault;
 use rtcp_wire::Compound;
@@ -59,6 +61,10 @@ pub struct Watcher<W> {
     second: u64,
     /// The moment of the last event.
     moment: u64,
+    /// The sources, as they were after the last event that changed a role.
+    listing: Vec<SourceState>,
+    /// Room for the next ones.
+    next_listing: Vec<SourceState>,
 }
 
 impl<W: Drop> Watcher<W> {
@@ -86,6 +92,8 @@ impl<W: Drop> Watcher<W> {
             next_rows: Vec::new(alloc),
             second: 0,
             moment: 0,
+            listing: Vec::new(alloc),
+            next_listing: Vec::new(alloc),
         }
     }
 
@@ -107,7 +115,7 @@ impl<W: Drop> Watcher<W> {
 }
 
 impl<W: Write> Watcher<W> {
-    ghost use Rattle.rtcp_show.specs.Watchers.{ShowsSources, ShowsThose, held_by, terms_of, writer_of};
+    ghost use Rattle.rtcp_show.specs.Watchers.{ShowsSources, ShowsThose, held_by, listing_of, terms_of, writer_of};
 
     /// The writer.
     pub fn into_inner(self) -> W
@@ -116,7 +124,8 @@ impl<W: Write> Watcher<W> {
         self.writer
     }
 
-    /// Writes the lines of an event of the session and its answer, and who is there where another second has begun.
+    /// Writes the lines of an event of the session and its answer, a line for each source whose role changed
+    /// ([`push_change`](crate::push_change)), and who is there where another second has begun.
     /// `participant` is that of the session, after the event.
     ///
     /// # Errors
@@ -133,10 +142,11 @@ impl<W: Write> Watcher<W> {
     ) -> Result<(), TextFault>
         ensures terms { terms_of self.new ≡ terms_of self.old }
         ensures written { (history : History) → StandsAt participant.now history →
-            OnOk result ((lines those : List ℕ)
+            OnOk result ((lines changes those : List ℕ)
             × ShowsBothBy (shown_in (terms_of self.old).wording) (terms_of self.old).to (event_value event.now) (answer_value answer.now) lines
+            × ShowsChanges (moment_in (event_value event.now)) history (listing_of self.old) changes
             × ShowsThose (moment_in (event_value event.now)) history those
-            × Appends (held_by W.contents self.old) (held_by W.contents self.new) (lines ++ those)) }
+            × Appends (held_by W.contents self.old) (held_by W.contents self.new) (lines ++ (changes ++ those))) }
     {
         let now = moment_of(event);
         let compound = compound_of(event, answer);
@@ -145,11 +155,89 @@ impl<W: Write> Watcher<W> {
             let arrived = (ntp_of(self.terms.ntp_base, now) / 65_536 % (1 << 32)) as u32;
             self.notes.note(arrived, compound, participant);
         }
-        let listed = self.show_sources(now, participant);
+        let standing = self.show_standing(now, answer, participant);
         match shown {
+            Ok(()) => standing,
+            Err(fault) => Err(fault),
+        }
+    }
+
+    /// Writes whose roles changed, and who is there.
+    fn show_standing<T: MemberTable>(
+        &mut self,
+        now: u64,
+        answer: &Answer,
+        participant: &Participant<T>,
+    ) -> Result<(), TextFault>
+        ensures terms { terms_of self.new ≡ terms_of self.old }
+        ensures written { (history : History) → StandsAt participant.now history →
+            OnOk result ((changes those : List ℕ)
+            × ShowsChanges now history (listing_of self.old) changes × ShowsThose now history those
+            × Appends (held_by W.contents self.old) (held_by W.contents self.new) (changes ++ those)) }
+    {
+        let changed = self.show_changes(now, answer, participant);
+        let listed = self.show_sources(now, participant);
+        match changed {
             Ok(()) => listed,
             Err(fault) => Err(fault),
         }
+    }
+
+    /// Writes whose roles changed since the sources were listed last, where the answer says that some did. A
+    /// participant that has left tells of nobody.
+    fn show_changes<T: MemberTable>(
+        &mut self,
+        now: u64,
+        answer: &Answer,
+        participant: &Participant<T>,
+    ) -> Result<(), TextFault>
+        ensures terms { terms_of self.new ≡ terms_of self.old }
+        ensures written { (history : History) → StandsAt participant.now history →
+            OnOk result ((changes : List ℕ) × ShowsChanges now history (listing_of self.old) changes
+            × Appends (held_by W.contents self.old) (held_by W.contents self.new) changes) }
+    {
+        match answer {
+            Ok(step) if step.others_changed && step.next.is_some() => {
+                self.write_changes(now, participant)
+            }
+            _ => Ok(()),
+        }
+    }
+
+    /// Writes whose roles changed since the sources were listed last.
+    fn write_changes<T: MemberTable>(
+        &mut self,
+        now: u64,
+        participant: &Participant<T>,
+    ) -> Result<(), TextFault>
+        ensures terms { terms_of self.new ≡ terms_of self.old }
+        ensures written { (history : History) → StandsAt participant.now history →
+            OnOk result ((changes : List ℕ) × ShowsChanges now history (listing_of self.old) changes
+            × Appends (held_by W.contents self.old) (held_by W.contents self.new) changes) }
+    {
+        match self.compose_changes(now, participant) {
+            Ok(()) => self.write(),
+            Err(AllocError) => Err(TextFault::Memory),
+        }
+    }
+
+    /// Composes whose roles changed since the sources were listed last, and lists them.
+    fn compose_changes<T: MemberTable>(
+        &mut self,
+        now: u64,
+        participant: &Participant<T>,
+    ) -> Result<(), AllocError>
+        ensures terms { terms_of self.new ≡ terms_of self.old }
+        ensures writer { writer_of self.new ≡ writer_of self.old }
+        ensures composed { (history : History) → StandsAt participant.now history →
+            OnOk result (ShowsChanges now history (listing_of self.old) self.new.text.items) }
+    {
+        self.text.clear();
+        self.next_listing.clear();
+        push_listing(&mut self.next_listing, participant)?;
+        push_changes(&mut self.text, now, &self.listing, &self.next_listing)?;
+        mem::swap(&mut self.listing, &mut self.next_listing);
+        Ok(())
     }
 
     /// Writes that the compound of the event before was not handed to the network, at this moment.
@@ -179,6 +267,7 @@ impl<W: Write> Watcher<W> {
     ) -> Result<(), TextFault>
         requires { IfSome compound.now (ReadsAs (event_value event.now)) }
         ensures terms { terms_of self.new ≡ terms_of self.old }
+        ensures listing { listing_of self.new ≡ listing_of self.old }
         ensures written { OnOk result ((lines : List ℕ)
             × ShowsBothBy (shown_in (terms_of self.old).wording) (terms_of self.old).to (event_value event.now) (answer_value answer.now) lines
             × Appends (held_by W.contents self.old) (held_by W.contents self.new) lines) }
@@ -248,6 +337,7 @@ impl<W: Write> Watcher<W> {
     /// Writes what was composed.
     fn write(&mut self) -> Result<(), TextFault>
         ensures terms { terms_of self.new ≡ terms_of self.old }
+        ensures listing { listing_of self.new ≡ listing_of self.old }
         ensures written { OnOk result
             (Appends (held_by W.contents self.old) (held_by W.contents self.new) self.old.text.items) }
     {

@@ -4,6 +4,7 @@ use arrayvec::ArrayVec;
 use rtcp_engine::{Answer, Config, Out, OutKind, Step};
 use std::process::Abort;
 
+mod changes;
 mod example;
 mod header;
 mod lines;

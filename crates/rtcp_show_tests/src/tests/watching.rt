@@ -95,17 +95,21 @@ const GOODBYE: [u8; 16] = [0x80, 0xc9, 0, 1, 0, 0, 0, 7, 0x81, 0xcb, 0, 1, 0, 0,
 
 const SESSION: &str = "\
 0.100000 in 127.0.0.1:5007 ok RR(00000007,[],0) SDES([00000007{1=61}])
+0.100000 joined=00000007
 1.000000 members=2 senders=0
 source=00000007 sends=no cname=\"a\"
 2.000000 out 127.0.0.1:5007 ok RR(000000aa,[],0) SDES([000000aa{1=61}])
 3.000000 in 127.0.0.1:5007 ok RR(00000007,[000000aa/0/0/0/0/00020000/00008000],0)
 3.000000 members=2 senders=0
 source=00000007 sends=no round-trip=500.000ms cname=\"a\"
+3.120000 began-sending=00000007
 4.000000 members=2 senders=1
 source=00000007 sends=yes packets=2 lost=1 jitter=0.125ms round-trip=500.000ms cname=\"a\"
 4.400000 out 127.0.0.1:5007 ok \
 RR(000000aa,[00000007/85/1/4/1/00000000/00000000],0) SDES([000000aa{1=61}])
 4.500000 in 127.0.0.1:5007 ok RR(00000007,[],0) BYE([00000007],-)
+4.500000 stopped-sending=00000007
+4.500000 bye=00000007
 5.000000 members=1 senders=0
 source=00000007 sends=no left=4.500000 packets=2 lost=1 jitter=0.125ms round-trip=500.000ms cname=\"a\"
 5.500000 in 127.0.0.1:5007 refused E5 Wire: F1 Short at 0
@@ -140,6 +144,7 @@ fn session(rt: HostRuntime) -> Result<(), Fail> {
 
 const PLAIN: &str = "\
 0.100000 in 127.0.0.1:5007 ok RR ssrc=00000007 SDES ssrc=00000007 cname=\"a\"
+0.100000 joined=00000007
 2.000000 out 127.0.0.1:5007 ok RR ssrc=000000aa SDES ssrc=000000aa cname=\"a\"
 2.000000 members=2 senders=0
 source=00000007 sends=no cname=\"a\"

@@ -1,0 +1,38 @@
+-- The lines of sources that joined, left, began or ceased to send, as `rtcp listen --show` writes them.
+use Rattle.std.specs.Prelude.{◌≡◌, ◌⊎◌, ◌&&◌, ℕ, not, Bool, if◌then◌else◌, List, [], ◌∷◌, ◌++◌, map, codes}
+use Rattle.std.specs.List.{flat_map}
+use Rattle.rtcp_engine.specs.Histories.{History, life_at, setup_at}
+use Rattle.rtcp_engine.specs.Lives.{WalksInLife}
+use Rattle.rtcp_listing.specs.declared.change.Change.{Change}
+use Rattle.rtcp_listing.specs.declared.change.Role.TheVariants.{Away, Sender}
+use Rattle.rtcp_listing.specs.Differences.{ListedValue, changes, is_same, listed_of, rises_from}
+use Rattle.rtcp_members.specs.Told.{StateValue}
+use Rattle.rtcp_text.specs.Text.{hex_word}
+use Rattle.rtcp_show.specs.Numbers.{moment_text}
+
+-- a moment, a word and a source, where it is so
+abbrev pub line_where : Bool → (moment : ℕ) → (word : List ℕ) → (ssrc : ℕ) → List ℕ
+line_where so moment word ssrc = if so then moment_text moment ++ word ++ hex_word ssrc ++ 10 ∷ [] else []
+
+abbrev pub change_text : (moment : ℕ) → Change → List ℕ
+change_text moment change =
+    line_where (is_same change.was Away && not (is_same change.is Away)) moment (codes " joined=") change.ssrc
+    ++ line_where (not (is_same change.was Sender) && is_same change.is Sender) moment (codes " began-sending=")
+    change.ssrc
+    ++ line_where (is_same change.was Sender && not (is_same change.is Sender)) moment (codes " stopped-sending=")
+    change.ssrc
+    ++ line_where (change.has_left && not (is_same change.was Away) && is_same change.is Away) moment (codes " bye=")
+    change.ssrc
+    ++ line_where (not change.has_left && not (is_same change.was Away) && is_same change.is Away) moment
+    (codes " timed-out=") change.ssrc
+
+-- What changed between two listings, each of which has its sources by rising SSRC, as a session's are told of.
+abbrev pub changes_text : (moment : ℕ) → (before after : List ListedValue) → List ℕ
+changes_text moment before after =
+    if rises_from 0 before && rises_from 0 after then flat_map (change_text moment) (changes before after) else []
+
+-- Nothing, or what changed between an earlier listing and the sources that are there after a history.
+abbrev pub ShowsChanges : (moment : ℕ) → History → (before : List ListedValue) → List ℕ → Type 0
+ShowsChanges moment history before text =
+    (text ≡ []) ⊎ ((states : List StateValue) × WalksInLife (setup_at history) (life_at history) states
+    × (text ≡ changes_text moment before (map listed_of states)))
