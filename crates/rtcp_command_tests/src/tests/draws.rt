@@ -1,60 +1,101 @@
 //! What a session of `listen` draws from the system.
 
-use super::endings::REQUIRED;
-use super::refused;
+use super::{refused, same};
 use rtcp_command::Order;
 use rtcp_command::order::order;
-use std::alloc::Global;
+use std::alloc::{AllocError, Global};
 use std::test::Fail;
 
-/// The SSRC and the seed of an order, and whether each is drawn in place of that.
-type Drawn = ((u32, bool), (u64, bool));
+/// The words of a command line that has all that is required but an SSRC.
+const REQUIRED: &[&str] = &[
+    "rtcp",
+    "listen",
+    "--cname",
+    "a",
+    "--rtp",
+    "127.0.0.1:5004",
+    "--rtcp",
+    "127.0.0.1:5005",
+    "--peer",
+    "127.0.0.1:5007",
+];
 
-fn drawn(alloc: Global, words: &[&str]) -> Result<Drawn, Fail> {
-    let Ok(Order::Listen(order)) = order(alloc, words) else {
-        return Err("it was refused")?;
-    };
-    let ssrc = (order.config.ssrc, order.draws_ssrc);
-    Ok((ssrc, (order.seed, order.draws_seed)))
+/// These words and then others.
+fn with<'a>(
+    alloc: Global,
+    words: &[&'a str],
+    options: &[&'a str],
+) -> Result<Vec<&'a str>, AllocError> {
+    let mut all = Vec::new(alloc);
+    all.extend_from_slice(words)?;
+    all.extend_from_slice(options)?;
+    Ok(all)
 }
 
-/// The words of a command line with this SSRC, and these options.
-fn with_ssrc<'a>(alloc: Global, ssrc: &'a str, options: &[&'a str]) -> Result<Vec<&'a str>, Fail> {
-    let mut words = Vec::from_slice(alloc, &REQUIRED)?;
-    words.as_mut_slice()[3] = ssrc;
-    words.extend_from_slice(options)?;
-    Ok(words)
-}
+/// Options, and what they ask for: the SSRC and the seed, and whether each is drawn in place of that.
+type Asked = (&'static [&'static str], (u32, bool, u64, bool));
+
+static ASKED: [Asked; 4] = [
+    (&["--ssrc", "000000aa"], (0xaa, false, 1, false)),
+    (&["--ssrc", "random", "--seed", "7"], (0, true, 7, false)),
+    (
+        &["--seed=random", "--ssrc=000000aa"],
+        (0xaa, false, 1, true),
+    ),
+    (
+        &["--seed", "random", "--ssrc", "random"],
+        (0, true, 1, true),
+    ),
+];
 
 /// `random` stands for a draw, and for no number.
 #[test]
 fn asked(rt: HostRuntime) -> Result<(), Fail> {
-    let alloc = rt.alloc();
-    let words = with_ssrc(alloc, "000000aa", &[])?;
-    assert_eq!(rt; drawn(alloc, &words)?, ((0xaa, false), (1, false)));
-    let words = with_ssrc(alloc, "random", &["--seed", "7"])?;
-    assert_eq!(rt; drawn(alloc, &words)?, ((0, true), (7, false)));
-    let words = with_ssrc(alloc, "000000aa", &["--seed=random"])?;
-    assert_eq!(rt; drawn(alloc, &words)?, ((0xaa, false), (1, true)));
+    for (row, (options, wanted)) in ASKED.iter().enumerate() {
+        let words = with(rt.alloc(), REQUIRED, options)?;
+        let Ok(Order::Listen(order)) = order(rt.alloc(), &words) else {
+            return Err("it was refused")?;
+        };
+        let found = (
+            order.config.ssrc,
+            order.draws_ssrc,
+            order.seed,
+            order.draws_seed,
+        );
+        assert_eq!(rt; found, *wanted, "row {row}");
+    }
     Ok(())
 }
 
-/// Nothing near it does, and `replay` draws nothing.
+/// Options of which one is refused, and its line.
+static REFUSED: [(&[&str], &str); 6] = [
+    (&["--ssrc", "Random"], "option ssrc\n"),
+    (&["--ssrc", "random "], "option ssrc\n"),
+    (&["--ssrc", "rando", "--seed", "RANDOM"], "option ssrc\n"),
+    (&["--ssrc", "random", "--seed", "RANDOM"], "option seed\n"),
+    (&["--ssrc", "random", "--seed", "random1"], "option seed\n"),
+    (&["--ssrc", "random", "--seed", ""], "option seed\n"),
+];
+
+/// Nothing near it does.
 #[test]
 fn refusals(rt: HostRuntime) -> Result<(), Fail> {
-    let alloc = rt.alloc();
-    for ssrc in ["Random", "random ", "rando", ""] {
-        let words = with_ssrc(alloc, ssrc, &["--seed", "random"])?;
-        let (status, line) = refused(alloc, &words)?;
-        assert_eq!(rt; (status, line.as_slice()), (2, b"option ssrc\n".as_slice()));
+    for (row, (options, wanted)) in REFUSED.iter().enumerate() {
+        let words = with(rt.alloc(), REQUIRED, options)?;
+        let (status, line) = refused(rt.alloc(), &words)?;
+        assert_eq!(rt; status, 2, "row {row}");
+        same(&rt, &line, wanted.as_bytes(), wanted);
     }
-    for seed in ["RANDOM", "randomly", "random1"] {
-        let words = with_ssrc(alloc, "random", &["--seed", seed])?;
-        let (status, line) = refused(alloc, &words)?;
-        assert_eq!(rt; (status, line.as_slice()), (2, b"option seed\n".as_slice()));
-    }
-    let words = ["rtcp", "replay", "--ssrc", "random", "--cname", "a"];
-    let (status, line) = refused(alloc, &words)?;
-    assert_eq!(rt; (status, line.as_slice()), (2, b"option ssrc\n".as_slice()));
+    Ok(())
+}
+
+/// The words of `replay`, which draws nothing.
+const REPLAYED: &[&str] = &["rtcp", "replay", "--cname", "a", "--ssrc", "random"];
+
+#[test]
+fn replayed(rt: HostRuntime) -> Result<(), Fail> {
+    let (status, line) = refused(rt.alloc(), REPLAYED)?;
+    assert_eq!(rt; status, 2);
+    same(&rt, &line, b"option ssrc\n", "replay");
     Ok(())
 }

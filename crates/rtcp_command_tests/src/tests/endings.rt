@@ -1,6 +1,6 @@
 //! When a session of `listen` is left.
 
-use super::refused;
+use super::{refused, same};
 use rtcp_command::Order;
 use rtcp_command::order::order;
 use std::test::Fail;
@@ -89,11 +89,8 @@ fn refusals(rt: HostRuntime) -> Result<(), Fail> {
         let mut words = Vec::from_slice(rt.alloc(), &REQUIRED)?;
         words.extend_from_slice(options)?;
         let (status, line) = refused(rt.alloc(), &words)?;
-        assert_eq!(rt;
-            (status, line.as_slice()),
-            (2, wanted.as_bytes()),
-            "row {row}"
-        );
+        assert_eq!(rt; status, 2, "row {row}");
+        same(&rt, &line, wanted.as_bytes(), wanted);
     }
     Ok(())
 }
