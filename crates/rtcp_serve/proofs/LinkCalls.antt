@@ -21,7 +21,7 @@ use Rattle.rtcp_engine.specs.Steps.{AnswerValue, OutValue}
 use Rattle.rtcp_serve.specs.declared.serving.tally.Tally.{Tally}
 use Rattle.rtcp_serve.specs.Tallies.{HasRoom, end_of, is_limit, with_arrival, with_datagram, with_moment, with_refused, with_send}
 use Rattle.rtcp_serve.specs.Serving.{Reader, Stage, resting, beginning, hearing, deciding, sending, ended, SessionState, rested, going, ReadsClock, Hears, Sends, Fits, at_stage, with_turns, turn_by, turn_or, after_turns, gone_on, left_with, event_at, arrival_at, after_port, came_with, heard_at, after_clock, after_sending, after_call, after_calls, AllFit, at_the_start, stage_to_send, ticked_with, ticked_now, with_tally}
-use Rattle.rtcp_serve.specs.Sessions.{Closes, EndsAs, EndsTurns, HasTurn, Holds, IsCut, IsLeaveDue, Moves, RunsSession, TellsLink, Walks, led_to, next_at}
+use Rattle.rtcp_serve.specs.Sessions.{Closes, EndsAs, EndsTurns, HasTurn, Holds, IsCut, IsLeaveDue, Moves, RunsCut, RunsSession, TellsLink, Walks, led_to, next_at}
 
 -- ---- Logs
 
@@ -513,45 +513,66 @@ runs_as {x = x} closed cause result ends is none =
 -- ---- Endings
 
 -- All turns were made.
-pub uncut_whole : (may_end : ℕ → Bool) (most : ℕ) → IsCut may_end most most
-uncut_whole may_end most = record { within = omega (arith); whole = inl refl }
+pub uncut_whole : (may_end : ℕ → Bool) (most greatest : ℕ) → IsCut may_end most most greatest
+uncut_whole may_end most greatest = record { within = omega (arith); whole = inl refl }
 
 -- The ending ended them.
 pub cut_at : (may_end : ℕ → Bool) (most made moment : ℕ) → made ≤ most → IsTrue (may_end moment) →
-    IsCut may_end most made
-cut_at may_end most made moment within is = record { within = within; whole = inr (moment, is) }
+    IsCut may_end most made moment
+cut_at may_end most made moment within is = record { within = within; whole = inr (moment, omega (arith), is) }
 
 -- Where no ending ends them, all were.
-never_cut : (most made : ℕ) → (made ≡ most) ⊎ ((moment : ℕ) × IsTrue false) → made ≡ most
-never_cut most made (inl whole) = whole
-never_cut most made (inr (moment, never)) = absurd cc
+never_cut : (most made greatest : ℕ) → (made ≡ most) ⊎ ((moment : ℕ) × (moment ≤ greatest) × IsTrue false)
+    → made ≡ most
+never_cut most made greatest (inl whole) = whole
+never_cut most made greatest (inr (moment, before, never)) = absurd cc
 
-pub uncut : (most made : ℕ) → IsCut (λ moment. false) most made → made ≡ most
-uncut most made cut = never_cut most made cut.whole
+pub uncut : (most made greatest : ℕ) → IsCut (λ moment. false) most made greatest → made ≡ most
+uncut most made greatest cut = never_cut most made greatest cut.whole
 
 -- A session that no ending ends is one of all turns.
 pub runs_whole : {reader : Reader} {history : History} {words left : Stream} {kept : ParticipantValue} {result : End}
-    {x y : LinkValue} (most turns made further : ℕ) → most ≡ turns → IsCut (λ moment. false) most made
-    → IsCut (λ moment. false) most further
+    {x y : LinkValue} (most turns made further greatest : ℕ) → most ≡ turns
+    → IsCut (λ moment. false) most made greatest → IsCut (λ moment. false) most further greatest
     → RunsSession reader further (at_the_start history words made) kept left result x y
     → RunsSession reader turns (at_the_start history words turns) kept left result x y
 runs_whole {reader = reader} {history = history} {words = words} {left = left} {kept = kept} {result = result} {x = x}
-    {y = y} most turns made further same leaves waits runs =
+    {y = y} most turns made further greatest same leaves waits runs =
     subst (λ n. RunsSession reader n (at_the_start history words turns) kept left result x y)
-    (uncut most further waits ∙ same)
+    (uncut most further greatest waits ∙ same)
     (subst (λ n. RunsSession reader further (at_the_start history words n) kept left result x y)
-    (uncut most made leaves ∙ same) runs)
+    (uncut most made greatest leaves ∙ same) runs)
 
--- Endings that may end turns at the same moments let as many be made.
-ends_alike : (one other : ℕ → Bool) (most made : ℕ) → ((at : ℕ) → one at ≡ other at)
-    → (made ≡ most) ⊎ ((moment : ℕ) × IsTrue (one moment)) → (made ≡ most) ⊎ ((moment : ℕ) × IsTrue (other moment))
-ends_alike one other most made same (inl whole) = inl whole
-ends_alike one other most made same (inr (moment, is)) = inr (moment, subst IsTrue (same moment) is)
+-- A session that may be ended, by its last part, which is the whole of it.
+pub runs_cut : {reader : Reader} {history : History} {words left : Stream} {kept : ParticipantValue} {counted : Tally}
+    {at : SessionState → Type 0} {x y : LinkValue} (may_end : Bool → ℕ → Bool) (most made further : ℕ)
+    (closed : Closes reader further (at_the_start history words made) x y kept left counted at) (cause : Cause)
+    (result : End) → closed.reached.stage ≡ ended cause → result ≡ end_of cause counted
+    → IsCut (may_end false) most made counted.moment → IsCut (may_end true) most further counted.moment
+    → RunsCut reader may_end most history words kept left result x y
+unfolding runs_as
+runs_cut {counted = counted} may_end most made further closed cause result ends is leaves waits = record {
+  made = made;
+  further = further;
+  greatest = counted.moment;
+  leaves = leaves;
+  waits = waits;
+  runs = runs_as closed cause result ends is refl;
+  moment = ap (λ (t : Tally). t.moment) (sym closed.holds.tally);
+}
 
-pub cut_alike : (one other : ℕ → Bool) (most made : ℕ) → ((at : ℕ) → one at ≡ other at) → IsCut one most made →
-    IsCut other most made
-cut_alike one other most made same cut =
-    record { within = cut.within; whole = ends_alike one other most made same cut.whole }
+-- Endings that may end turns at the same moments let as many be made, and moments do not go back.
+ends_alike : (one other : ℕ → Bool) (most made greatest later : ℕ) → ((at : ℕ) → one at ≡ other at)
+    → greatest ≤ later → (made ≡ most) ⊎ ((moment : ℕ) × (moment ≤ greatest) × IsTrue (one moment))
+    → (made ≡ most) ⊎ ((moment : ℕ) × (moment ≤ later) × IsTrue (other moment))
+ends_alike one other most made greatest later same goes_on (inl whole) = inl whole
+ends_alike one other most made greatest later same goes_on (inr (moment, before, is)) =
+    inr (moment, omega (arith, before, goes_on), subst IsTrue (same moment) is)
+
+pub cut_alike : (one other : ℕ → Bool) (most made greatest later : ℕ) → ((at : ℕ) → one at ≡ other at)
+    → greatest ≤ later → IsCut one most made greatest → IsCut other most made later
+cut_alike one other most made greatest later same goes_on cut =
+    record { within = cut.within; whole = ends_alike one other most made greatest later same goes_on cut.whole }
 
 -- ---- Room
 

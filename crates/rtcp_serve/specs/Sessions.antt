@@ -123,10 +123,11 @@ pub record RunsSession
 
 -- ---- Endings
 
--- How many turns were made where so many may be: all, unless an ending may end them at some moment.
-pub record IsCut (may_end : ℕ → Bool) (most made : ℕ) : Type 0 where
+-- How many turns were made where so many may be: all, unless an ending may end them at some moment, which is at most
+-- the greatest so far.
+pub record IsCut (may_end : ℕ → Bool) (most made greatest : ℕ) : Type 0 where
   pub within : made ≤ most
-  pub whole : (made ≡ most) ⊎ ((moment : ℕ) × IsTrue (may_end moment))
+  pub whole : (made ≡ most) ⊎ ((moment : ℕ) × (moment ≤ greatest) × IsTrue (may_end moment))
 
 -- A session over a link whose turns may be ended, before the leave and after it: it is one of the turns that were
 -- made before the leave, and of so many at most after it.
@@ -135,6 +136,9 @@ pub record RunsCut
     (kept : ParticipantValue) (left : Stream) (result : End) (before after : LinkValue) : Type 0 where
   pub made : ℕ
   pub further : ℕ
-  pub leaves : IsCut (may_end false) most made
-  pub waits : IsCut (may_end true) most further
+  -- the greatest moment that the clock gave
+  pub greatest : ℕ
+  pub leaves : IsCut (may_end false) most made greatest
+  pub waits : IsCut (may_end true) most further greatest
   pub runs : RunsSession reader further (at_the_start history words made) kept left result before after
+  pub moment : runs.reached.tally.moment ≡ greatest

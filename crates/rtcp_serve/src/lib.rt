@@ -1,8 +1,8 @@
 //! A participant on a link, which is a clock and two ports: [`serve`] drives it for a number of turns, and then lets it
 //! leave, and [`serve_until`] until an [`Ending`] is met, as a moment ([`Until`]). Each compound that the participant
 //! hands out is sent over the link once, and the calls of the link, with the random words, determine everything that it
-//! was told. Sockets, clock and random numbers are those of the link and the generator that the caller passes; the crate
-//! does not allocate.
+//! was told. Sockets, clock and random numbers are those of the link and the generator that the caller passes; the
+//! crate does not allocate.
 //!
 //! ```
 //! let mut buf = [0; 65_535];

@@ -103,7 +103,7 @@ pub fn serve_until<L: Link, T: MemberTable, R: Rng, E: Ending>(
     requires receives { (L.value link.old).failed_receives < 2 ^ 63 }
     requires sends { (L.value link.old).failed_sends < 2 ^ 63 }
     // The session is one of some number of turns before the leave, and of some number at most after it. Either is all
-    // that may be, unless the ending said at some moment that they are over.
+    // that may be, unless the ending said at some moment, up to the greatest that the clock gave, that they are over.
     ensures serves { (reader : Reader) (history : History) → IsReader reader → StandsAt participant.old history →
         RunsCut reader (E.may_end ending.old) turns history (R.stream rng.old) participant.new (R.stream rng.new)
         result (L.value link.old) (L.value link.new) }

@@ -1,6 +1,6 @@
 //! What a session over a link counts.
 
-ghost use Rattle.std.specs.Prelude.{◌≡◌, ◌<◌, ◌+◌, ◌^◌};
+ghost use Rattle.std.specs.Prelude.{◌≡◌, ◌≤◌, ◌<◌, ◌+◌, ◌^◌};
 ghost use Rattle.rtcp_engine.specs.Views.{answer_value};
 ghost use Rattle.rtcp_serve.specs.Tallies.{end_of, is_limit, no_calls, with_arrival, with_datagram, with_failed_receive, with_moment, with_send, with_silence, EndsRow};
 
@@ -44,7 +44,8 @@ impl Tally {
 
     /// The clock gave a moment.
     pub(crate) fn clock(&mut self, moment: u64)
-        ensures { self.new ≡ with_moment moment self.old }
+        ensures moved { self.new ≡ with_moment moment self.old }
+        ensures later { self.old.moment ≤ self.new.moment }
     {
         self.moment = self.moment.max(moment);
     }
@@ -52,7 +53,8 @@ impl Tally {
     /// A datagram came.
     pub(crate) fn datagram(&mut self)
         requires { self.old.received + 1 < 2 ^ 64 }
-        ensures { self.new ≡ with_datagram self.old }
+        ensures moved { self.new ≡ with_datagram self.old }
+        ensures still { self.new.moment ≡ self.old.moment }
     {
         self.received += 1;
         self.failures = 0;
@@ -60,7 +62,8 @@ impl Tally {
 
     /// Nothing came in time.
     pub(crate) fn silence(&mut self)
-        ensures { self.new ≡ with_silence self.old }
+        ensures moved { self.new ≡ with_silence self.old }
+        ensures still { self.new.moment ≡ self.old.moment }
     {
         self.failures = 0;
     }
@@ -74,6 +77,7 @@ impl Tally {
         requires row { self.old.failures < 64 }
         requires room { self.old.recv_failures + 1 < 2 ^ 64 }
         ensures counted { self.new ≡ with_failed_receive self.old }
+        ensures still { self.new.moment ≡ self.old.moment }
         ensures ends { EndsRow self.new.failures result }
     {
         self.recv_failures += 1;
@@ -87,7 +91,8 @@ impl Tally {
     /// The participant answered an arrival. A refusal counts, unless it is a limit.
     pub(crate) fn arrival(&mut self, answer: &Answer)
         requires { self.old.refused + 1 < 2 ^ 64 }
-        ensures { self.new ≡ with_arrival (answer_value answer.now) self.old }
+        ensures moved { self.new ≡ with_arrival (answer_value answer.now) self.old }
+        ensures still { self.new.moment ≡ self.old.moment }
     {
         if let Err(refusal) = answer {
             if !is_limit(*refusal) {
@@ -100,7 +105,8 @@ impl Tally {
     pub(crate) fn send(&mut self, kind: OutKind, changed: Option<u32>, failed: bool)
         requires sent { self.old.sent + 1 < 2 ^ 64 }
         requires failures { self.old.send_failures + 1 < 2 ^ 64 }
-        ensures { self.new ≡ with_send kind changed failed self.old }
+        ensures moved { self.new ≡ with_send kind changed failed self.old }
+        ensures still { self.new.moment ≡ self.old.moment }
     {
         self.sent += 1;
         self.send_failures += u64::from(failed);

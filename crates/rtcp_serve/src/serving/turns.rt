@@ -1,6 +1,6 @@
 //! The turns of a session over a link, and its leave.
 
-ghost use Rattle.std.specs.Prelude.{◌≡◌, ◌<◌, ◌+◌, ◌*◌, ℕ, Bool, true, false, [], ◌∷◌, OnOk};
+ghost use Rattle.std.specs.Prelude.{◌≡◌, ◌≤◌, ◌<◌, ◌+◌, ◌*◌, ℕ, Bool, true, false, [], ◌∷◌, OnOk};
 ghost use Rattle.rand_core.specs.Stream.{Stream, next_u32};
 ghost use Rattle.rtcp_engine.specs.Acts.{left};
 ghost use Rattle.rtcp_engine.specs.Promises.{Takes};
@@ -27,6 +27,7 @@ fn read_clock<L: Link>(link: &mut L, tally: &mut Tally)
     ensures called { (moment : ℕ) × WereCalled (clock_read moment ∷ []) (L.value link.old) (L.value link.new)
         × (tally.new ≡ with_moment moment tally.old) }
     ensures told { (L.value link.new).told ≡ (L.value link.old).told }
+    ensures later { tally.old.moment ≤ tally.new.moment }
     ensures room { (more : ℕ) → HasRoom more tally.old (L.value link.old) →
         HasRoom more tally.new (L.value link.new) }
 {
@@ -50,6 +51,7 @@ fn hear<L: Link, T: MemberTable, R: Rng>(
         Walks reader total s s (L.value link.old) (L.value link.new) participant.new (R.stream rng.new) tally.new
         (Reaches (after_port port) result) s.turns s.leaving }
     ensures row { OnOk result (tally.new.failures < 64) }
+    ensures later { tally.old.moment ≤ tally.new.moment }
     ensures room { (more : ℕ) → HasRoom (more + 2) tally.old (L.value link.old) →
         HasRoom more tally.new (L.value link.new) }
 {
@@ -129,6 +131,7 @@ fn tell<L: Link, T: MemberTable>(
         Walks reader total s t (L.value link.old) (L.value link.new) kept words tally.new
         (Reaches (led_to next refused (answer_value answer)) result) t.turns t.leaving }
     ensures row { tally.new.failures ≡ tally.old.failures }
+    ensures later { tally.old.moment ≤ tally.new.moment }
     ensures room { (more : ℕ) → HasRoom (more + 1) tally.old (L.value link.old) →
         HasRoom more tally.new (L.value link.new) }
 {
@@ -144,6 +147,7 @@ fn hand_over<L: Link>(link: &mut L, tally: &mut Tally, answer: Answer) -> Result
         Walks reader total s s (L.value link.old) (L.value link.new) kept words tally.new
         (Reaches (led_to next refused (answer_value answer)) result) s.turns s.leaving }
     ensures row { tally.new.failures ≡ tally.old.failures }
+    ensures later { tally.old.moment ≤ tally.new.moment }
     ensures room { (more : ℕ) → HasRoom (more + 1) tally.old (L.value link.old) →
         HasRoom more tally.new (L.value link.new) }
 {
@@ -177,6 +181,7 @@ fn tick<L: Link, T: MemberTable, R: Rng>(
         Walks reader total s s (L.value link.old) (L.value link.new) participant.new (R.stream rng.new) tally.new
         (Reaches resting result) s.turns s.leaving }
     ensures row { tally.new.failures ≡ tally.old.failures }
+    ensures later { tally.old.moment ≤ tally.new.moment }
     ensures room { (more : ℕ) → HasRoom (more + 1) tally.old (L.value link.old) →
         HasRoom more tally.new (L.value link.new) }
 {
@@ -212,6 +217,7 @@ fn turn<L: Link, T: MemberTable, R: Rng>(
         Walks reader total s s (L.value link.old) (L.value link.new) participant.new (R.stream rng.new) tally.new
         (Reaches resting result) left s.leaving }
     ensures row { OnOk result (tally.new.failures < 64) }
+    ensures later { tally.old.moment ≤ tally.new.moment }
     ensures room { (more : ℕ) → HasRoom (more + 5) tally.old (L.value link.old) →
         HasRoom more tally.new (L.value link.new) }
 {
@@ -234,12 +240,13 @@ fn make_turns<L: Link, T: MemberTable, R: Rng, E: Ending>(
 ) -> Result<(), Cause>
     requires row { tally.old.failures < 64 }
     requires room { HasRoom (turns * 5) tally.old (L.value link.old) }
-    ensures leads { (made : ℕ) × IsCut (E.may_end ending.old has_left) turns made
+    ensures leads { (made : ℕ) × IsCut (E.may_end ending.old has_left) turns made tally.new.moment
         × ((reader : Reader) (total : ℕ) (s : SessionState) → IsReader reader →
         Holds s participant.old (R.stream rng.old) tally.old → s.stage ≡ resting → s.turns ≡ made →
         (left : ℕ) × Walks reader total s s (L.value link.old) (L.value link.new) participant.new (R.stream rng.new)
         tally.new (EndsTurns result) left s.leaving) }
     ensures row { OnOk result (tally.new.failures < 64) }
+    ensures later { tally.old.moment ≤ tally.new.moment }
     ensures room { (more : ℕ) → HasRoom (more + turns * 5) tally.old (L.value link.old) →
         HasRoom more tally.new (L.value link.new) }
     ensures ending { (left : Bool) (at : ℕ) → E.may_end ending.new left at ≡ E.may_end ending.old left at }
@@ -269,8 +276,9 @@ pub(crate) fn session<L: Link, T: MemberTable, R: Rng, E: Ending>(
 ) -> Result<(), Cause>
     requires row { tally.old.failures < 64 }
     requires room { HasRoom (turns * 10 + 1) tally.old (L.value link.old) }
-    ensures serves { (made further : ℕ) × IsCut (E.may_end ending.old false) turns made
-        × IsCut (E.may_end ending.old true) turns further × ((reader : Reader) (s : SessionState) → IsReader reader →
+    ensures serves { (made further : ℕ) × IsCut (E.may_end ending.old false) turns made tally.new.moment
+        × IsCut (E.may_end ending.old true) turns further tally.new.moment
+        × ((reader : Reader) (s : SessionState) → IsReader reader →
         Holds s participant.old (R.stream rng.old) tally.old → s.stage ≡ resting → s.turns ≡ made →
         s.leaving ≡ false → Closes reader further s (L.value link.old) (L.value link.new) participant.new
         (R.stream rng.new) tally.new (EndsAs result)) }
@@ -295,11 +303,12 @@ fn leave<L: Link, T: MemberTable, R: Rng, E: Ending>(
 ) -> Result<(), Cause>
     requires row { tally.old.failures < 64 }
     requires room { HasRoom (turns * 5 + 1) tally.old (L.value link.old) }
-    ensures serves { (further : ℕ) × IsCut (E.may_end ending.old true) turns further
+    ensures serves { (further : ℕ) × IsCut (E.may_end ending.old true) turns further tally.new.moment
         × ((reader : Reader) (s : SessionState) → IsReader reader →
         Holds s participant.old (R.stream rng.old) tally.old → IsLeaveDue s →
         Closes reader further s (L.value link.old) (L.value link.new) participant.new (R.stream rng.new) tally.new
         (EndsAs result)) }
+    ensures later { tally.old.moment ≤ tally.new.moment }
 {
     let word = rng.next_u32();
     let answer = participant.leave(tally.moment, word);

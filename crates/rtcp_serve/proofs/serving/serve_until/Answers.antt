@@ -1,7 +1,7 @@
 -- A session from its start, with an ending.
 use Rattle.rtcp_serve.specs.Serving.{at_the_start}
 use Rattle.std.proofs.Common.{refl}
-use Rattle.rtcp_serve.proofs.LinkCalls.{runs_as}
+use Rattle.rtcp_serve.proofs.LinkCalls.{runs_cut}
 use Rattle.rtcp_serve.proofs.serving.serve_until.Goals as goal
 
 pub returns : goal.returns
@@ -10,11 +10,5 @@ returns g c = record {
       let (made, further, leaves, waits, closes) = c.session-returned.ensures.serves in
       let closed = closes reader (at_the_start history _ made) reads
       (record { participant = stands; words = refl; tally = c.new-tally.ensures }) refl refl refl in
-      record {
-        made = made;
-        further = further;
-        leaves = leaves;
-        waits = waits;
-        runs = runs_as closed _ _ (c.cause_of.ensures closed.reached closed.ends) c.end.ensures refl;
-      };
+      runs_cut _ _ made further closed _ _ (c.cause_of.ensures closed.reached closed.ends) c.end.ensures leaves waits;
 }

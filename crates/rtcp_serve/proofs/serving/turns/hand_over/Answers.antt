@@ -14,7 +14,7 @@ returns-in-Some-clause-leads g c = λ reader total next refused kept words s hol
     ∙ ap (λ answer. stage_to_send next refused (answer_value answer)) c.in-Ok.is
     ∙ ap (λ out. stage_after_step next c.in-Ok.step.changed (option_map out_value out)) c.in-Some.is
     ∙ ap (λ out. sending (out_value out) c.in-Ok.step.changed next) (sym c.in-Some.out-is))
-    c.as_slice.ensures.value c.send-sent.ensures.called c.send-sent.ensures.told c.send.ensures
+    c.as_slice.ensures.value c.send-sent.ensures.called c.send-sent.ensures.told c.send.ensures.moved
     c.is_err.ensures.value in
     walks_to walk (walk.ends ∙ sym (ap (λ answer. led_to next refused (answer_value answer)) c.in-Ok.is))
 

@@ -12,8 +12,8 @@ returns-in-Got-clause-leads g c = λ reader total s reads holds stage.
     let takes = c.arrive-answer.ensures reader reads in
     let answers = takes.answer s.history holds.participant in
     let moves = datagram_told reader total c.args.port c.in-Got.peer c.split_at.result.0.now _ s _ _ _ _ _ _ _ _ _ _ _
-    holds stage c.split_at.ensures.front c.in-Got.ensures.called c.next_u32-drawn.ensures c.datagram.ensures
-    c.arrival.ensures c.arrival_event-event.ensures answers in
+    holds stage c.split_at.ensures.front c.in-Got.ensures.called c.next_u32-drawn.ensures c.datagram.ensures.moved
+    c.arrival.ensures.moved c.arrival_event-event.ensures answers in
     let walk = c.tell.ensures.leads reader total next next _ _ s _
     (record { participant = takes.stands s.history holds.participant; words = refl; tally = refl }) refl refl in
     walks_after moves (tells_none s s _ _ refl c.in-Got.ensures.told)
@@ -22,5 +22,6 @@ returns-in-Got-clause-leads g c = λ reader total s reads holds stage.
 
 pub returns-in-Got-clause-room : goal.returns-in-Got-clause-room
 returns-in-Got-clause-room g c = λ more room.
-    c.tell.ensures.room more (datagram_room more _ _ _ _ _ _ _ _ _ _ room c.datagram.ensures c.arrival.ensures
+    c.tell.ensures.room more (datagram_room more _ _ _ _ _ _ _ _ _ _ room c.datagram.ensures.moved
+    c.arrival.ensures.moved
     c.in-Got.ensures.called)

@@ -1,5 +1,5 @@
 -- The leave, and turns after it.
-use Rattle.std.proofs.Common.{◌*◌, refl, sym, ap, ◌∙◌, subst, if◌then◌else◌}
+use Rattle.std.proofs.Common.{◌*◌, refl, sym, ap, ◌∙◌, subst, if◌then◌else◌, arith}
 use Rattle.rtcp_engine.specs.Views.{answer_value}
 use Rattle.rtcp_serve.specs.declared.serving.Cause.TheVariants.{Done}
 use Rattle.rtcp_serve.specs.Serving.{resting, ended}
@@ -11,7 +11,7 @@ pub returns-in_err-tell : goal.returns-in_err-tell
 returns-in_err-tell g c = record {
   serves = (
     c.args.turns,
-    uncut_whole _ _,
+    uncut_whole _ _ _,
     λ reader s reads holds due.
         let takes = c.leave-answer.ensures.takes in
         let (u, goes, walk) = leave_told reader c.args.turns s _ _ _ _ _ _ _ _ _ _ _ holds due c.next_u32-word.ensures
@@ -22,6 +22,7 @@ returns-in_err-tell g c = record {
         (λ r. IsClosed c.args.turns walk.reached (EndsAs r)) c.from_residual.result c.in_err-tell.was
         c.from_residual.ensures.1 (closed_at c.args.turns walk.reached) walk.ends),
   );
+  later = c.tell.ensures.later;
 }
 
 pub make_turns-requires-clause-room : goal.make_turns-requires-clause-room
@@ -45,13 +46,14 @@ returns-then-was_taken g c = let (further, cut, leads) = c.make_turns.ensures.le
         let whole = walks_on walk more refl in
         closes goes whole (closed_after further whole.reached c.make_turns.result whole.ends whole.leaving),
   );
+  later = omega (arith, c.tell.ensures.later, c.make_turns.ensures.later);
 }
 
 pub returns-else-was_taken : goal.returns-else-was_taken
 returns-else-was_taken g c = record {
   serves = (
     c.args.turns,
-    uncut_whole _ _,
+    uncut_whole _ _ _,
     λ reader s reads holds due.
         let takes = c.leave-answer.ensures.takes in
         let (u, goes, walk) = leave_told reader c.args.turns s _ _ _ _ _ _ _ _ _ _ _ holds due c.next_u32-word.ensures
@@ -63,4 +65,5 @@ returns-else-was_taken g c = record {
         (sym c.is_ok-was_taken.ensures.value ∙ c.if-was_taken.false) in
         closes goes walk (closed_at c.args.turns walk.reached refused),
   );
+  later = c.tell.ensures.later;
 }

@@ -8,6 +8,7 @@ use Rattle.rtcp_serve.proofs.serving.turns.make_turns.Goals as goal
 pub turns-init : goal.turns-init
 turns-init g c = record {
   row = c.requires.row;
+  later = omega (arith);
   room = λ more room. less_room (more + 0) more _ _ (omega (arith)) room;
   leads = λ reader total left s reads holds stage turns.
       let walk = walks_nowhere reader total s _ _ _ (λ t. t.stage ≡ resting) _ holds stage in
@@ -18,7 +19,7 @@ turns-init g c = record {
 pub returns-then-is_none-clause-leads : goal.returns-then-is_none-clause-leads
 returns-then-is_none-clause-leads g c = (
   c.args.turns,
-  uncut_whole _ _,
+  uncut_whole _ _ _,
   λ reader total s reads holds stage turns.
       let walk = c.turns.invariant.leads reader total (c.args.turns - c.turns.counter) s reads holds stage
       (omega (arith, turns, c.turns-test.true)) in (
@@ -62,7 +63,7 @@ turn-requires-clause-room g c = c.turns.invariant.room 5
 pub returns-in_err-turn-clause-leads : goal.returns-in_err-turn-clause-leads
 returns-in_err-turn-clause-leads g c = (
   c.args.turns,
-  uncut_whole _ _,
+  uncut_whole _ _ _,
   λ reader total s reads holds stage turns.
       let left = c.args.turns - (c.turns.counter + 1) in
       let walk = c.turns.invariant.leads reader total (left + 1) s reads holds stage
@@ -91,6 +92,7 @@ returns-in_err-turn-clause-ending g c = λ left at. c.is_over.ensures.stays left
 pub turns-preserved : goal.turns-preserved
 turns-preserved g c = record {
   row = c.in_ok-turn.ensures.row;
+  later = omega (arith, c.turns.invariant.later, c.turn.ensures.later);
   room = λ more room. c.turn.ensures.room more
       (c.turns.invariant.room (more + 5)
       (less_room (more + (c.turns.counter + 1) * 5) (more + 5 + c.turns.counter * 5) _ _ (omega (arith)) room));
@@ -110,7 +112,7 @@ turns-preserved g c = record {
 pub returns-clause-leads : goal.returns-clause-leads
 returns-clause-leads g c = (
   c.args.turns,
-  uncut_whole _ _,
+  uncut_whole _ _ _,
   λ reader total s reads holds stage turns.
       let walk = c.turns.invariant.leads reader total 0 s reads holds stage
       (omega (arith, turns, c.turns.auto.counter-end)) in

@@ -1,4 +1,4 @@
-use Rattle.std.proofs.Common.{◌≡◌, ◌<◌, ◌+◌, ◌*◌, ℕ, Bool}
+use Rattle.std.proofs.Common.{◌≡◌, ◌≤◌, ◌<◌, ◌+◌, ◌*◌, ℕ, Bool}
 use Rattle.rtcp_serve.specs.Serving.{Reader, IsReader, SessionState, resting}
 use Rattle.rtcp_serve.specs.Sessions.{Holds, Walks}
 use Rattle.rtcp_serve.specs.Tallies.{HasRoom}
@@ -7,6 +7,7 @@ use Rattle.rtcp_serve.proofs.serving.turns.make_turns.Given as goal
 abbrev pub invariant-turns : goal.invariant-turns
 invariant-turns g l = record {
   row : l.tally.failures < 64;
+  later : l.fn.tally.moment ≤ l.tally.moment;
   room : (more : ℕ) → HasRoom (more + l.counter * 5) l.fn.tally (g.L.Link.value l.fn.link) →
       HasRoom more l.tally (g.L.Link.value l.link);
   leads : (reader : Reader) (total left : ℕ) (s : SessionState) → IsReader reader →

@@ -12,7 +12,7 @@ returns-in_err-make_turns g c = let (made, cut, leads) = c.make_turns.ensures.le
     made,
     c.args.turns,
     cut,
-    uncut_whole _ _,
+    uncut_whole _ _ _,
     λ reader s reads holds stage turns leaving.
         let (left, walk) = leads reader c.args.turns s reads holds stage turns in
         closes refl walk (stops (λ r. EndsTurns r walk.reached)
@@ -27,7 +27,7 @@ returns-then-is_none g c = let (made, cut, leads) = c.make_turns.ensures.leads i
     made,
     c.args.turns,
     cut,
-    uncut_whole _ _,
+    uncut_whole _ _ _,
     λ reader s reads holds stage turns leaving.
         let (left, walk) = leads reader c.args.turns s reads holds stage turns in
         let (rests, over) = subst (λ r. EndsTurns r walk.reached) c.in_ok-make_turns.was walk.ends in
@@ -49,8 +49,8 @@ returns g c =
       serves = (
         made,
         further,
-        cut,
-        cut_alike _ _ _ _ (c.make_turns.ensures.ending true) waits,
+        cut_alike _ _ _ _ _ _ (λ at. refl) c.leave.ensures.later cut,
+        cut_alike _ _ _ _ _ _ (c.make_turns.ensures.ending true) (omega (arith)) waits,
         λ reader s reads holds stage turns leaving.
             let (left, walk) = leads reader further s reads holds stage turns in
             let (rests, over) = subst (λ r. EndsTurns r walk.reached) c.in_ok-make_turns.was walk.ends in
