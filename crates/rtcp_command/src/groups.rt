@@ -7,8 +7,7 @@ ghost use Rattle.rtcp_command.specs.Groups.{group_text, groups_text, is_group as
 use std::alloc::{AllocError, Global};
 use std::net::SocketAddrV4;
 
-/// The lines that warn where the endpoint of RTP or of RTCP is a group: a session binds its address, but joins no
-/// group.
+/// The lines that warn where the endpoint of RTP or of RTCP is a group: a session binds its address, but does not join.
 ///
 /// # Errors
 ///
