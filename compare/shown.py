@@ -109,6 +109,8 @@ class Shown:
         rate = None if "--clock" in options else int(options[options.index("--rate") + 1])
         self.answer = (lambda octets: plain_answer(octets, rate)) if is_plain else decoder.answer
         self.cnames, self.trips = {}, {}  # of the sources that are listed
+        self.rtp_peers, self.rtcp_peers = {}, {}  # and where their datagrams came from
+        self.counted, self.before, self.looked, self.elapsed = {}, {}, 0, 1
         self.second, self.last, self.roles = 0, None, {}
         self.lines = []
 
@@ -133,10 +135,14 @@ class Shown:
             self.tell_answer(now, answer)
         if taken and kind == b"rtcp":
             self.note(moment, octets)
+            self.note_peer(self.rtcp_peers, octets[4:8], int(fields[0]))
+        if taken and kind == b"rtp":
+            self.note_peer(self.rtp_peers, bytes.fromhex(fields[2].decode())[8:12], int(fields[0]))
         if taken and self.participant.is_present():
             self.show_changes(now)
         if moment // SECOND > self.second:
             self.second = moment // SECOND
+            self.elapsed, self.looked = max(1, moment - self.looked), moment
             self.show_sources(now)
 
     def tell_answer(self, now, answer):
@@ -161,6 +167,25 @@ class Shown:
                 for item, text in items:
                     if item == CNAME and number(identifier) in self.listed():
                         self.cnames[number(identifier)] = text
+
+    def note_peer(self, peers, ssrc, peer):
+        if number(ssrc) in self.listed():
+            peers[number(ssrc)] = peer
+
+    def flow(self, ssrc):
+        """How the packets of a source come."""
+        source, text = self.listed()[ssrc], ""
+        tenths = lambda number: f"{number // 10}.{number % 10}"
+        if source.integers:
+            received, lost = source.reception()[:2]
+            lost = max(0, lost)
+            text += f" loss={tenths(lost * 1000 // max(1, received + lost))}%"
+        if source.last_block:
+            text += f" interval-loss={tenths(source.last_block[0] * 1000 // 256)}%"
+        if source.integers and ssrc in self.before and self.before[ssrc] <= received:
+            text += f" pace={tenths((received - self.before[ssrc]) * 10 * SECOND // self.elapsed)}/s"
+        peer = self.rtp_peers.get(ssrc, self.rtcp_peers.get(ssrc))
+        return text + (f" peer={peer_text(peer)}" if peer is not None else "")
 
     def show_changes(self, now):
         """Who joined, left, began or ceased to send."""
@@ -190,12 +215,17 @@ class Shown:
             text += f" round-trip={time_text(self.trips[ssrc] * SECOND // 65536)}"
         if ssrc in self.cnames:
             text += f" cname=\"{escaped(self.cnames[ssrc])}\""
-        return text
+        return text + self.flow(ssrc)
 
     def show_sources(self, now):
         listed = sorted(self.listed())
         self.cnames = {ssrc: text for ssrc, text in self.cnames.items() if ssrc in listed}
         self.trips = {ssrc: trip for ssrc, trip in self.trips.items() if ssrc in listed}
+        for peers in (self.rtp_peers, self.rtcp_peers):
+            for ssrc in peers.keys() - listed:
+                del peers[ssrc]
+        counted = {ssrc: source.reception()[0] for ssrc, source in self.listed().items() if source.integers}
+        self.before, self.counted = self.counted, counted
         shown = [f"members={self.participant.members()} senders={self.participant.senders()}", *map(self.row, listed)]
         if shown != self.last:
             self.last = shown

@@ -4,5 +4,6 @@ pub mod Headers
 pub mod Lines
 pub mod Changes
 pub mod Notes
+pub mod Flows
 pub mod Rows
 pub mod Watchers

@@ -3,11 +3,13 @@ use Rattle.std.specs.Prelude.{ℕ, ◌*◌, ◌/◌, Bool, true, false, List, []
 use Rattle.std.specs.Fmt.{decimal, signed_decimal}
 use Rattle.std.specs.List.{flat_map}
 use Rattle.core.specs.Char.Escape.{escape_ascii}
+use Rattle.rtcp_source.specs.LastBlocks.{LastBlockValue}
 use Rattle.rtcp_source.specs.Receptions.{ReceptionValue}
 use Rattle.rtcp_members.specs.Told.{StateValue}
 use Rattle.rtcp_text.specs.Text.{hex_word}
 use Rattle.rtcp_show.specs.Notes.{NoteValue}
-use Rattle.rtcp_show.specs.Numbers.{fixed_text, moment_text}
+use Rattle.rtcp_show.specs.Numbers.{fixed_text, moment_text, peer_text}
+use Rattle.rtcp_show.specs.declared.flows.Flow.{Flow}
 
 -- ---- Parts
 
@@ -45,15 +47,46 @@ cname_text (Some cname) = codes " cname=" ++ 34 ∷ flat_map escape_ascii cname 
 
 -- ---- Rows
 
-abbrev pub row_text : StateValue → NoteValue → List ℕ
-row_text state note =
+abbrev pub facts_text : StateValue → NoteValue → List ℕ
+facts_text state note =
     codes "source=" ++ hex_word state.ssrc ++ standing_text state ++ reception_text state.reception
-    ++ trip_text note.trip ++ cname_text note.cname ++ 10 ∷ []
+    ++ trip_text note.trip ++ cname_text note.cname
+
+abbrev pub row_text : StateValue → NoteValue → List ℕ
+row_text state note = facts_text state note ++ 10 ∷ []
+
+-- ---- How packets come, after these facts
+
+-- a word, and tenths with what they are tenths of
+abbrev pub tenths_text : (word : List ℕ) → Option ℕ → (unit : List ℕ) → List ℕ
+tenths_text word None unit = []
+tenths_text word (Some tenths) unit = word ++ fixed_text 10 tenths ++ unit
+
+-- the fraction lost of the last block that was made of the source, in 1/256
+abbrev pub interval_text : Option LastBlockValue → List ℕ
+interval_text None = []
+interval_text (Some block) = codes " interval-loss=" ++ fixed_text 10 (block.fraction * 1000 / 256) ++ codes "%"
+
+-- That of RTP comes first.
+abbrev pub origin_text : (rtp rtcp : Option ℕ) → List ℕ
+origin_text (Some peer) rtcp = codes " peer=" ++ peer_text peer
+origin_text None (Some peer) = codes " peer=" ++ peer_text peer
+origin_text None None = []
+
+abbrev pub flow_text : StateValue → Flow → List ℕ
+flow_text state flow =
+    tenths_text (codes " loss=") flow.loss (codes "%") ++ interval_text state.last_block
+    ++ tenths_text (codes " pace=") flow.pace (codes "/s") ++ origin_text flow.rtp_peer flow.rtcp_peer
+
+abbrev pub full_row_text : StateValue → NoteValue → Flow → List ℕ
+full_row_text state note flow = facts_text state note ++ flow_text state flow ++ 10 ∷ []
 
 abbrev pub counts_text : (members senders : ℕ) → List ℕ
 counts_text members senders = codes "members=" ++ decimal members ++ codes " senders=" ++ decimal senders ++ 10 ∷ []
 
 -- the counts, and a row for each source, with what is noted of it
-abbrev pub sources_text : (members senders : ℕ) → (note : ℕ → NoteValue) → List StateValue → List ℕ
-sources_text members senders note states =
-    counts_text members senders ++ flat_map (λ state. row_text state (note state.ssrc)) states
+abbrev pub sources_text :
+    (members senders : ℕ) → (note : ℕ → NoteValue) → (flow : ℕ → Flow) → List StateValue → List ℕ
+sources_text members senders note flow states =
+    counts_text members senders
+    ++ flat_map (λ state. full_row_text state (note state.ssrc) (flow state.ssrc)) states

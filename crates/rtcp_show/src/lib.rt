@@ -11,6 +11,7 @@
 #![tactic(auto)]
 
 mod changes;
+mod flows;
 mod header;
 mod lines;
 mod notes;
@@ -20,9 +21,10 @@ mod watcher;
 mod wording;
 
 pub use changes::push_change;
+pub use flows::Flow;
 pub use header::push_header;
 pub use lines::push_lines;
 pub use notes::Note;
-pub use rows::push_row;
+pub use rows::{push_flow, push_row};
 pub use watcher::Watcher;
 pub use wording::Wording;

@@ -154,7 +154,7 @@ impl Notes {
 }
 
 /// Whether the participant tells of a source.
-fn is_listed<T: MemberTable>(ssrc: u32, participant: &Participant<T>) -> bool {
+pub(crate) fn is_listed<T: MemberTable>(ssrc: u32, participant: &Participant<T>) -> bool {
     match participant.source_above(ssrc.checked_sub(1)) {
         Some(state) => state.ssrc == ssrc,
         None => false,

@@ -4,21 +4,23 @@ ghost use Rattle.std.specs.Prelude.{◌≡◌, ◌++◌, ◌∷◌, [], List, On
 ghost use Rattle.std.specs.Fmt.{decimal};
 ghost use Rattle.std.specs.List.{flat_map};
 ghost use Rattle.core.specs.Char.Escape.{escape_ascii};
-ghost use Rattle.rtcp_source.specs.Views.{reception_value};
+ghost use Rattle.rtcp_source.specs.Views.{last_block_value, reception_value};
 ghost use Rattle.rtcp_members.specs.ListViews.{state_value};
 ghost use Rattle.rtcp_members.specs.Told.{StateValue};
 ghost use Rattle.rtcp_engine.specs.Histories.{History, life_at, setup_at};
 ghost use Rattle.rtcp_engine.specs.Lives.{WalksInLife, members_in_life, senders_in_life};
 ghost use Rattle.rtcp_engine.specs.States.{StandsAt};
+ghost use Rattle.rtcp_show.specs.Flows.{flow_in};
 ghost use Rattle.rtcp_show.specs.Notes.{note_value, noted_in};
-ghost use Rattle.rtcp_show.specs.Rows.{cname_text, counts_text, sources_text, left_text, reception_text, row_text, standing_text, time_text, trip_text};
+ghost use Rattle.rtcp_show.specs.Rows.{cname_text, counts_text, facts_text, flow_text, full_row_text, interval_text, origin_text, tenths_text, sources_text, left_text, reception_text, row_text, standing_text, time_text, trip_text};
 
+use crate::flows::{Flow, Flows};
 use crate::notes::{Note, Notes};
-use crate::numbers::{push_fixed, push_moment};
+use crate::numbers::{push_fixed, push_moment, push_peer};
 use arrayvec::ArrayVec;
 use rtcp_engine::Participant;
 use rtcp_members::{MemberTable, SourceState};
-use rtcp_source::Reception;
+use rtcp_source::{LastBlock, Reception};
 use rtcp_text::text::digits::{push_decimal, push_signed, push_word};
 use std::alloc::AllocError;
 
@@ -27,17 +29,18 @@ pub(crate) fn push_sources<T: MemberTable>(
     out: &mut Vec<u8>,
     participant: &Participant<T>,
     notes: &Notes,
+    flows: &Flows,
 ) -> Result<(), AllocError>
     ensures { (history : History) → StandsAt participant.now history →
         OnOk result ((states : List StateValue) × WalksInLife (setup_at history) (life_at history) states
         × (out.new.items ≡ out.old.items ++ sources_text
         (members_in_life (setup_at history) (life_at history)) (senders_in_life (setup_at history) (life_at history))
-        (noted_in notes.now) states)) }
+        (noted_in notes.now) (flow_in flows.now) states)) }
 {
     let standing = participant.standing();
     push_counts(out, standing.members, standing.senders)?;
     for state in participant.sources() {
-        push_noted_row(out, &state, notes)?;
+        push_noted_row(out, &state, notes, flows)?;
     }
     Ok(())
 }
@@ -54,14 +57,93 @@ fn push_counts(out: &mut Vec<u8>, members: u32, senders: u32) -> Result<(), Allo
     Ok(())
 }
 
-/// Appends the row of a source, with what is noted of it.
-fn push_noted_row(out: &mut Vec<u8>, state: &SourceState, notes: &Notes) -> Result<(), AllocError>
+/// Appends the row of a source, with what is noted of it and how its packets come.
+fn push_noted_row(
+    out: &mut Vec<u8>,
+    state: &SourceState,
+    notes: &Notes,
+    flows: &Flows,
+) -> Result<(), AllocError>
+    ensures { OnOk result (out.new.items ≡ out.old.items ++ full_row_text (state_value state.now)
+        (noted_in notes.now state.now.ssrc) (flow_in flows.now state.now.ssrc)) }
+{
+    push_noted_facts(out, state, notes)?;
+    push_flow(out, state, flows.get(state.ssrc))?;
+    out.push(b'\n')?;
+    Ok(())
+}
+
+/// Appends what is told and noted of a source.
+fn push_noted_facts(out: &mut Vec<u8>, state: &SourceState, notes: &Notes) -> Result<(), AllocError>
     ensures { OnOk result (out.new.items
-        ≡ out.old.items ++ row_text (state_value state.now) (noted_in notes.now state.now.ssrc)) }
+        ≡ out.old.items ++ facts_text (state_value state.now) (noted_in notes.now state.now.ssrc)) }
 {
     match notes.get(state.ssrc) {
-        Some(note) => push_row(out, state, note),
-        None => push_row(out, state, &Note::new()),
+        Some(note) => push_facts(out, state, note),
+        None => push_facts(out, state, &Note::new()),
+    }
+}
+
+/// Appends how the packets of a source come, as the row of a watcher has it after the facts of [`push_row`]:
+/// ` loss=1.2% interval-loss=0.0% pace=50.0/s peer=127.0.0.1:5004`. Each is left out where it is not known.
+///
+/// # Errors
+///
+/// `AllocError` where memory is refused. It is then left open how much of the text was appended.
+pub fn push_flow(out: &mut Vec<u8>, state: &SourceState, flow: Flow) -> Result<(), AllocError>
+    ensures { OnOk result (out.new.items ≡ out.old.items ++ flow_text (state_value state.now) flow) }
+{
+    push_tenths(out, b" loss=", flow.loss, b"%")?;
+    push_interval(out, state.last_block)?;
+    push_tenths(out, b" pace=", flow.pace, b"/s")?;
+    push_origin(out, flow.rtp_peer, flow.rtcp_peer)
+}
+
+/// Appends a word, and tenths with what they are tenths of, if they are known.
+fn push_tenths(
+    out: &mut Vec<u8>,
+    word: &[u8],
+    tenths: Option<u64>,
+    unit: &[u8],
+) -> Result<(), AllocError>
+    ensures { OnOk result (out.new.items ≡ out.old.items ++ tenths_text word.now tenths unit.now) }
+{
+    let Some(tenths) = tenths else {
+        return Ok(());
+    };
+    out.extend_from_slice(word)?;
+    push_fixed(out, tenths, 10)?;
+    out.extend_from_slice(unit)
+}
+
+/// Appends the fraction lost of the last block of a source, if one was made of it.
+fn push_interval(out: &mut Vec<u8>, block: Option<LastBlock>) -> Result<(), AllocError>
+    ensures { OnOk result (out.new.items
+        ≡ out.old.items ++ interval_text (option_map last_block_value block)) }
+{
+    let Some(block) = block else {
+        return Ok(());
+    };
+    out.extend_from_slice(b" interval-loss=")?;
+    push_fixed(out, u64::from(block.fraction) * 1_000 / 256, 10)?;
+    out.push(b'%')?;
+    Ok(())
+}
+
+/// Appends where a source sends from: its RTP, or else its RTCP.
+fn push_origin(
+    out: &mut Vec<u8>,
+    rtp_peer: Option<u64>,
+    rtcp_peer: Option<u64>,
+) -> Result<(), AllocError>
+    ensures { OnOk result (out.new.items ≡ out.old.items ++ origin_text rtp_peer rtcp_peer) }
+{
+    match (rtp_peer, rtcp_peer) {
+        (Some(peer), _) | (None, Some(peer)) => {
+            out.extend_from_slice(b" peer=")?;
+            push_peer(out, peer)
+        }
+        (None, None) => Ok(()),
     }
 }
 
@@ -82,14 +164,22 @@ pub fn push_row(out: &mut Vec<u8>, state: &SourceState, note: &Note) -> Result<(
     ensures { OnOk result (out.new.items
         ≡ out.old.items ++ row_text (state_value state.now) (note_value note.now)) }
 {
+    push_facts(out, state, note)?;
+    out.push(b'\n')?;
+    Ok(())
+}
+
+/// Appends what is told of a source, and noted of it.
+fn push_facts(out: &mut Vec<u8>, state: &SourceState, note: &Note) -> Result<(), AllocError>
+    ensures { OnOk result (out.new.items
+        ≡ out.old.items ++ facts_text (state_value state.now) (note_value note.now)) }
+{
     out.extend_from_slice(b"source=")?;
     push_word(out, state.ssrc)?;
     push_standing(out, state)?;
     push_reception(out, state.reception)?;
     push_trip(out, note.trip)?;
-    push_cname(out, &note.cname)?;
-    out.push(b'\n')?;
-    Ok(())
+    push_cname(out, &note.cname)
 }
 
 /// Appends what a source is.

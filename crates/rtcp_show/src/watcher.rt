@@ -13,6 +13,7 @@ ghost use Rattle.rtcp_show.specs.declared.wording.Wording.TheVariants.{Brief};
 ghost use Rattle.rtcp_show.specs.Lines.{ReadsAs, ShowsBothBy, moment_of_event as moment_in, unsent_text};
 
 use crate::changes::{push_changes, push_listing};
+use crate::flows::Flows;
 use crate::lines::{compound_of, moment_of, push_read_lines, push_unsent};
 use crate::notes::Notes;
 use crate::numbers::{number_of_endpoint, push_moment};
@@ -50,6 +51,7 @@ pub(crate) struct Terms {
 pub struct Watcher<W> {
     terms: Terms,
     notes: Notes,
+    flows: Flows,
     writer: W,
     /// What is to be written next, kept from part to part.
     text: Vec<u8>,
@@ -86,6 +88,7 @@ impl<W: Drop> Watcher<W> {
                 wording: Wording::Brief,
             },
             notes: Notes::new(alloc),
+            flows: Flows::new(alloc),
             writer,
             text: Vec::new(alloc),
             rows: Vec::new(alloc),
@@ -155,6 +158,7 @@ impl<W: Write> Watcher<W> {
             let arrived = (ntp_of(self.terms.ntp_base, now) / 65_536 % (1 << 32)) as u32;
             self.notes.note(arrived, compound, participant);
         }
+        self.flows.note(event, answer, &compound, participant);
         let standing = self.show_standing(now, answer, participant);
         match shown {
             Ok(()) => standing,
@@ -303,6 +307,7 @@ impl<W: Write> Watcher<W> {
         }
         self.second = now / SECOND;
         let _ = self.notes.keep_listed(participant);
+        let _ = self.flows.look(now, participant);
         match self.compose(now, participant) {
             Ok(true) => self.write(),
             Ok(false) => Ok(()),
@@ -322,7 +327,7 @@ impl<W: Write> Watcher<W> {
             result ≡ Ok true → ShowsSources now history self.new.text.items }
     {
         self.next_rows.clear();
-        push_sources(&mut self.next_rows, participant, &self.notes)?;
+        push_sources(&mut self.next_rows, participant, &self.notes, &self.flows)?;
         if self.next_rows == self.rows {
             return Ok(false);
         }

@@ -3,8 +3,8 @@
 use super::same;
 use arrayvec::ArrayVec;
 use rtcp_members::SourceState;
-use rtcp_show::{Note, push_row};
-use rtcp_source::Reception;
+use rtcp_show::{Flow, Note, push_flow, push_row};
+use rtcp_source::{LastBlock, Reception};
 use std::alloc::Global;
 use std::test::Fail;
 
@@ -96,5 +96,35 @@ fn escaped(rt: HostRuntime) -> Result<(), Fail> {
         "source=00000007 sends=no cname=\"a@b\\x1b[2J\\\"\\\\\\r\\n\\t\\'\\x00\\x7f\\xc3\\xa9\"\n";
     let text = row(rt.alloc(), &state(), &note)?;
     same(&rt, &text, want.as_bytes(), "escaped");
+    Ok(())
+}
+
+/// How packets come: an interval's loss of 1/256 is 0.3 per cent, and the peer of RTP comes before that of RTCP.
+#[test]
+fn flows(rt: HostRuntime) -> Result<(), Fail> {
+    let mut state = state();
+    let mut text = Vec::new(rt.alloc());
+    push_flow(&mut text, &state, Flow::new())?;
+    same(&rt, &text, b"", "nothing is known");
+    let rtcp = Flow {
+        rtcp_peer: Some(0x0a00_0001 * 65_536 + 5_005),
+        ..Flow::new()
+    };
+    push_flow(&mut text, &state, rtcp)?;
+    same(&rt, &text, b" peer=10.0.0.1:5005", "its RTCP alone");
+    text.clear();
+    state.last_block = Some(LastBlock {
+        fraction: 1,
+        highest: 9,
+    });
+    let all = Flow {
+        rtp_peer: Some(0x0a00_0001 * 65_536 + 5_004),
+        loss: Some(125),
+        pace: Some(500),
+        ..rtcp
+    };
+    push_flow(&mut text, &state, all)?;
+    let want = b" loss=12.5% interval-loss=0.3% pace=50.0/s peer=10.0.0.1:5004";
+    same(&rt, &text, want, "all is known");
     Ok(())
 }

@@ -97,21 +97,23 @@ const SESSION: &str = "\
 0.100000 in 127.0.0.1:5007 ok RR(00000007,[],0) SDES([00000007{1=61}])
 0.100000 joined=00000007
 1.000000 members=2 senders=0
-source=00000007 sends=no cname=\"a\"
+source=00000007 sends=no cname=\"a\" peer=127.0.0.1:5007
 2.000000 out 127.0.0.1:5007 ok RR(000000aa,[],0) SDES([000000aa{1=61}])
 3.000000 in 127.0.0.1:5007 ok RR(00000007,[000000aa/0/0/0/0/00020000/00008000],0)
 3.000000 members=2 senders=0
-source=00000007 sends=no round-trip=500.000ms cname=\"a\"
+source=00000007 sends=no round-trip=500.000ms cname=\"a\" peer=127.0.0.1:5007
 3.120000 began-sending=00000007
 4.000000 members=2 senders=1
-source=00000007 sends=yes packets=2 lost=1 jitter=0.125ms round-trip=500.000ms cname=\"a\"
+source=00000007 sends=yes packets=2 lost=1 jitter=0.125ms round-trip=500.000ms cname=\"a\" \
+loss=33.3% peer=127.0.0.1:5007
 4.400000 out 127.0.0.1:5007 ok \
 RR(000000aa,[00000007/85/1/4/1/00000000/00000000],0) SDES([000000aa{1=61}])
 4.500000 in 127.0.0.1:5007 ok RR(00000007,[],0) BYE([00000007],-)
 4.500000 stopped-sending=00000007
 4.500000 bye=00000007
 5.000000 members=1 senders=0
-source=00000007 sends=no left=4.500000 packets=2 lost=1 jitter=0.125ms round-trip=500.000ms cname=\"a\"
+source=00000007 sends=no left=4.500000 packets=2 lost=1 jitter=0.125ms round-trip=500.000ms cname=\"a\" \
+loss=33.3% interval-loss=33.2% pace=0.0/s peer=127.0.0.1:5007
 5.500000 in 127.0.0.1:5007 refused E5 Wire: F1 Short at 0
 6.000000 out 127.0.0.1:5007 ok RR(000000aa,[],0) SDES([000000aa{1=61}]) BYE([000000aa],-)
 6.000000 members=0 senders=0
@@ -142,16 +144,45 @@ fn session(rt: HostRuntime) -> Result<(), Fail> {
     Ok(())
 }
 
+const PACED: &str = "\
+0.960000 joined=00000007
+0.960000 began-sending=00000007
+1.000000 members=2 senders=1
+source=00000007 sends=yes packets=2 lost=0 jitter=0.000ms loss=0.0% peer=127.0.0.1:5007
+2.500000 out 127.0.0.1:5007 ok \
+RR(000000aa,[00000007/0/0/6/0/00000000/00000000],0) SDES([000000aa{1=61}])
+2.500000 members=2 senders=1
+source=00000007 sends=yes packets=5 lost=0 jitter=0.000ms loss=0.0% interval-loss=0.0% pace=2.0/s \
+peer=127.0.0.1:5007
+";
+
+/// Three packets in the second and a half since the sources were looked at before.
+#[test]
+fn paces(rt: HostRuntime) -> Result<(), Fail> {
+    let mut watched = Watched::new(rt.alloc(), Vec::new(rt.alloc()))?;
+    watched.rtp(940_000, 1);
+    watched.rtp(960_000, 2);
+    watched.rtp(980_000, 3);
+    watched.tick(1_000_000);
+    watched.rtp(1_000_000, 4);
+    watched.rtp(1_020_000, 5);
+    watched.rtp(1_040_000, 6);
+    watched.tick(2_500_000);
+    let text = watched.watcher.into_inner();
+    assert_eq!(rt; text.as_slice(), PACED.as_bytes());
+    Ok(())
+}
+
 const PLAIN: &str = "\
 0.100000 in 127.0.0.1:5007 ok RR ssrc=00000007 SDES ssrc=00000007 cname=\"a\"
 0.100000 joined=00000007
 2.000000 out 127.0.0.1:5007 ok RR ssrc=000000aa SDES ssrc=000000aa cname=\"a\"
 2.000000 members=2 senders=0
-source=00000007 sends=no cname=\"a\"
+source=00000007 sends=no cname=\"a\" peer=127.0.0.1:5007
 3.000000 in 127.0.0.1:5007 ok RR ssrc=00000007 \
 block about=000000aa loss=0.0% lost=0 highest=0 jitter=0.000ms lsr=2.000000s dlsr=0.500000s
 3.000000 members=2 senders=0
-source=00000007 sends=no round-trip=500.000ms cname=\"a\"
+source=00000007 sends=no round-trip=500.000ms cname=\"a\" peer=127.0.0.1:5007
 3.500000 in 127.0.0.1:5007 refused E5 Wire: F1 Short at 0
 ";
 

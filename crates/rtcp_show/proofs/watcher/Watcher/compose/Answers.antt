@@ -1,3 +1,4 @@
+use Rattle.rtcp_show.specs.Flows.{flow_in}
 use Rattle.rtcp_show.specs.Notes.{noted_in}
 use Rattle.rtcp_show.proofs.LineLemmas.{said}
 use Rattle.rtcp_show.proofs.watcher.Watcher.compose.Goals as goal
@@ -10,6 +11,7 @@ returns-clause-composed g c =
       states = listed.0;
       walk = listed.1;
       noted = noted_in c.args.self.now.notes;
+      flowing = flow_in c.args.self.now.flows;
       says = said _ _ _ _ _ _ _ _ _ c.clear-2.ensures.items c.in_ok-push_moment.ensures c.in_ok-push.ensures.items
           c.in_ok-extend_from_slice.ensures.items c.deref.ensures.value c.clear.ensures.items
           listed.2;
