@@ -20,7 +20,7 @@
  * - where a datagram reaches the others after 100 or 500 ms: these are held against the law on delays too.
  *
  * `crowd faults` plants faults into what was written down of three sessions, each of which the right laws have to find,
- * and `crowd record` prints two sessions for compare/crowd-windows.
+ * and `crowd record` prints two sessions for compare/crowds/crowd-windows.
  *
  *     cc -std=c11 -O2 crowd*.c -o crowd $(pkg-config --cflags --libs jalwedd) -lm
  *     crowd [PARTICIPANTS [SEED]] > crowd-10000.svg          figures on standard error
@@ -194,7 +194,7 @@ static bool print_record(const struct plan *plan)
     return findings.broken == 0;
 }
 
-/* Two short sessions, and what their windows came to, for compare/crowd-windows to compute again. The delay of
+/* Two short sessions, and what their windows came to, for compare/crowds/crowd-windows to compute again. The delay of
  * the first is nearly as long as the shortest wait, so that often fewer have waited for longer than it than wait. */
 static bool print_records(void)
 {

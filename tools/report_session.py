@@ -14,7 +14,7 @@ from collections import Counter
 from dataclasses import dataclass, field
 from pathlib import Path
 
-sys.path.append(str(Path(__file__).resolve().parent.parent / "compare"))
+sys.path.append(str(Path(__file__).resolve().parents[1] / "compare/model"))
 
 from report_table import Table
 

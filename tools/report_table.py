@@ -1,7 +1,7 @@
 """The other sources of a session, as a participant keeps them: which are members, and what their packets say.
 
-The model of the participant (compare/participant.py) keeps all that came and looks at all sources anew after each call,
-which takes too long for a record of hours. `compare/report` compares both."""
+The model of the participant (compare/model/participant.py) keeps all that came and looks at all sources anew after each
+call, which takes too long for a record of hours. `compare/program/report` compares both."""
 from __future__ import annotations
 
 from collections import OrderedDict

@@ -1,5 +1,5 @@
 //! Sessions of a participant 000000aa with the CNAME `a`, and its answers: some of those that were worked by
-//! hand in compare/rows.py.
+//! hand in compare/model/rows.py.
 
 use jalwedd::{
     sys, Answer, Config, Item, ItemKind, Kind, LastBlock, Moment, NewError, Participant, Reception, Refusal,

@@ -1,6 +1,6 @@
 //! The program `rtcp_sample`: it plays samples/gstreamer.replay again, the record of a session with GStreamer. Its
 //! standard input and output in the gate are copies of that record and of samples/gstreamer.answers, which the model
-//! in compare/participant.py gave.
+//! in compare/model/participant.py gave.
 #![tactic(auto)]
 
 use arrayvec::ArrayVec;

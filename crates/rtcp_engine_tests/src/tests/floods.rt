@@ -43,7 +43,7 @@ impl Reports {
 
 /// A crowd joins at once, and its members leave one after another. They bring the reports no closer together than
 /// 2,052,074 microseconds, and once they are gone the reports come at that pace: a tick each 10,000 microseconds finds
-/// one due each 2,060,000. (The count and the last moment are those of the model in compare/participant.py.)
+/// one due each 2,060,000. (The count and the last moment are those of the model in compare/model/participant.py.)
 pub(crate) fn crowd_leaves<T: InlineTable + Drop>(rt: &impl Abort) {
     let mut session = Session::<T>::usual(rt);
     for number in 0..CROWD {

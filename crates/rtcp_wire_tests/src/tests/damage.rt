@@ -1,6 +1,6 @@
 //! Damage: each prefix of a datagram, and each change of one octet of it, read as RTCP and as RTP.
 //!
-//! The numbers are those of compare/damage, whose decoder and model are written from docs/ alone. The named
+//! The numbers are those of compare/program/damage, whose decoder and model are written from docs/ alone. The named
 //! report as RTCP is left out: its numbers were worked out by hand, octet by octet (`changes`, `prefixes`).
 
 use super::samples::*;
