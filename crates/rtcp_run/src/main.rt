@@ -93,16 +93,12 @@ fn run_text(rt: &HostRuntime, order: TextOrder) -> u8 {
 ///
 /// Each of [`RunFault`]. A generator that cannot be read is found first, then a refused configuration, both before the
 /// file is created, and that before a port is bound.
-fn run_listen(rt: &HostRuntime, mut order: ListenOrder) -> Result<End, RunFault>
+fn run_listen(rt: &HostRuntime, order: ListenOrder) -> Result<End, RunFault>
     requires { (1 ≤ order.turns) × (order.turns ≤ 1000000) }
 {
     let alloc = rt.alloc();
-    if order.draws_ssrc {
-        order.config.ssrc = (draw(rt)? % (1 << 32)) as u32;
-    }
-    if order.draws_seed {
-        order.seed = draw(rt)?;
-    }
+    let order = drawn(rt, order)?;
+    let turns = most_turns(&order);
     let mut rng = Pcg32::seed_from_u64(order.seed);
     let word = rng.next_u32();
     if let Some(error) = order.config.error() {
@@ -125,17 +121,12 @@ fn run_listen(rt: &HostRuntime, mut order: ListenOrder) -> Result<End, RunFault>
     } else {
         None
     };
+    let link = bound(rt, &order)?;
     let participant = Participant::with_table(order.config, table, word);
-    let link = UdpLink::bind(rt, alloc, order.rtp, order.rtcp, order.peer).map_err(run_fault)?;
     let warnings = group_warnings(alloc, order.rtp, order.rtcp).map_err(|_| RunFault::Memory)?;
     let _ = rt.stderr().write_all(&warnings);
     let observer = (recorder, watcher);
     let ending = (order.seconds.map(until), StopFile::of(rt, order.stop));
-    let turns = if order.counts_turns {
-        u64::from(order.turns)
-    } else {
-        MOST_TURNS
-    };
     let end = serve_on(Observed { link, observer }, participant, rng, ending, turns);
     let _ = rt.stderr().write_all(&closing);
     write_end(rt, &end)?;
@@ -179,6 +170,53 @@ fn wording(order: &ListenOrder) -> Wording {
         (false, _) => Wording::Brief,
         (true, true) => Wording::Plain(Some(order.config.rate)),
         (true, false) => Wording::Plain(None),
+    }
+}
+
+/// An order with the SSRC and the seed from the system's generator where it asks for that.
+///
+/// # Errors
+///
+/// [`RunFault::Random`] where the generator cannot be read.
+fn drawn(rt: &HostRuntime, order: ListenOrder) -> Result<ListenOrder, RunFault>
+    requires { (1 ≤ order.turns) × (order.turns ≤ 1000000) }
+    ensures { IfOk result (λ drawn. (1 ≤ drawn.turns) × (drawn.turns ≤ 1000000)) }
+{
+    let mut order = order;
+    if order.draws_ssrc {
+        order.config.ssrc = (draw(rt)? % (1 << 32)) as u32;
+    }
+    if order.draws_seed {
+        order.seed = draw(rt)?;
+    }
+    Ok(order)
+}
+
+/// The link of a session between the ports of an order and its peer.
+///
+/// # Errors
+///
+/// - [`RunFault::Link`] where a port cannot be bound or waited for, or the clock cannot be read.
+/// - [`RunFault::Memory`] where memory is refused.
+fn bound<'r>(rt: &'r HostRuntime, order: &ListenOrder) -> Result<UdpLink<'r, HostRuntime>, RunFault>
+    ensures receives { IfOk result (λ link. link.failed_receives ≡ 0) }
+    ensures sends { IfOk result (λ link. link.failed_sends ≡ 0) }
+{
+    match UdpLink::bind(rt, rt.alloc(), order.rtp, order.rtcp, order.peer) {
+        Ok(link) => Ok(link),
+        Err(fault) => Err(run_fault(fault)),
+    }
+}
+
+/// The most turns that an order lets a session make before the leave.
+fn most_turns(order: &ListenOrder) -> u64
+    requires { order.now.turns ≤ 1000000 }
+    ensures { result ≤ 2 ^ 59 }
+{
+    if order.counts_turns {
+        u64::from(order.turns)
+    } else {
+        MOST_TURNS
     }
 }
 
