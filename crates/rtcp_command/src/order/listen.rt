@@ -67,25 +67,31 @@ whether the BYE of leaving was sent.
 Ctrl-C ends the process as it ends any: no BYE is sent, and no line comes out. To leave in order,
 run tools/listen in place of rtcp listen: it turns ctrl-C, TERM and HUP into the file of --stop.
 
-With --show the session is written to standard error as it happens, a line for each RTCP datagram
-that comes in, each compound that goes out, and each call that is refused: the moment in seconds,
-the peer, and what rtcp check says of the datagram, or why it was refused. Once a second the
-members, the senders and a row for each source follow, unless they are as they were last:
+With --show the session is written to standard error as it happens: first who the participant is,
+and then a line for each RTCP datagram that comes in, each compound that goes out, and each call
+that is refused: the moment in seconds, the peer, and what rtcp check says of the datagram, or why
+it was refused. A compound that could not be sent has a line, and so has each source that joins,
+says BYE, times out, begins or ceases to send. Once a second the members, the senders and a row for
+each source follow, unless they are as they were last:
 
+    session ssrc=000000aa cname=\"a\" rtp=127.0.0.1:5004 rtcp=127.0.0.1:5005 peer=127.0.0.1:5007
+    0.273647 joined=5efa318e
     2.417003 out 127.0.0.1:5007 ok RR(000000aa,[],0) SDES([000000aa{1=61}])
     3.000411 members=2 senders=1
-    source=5efa318e sends=yes packets=150 lost=0 jitter=0.413ms cname=\"user@host\"
+    source=5efa318e sends=yes packets=150 lost=0 jitter=0.413ms loss=0.0% peer=127.0.0.1:5006
 
 A source that is no member has valid=no, or left= and when. What came of its packets stands in a
 row if one was counted, the CNAME if one was read, its quotes, backslashes and what is not printed
-as in a string of C; and round-trip= if the source reported on a sender report of this SSRC.
+as in a string of C; and round-trip= if the source reported on a sender report of this SSRC. Last
+come the loss of the whole and of the latest interval, the packets a second, and the peer.
 
 With --plain too, datagrams are shown in the plain words of rtcp check --plain: with --clock the
 jitter of report blocks is in units of the RTP timestamp, and otherwise in milliseconds by --rate.
 
 With --record FILE each event that the participant is told is written to the file as it happens,
 as a line that rtcp replay reads. The command that plays it again is written to standard error
-at the start. A file that is there already is refused without --force.
+at the start, and with --show once more at the end. A file that is there already is refused without
+--force.
 
 The status is 0 at Done and Limit, 2 if the command line, an option or the configuration was
 refused, and 1 at LinkDown and if a port could not be bound, or writing or memory failed.";
