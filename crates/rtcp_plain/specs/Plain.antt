@@ -4,7 +4,7 @@
 --   ok RR ssrc=0000000b block about=000000aa loss=33.2% lost=1 highest=4 jitter=0.125ms lsr=2.000000s dlsr=0.500000s
 --
 -- Each packet is a space, its name, and ` name=value` for each fact. Each block, chunk and item is such a row too.
-use Rattle.std.specs.Prelude.{◌≡◌, ℕ, ◌+◌, ◌*◌, ◌/◌, ◌==◌, if◌then◌else◌, ◌⊎◌, List, [], ◌∷◌, ◌++◌, max, length, Option, Some, None, codes}
+use Rattle.std.specs.Prelude.{ℕ, ◌*◌, ◌/◌, ◌==◌, if◌then◌else◌, List, [], ◌∷◌, ◌++◌, max, length, Option, Some, None, codes}
 use Rattle.std.specs.Fmt.{decimal, signed_decimal}
 use Rattle.std.specs.List.{flat_map}
 use Rattle.rtcp_wire.specs.Values.{SenderValue, ReportBlock, ItemValue, ChunkValue, RtcpPacket, sr, rr, sdes, bye, app, other}

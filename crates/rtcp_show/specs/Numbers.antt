@@ -1,15 +1,11 @@
 -- Numbers and addresses, as `rtcp listen --show` writes them.
-use Rattle.std.specs.Prelude.{ℕ, ◌+◌, ◌*◌, ◌/◌, ◌%◌, ◌^◌, List, ◌++◌, drop, codes}
+use Rattle.std.specs.Prelude.{ℕ, ◌+◌, ◌*◌, ◌/◌, ◌%◌, ◌^◌, List, ◌++◌, codes}
 use Rattle.std.specs.Fmt.{decimal}
 use Rattle.std.specs.Net.Addr.{ipv4_bits}
 use Rattle.std.specs.Net.Socket.{v4_ip, v4_port}
 use Rattle.std.specs.Net.Text.{dotted_text}
+use Rattle.rtcp_plain.specs.Numbers.{fixed_text}
 use Rattle.std.specs.declared.net.socket_addr.SocketAddrV4.{SocketAddrV4}
-
--- Units, a point, and the rest with as many digits as the unit has zeros: the digits of the unit and the rest, without
--- the first.
-abbrev pub fixed_text : (unit number : ℕ) → List ℕ
-fixed_text unit number = decimal (number / unit) ++ codes "." ++ drop 1 (decimal (unit + number % unit))
 
 -- a moment of so many microseconds, in seconds
 abbrev pub moment_text : ℕ → List ℕ

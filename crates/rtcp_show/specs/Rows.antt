@@ -2,20 +2,16 @@
 use Rattle.std.specs.Prelude.{ℕ, ◌*◌, ◌/◌, Bool, true, false, List, [], ◌∷◌, ◌++◌, max, if◌then◌else◌, Option, Some, None, codes}
 use Rattle.std.specs.Fmt.{decimal, signed_decimal}
 use Rattle.std.specs.List.{flat_map}
-use Rattle.core.specs.Char.Escape.{escape_ascii}
 use Rattle.rtcp_source.specs.LastBlocks.{LastBlockValue}
 use Rattle.rtcp_source.specs.Receptions.{ReceptionValue}
 use Rattle.rtcp_members.specs.Told.{StateValue}
 use Rattle.rtcp_text.specs.Text.{hex_word}
 use Rattle.rtcp_show.specs.Notes.{NoteValue}
-use Rattle.rtcp_show.specs.Numbers.{fixed_text, moment_text, peer_text}
+use Rattle.rtcp_plain.specs.Numbers.{fixed_text, quoted_text, time_text}
+use Rattle.rtcp_show.specs.Numbers.{moment_text, peer_text}
 use Rattle.rtcp_show.specs.declared.flows.Flow.{Flow}
 
 -- ---- Parts
-
--- so many microseconds, in milliseconds
-abbrev pub time_text : ℕ → List ℕ
-time_text time = fixed_text 1000 time ++ codes "ms"
 
 abbrev pub sends_text : Bool → List ℕ
 sends_text true = codes " sends=yes"
@@ -40,10 +36,9 @@ abbrev pub trip_text : Option ℕ → List ℕ
 trip_text None = []
 trip_text (Some trip) = codes " round-trip=" ++ time_text (trip * 1000000 / 65536)
 
--- The text is between double quotes (34), and escaped: what a peer sends may control a terminal.
 abbrev pub cname_text : Option (List ℕ) → List ℕ
 cname_text None = []
-cname_text (Some cname) = codes " cname=" ++ 34 ∷ flat_map escape_ascii cname ++ 34 ∷ []
+cname_text (Some cname) = codes " cname=" ++ quoted_text cname
 
 -- ---- Rows
 

@@ -1,5 +1,5 @@
 -- How the packets of a datagram are shown.
-use Rattle.std.specs.Prelude.{ℕ, List, Option}
+use Rattle.std.specs.Prelude.{ℕ, List}
 use Rattle.rtcp_wire.specs.Values.{RtcpPacket}
 use Rattle.rtcp_text.specs.Text.{accepted_text}
 use Rattle.rtcp_plain.specs.Plain.{plain_text}

@@ -1,10 +1,10 @@
 //! Numbers and addresses of these texts.
 
-ghost use Rattle.std.specs.Prelude.{◌≡◌, ◌≤◌, ◌++◌, ◌∷◌, [], OnOk};
+ghost use Rattle.std.specs.Prelude.{◌≡◌, ◌++◌, ◌∷◌, [], OnOk};
 ghost use Rattle.std.specs.Fmt.{decimal};
-ghost use Rattle.rtcp_show.specs.Numbers.{fixed_text, moment_text, number_of_endpoint, peer_text};
+ghost use Rattle.rtcp_show.specs.Numbers.{moment_text, number_of_endpoint, peer_text};
 
-use itoa::Buffer;
+use rtcp_plain::numbers::push_fixed;
 use rtcp_text::text::digits::push_decimal;
 use std::alloc::AllocError;
 use std::net::SocketAddrV4;
@@ -14,22 +14,6 @@ pub(crate) fn push_moment(out: &mut Vec<u8>, moment: u64) -> Result<(), AllocErr
     ensures { OnOk result (out.new.items ≡ out.old.items ++ moment_text moment) }
 {
     push_fixed(out, moment, 1_000_000)
-}
-
-/// Appends a number of thousandths or millionths, with as many digits after the point.
-pub(crate) fn push_fixed(out: &mut Vec<u8>, number: u64, unit: u64) -> Result<(), AllocError>
-    requires some { 1 ≤ unit }
-    requires few { unit ≤ 1000000 }
-    ensures { OnOk result (out.new.items ≡ out.old.items ++ fixed_text unit number) }
-{
-    push_decimal(out, number / unit)?;
-    out.push(b'.')?;
-    let mut digits = Buffer::new();
-    // The leading 1 keeps the zeros after it.
-    match digits.format(unit + number % unit).as_bytes().split_first() {
-        Some((_, fraction)) => out.extend_from_slice(fraction),
-        None => Ok(()),
-    }
 }
 
 /// The number of an address and a port.

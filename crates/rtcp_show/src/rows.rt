@@ -2,24 +2,24 @@
 
 ghost use Rattle.std.specs.Prelude.{◌≡◌, ◌++◌, ◌∷◌, [], List, OnOk, option_map};
 ghost use Rattle.std.specs.Fmt.{decimal};
-ghost use Rattle.std.specs.List.{flat_map};
-ghost use Rattle.core.specs.Char.Escape.{escape_ascii};
 ghost use Rattle.rtcp_source.specs.Views.{last_block_value, reception_value};
 ghost use Rattle.rtcp_members.specs.ListViews.{state_value};
 ghost use Rattle.rtcp_members.specs.Told.{StateValue};
 ghost use Rattle.rtcp_engine.specs.Histories.{History, life_at, setup_at};
 ghost use Rattle.rtcp_engine.specs.Lives.{WalksInLife, members_in_life, senders_in_life};
 ghost use Rattle.rtcp_engine.specs.States.{StandsAt};
+ghost use Rattle.rtcp_plain.specs.Numbers.{time_text};
 ghost use Rattle.rtcp_show.specs.Flows.{flow_in};
 ghost use Rattle.rtcp_show.specs.Notes.{note_value, noted_in};
-ghost use Rattle.rtcp_show.specs.Rows.{cname_text, counts_text, facts_text, flow_text, full_row_text, interval_text, origin_text, tenths_text, sources_text, left_text, reception_text, row_text, standing_text, time_text, trip_text};
+ghost use Rattle.rtcp_show.specs.Rows.{cname_text, counts_text, facts_text, flow_text, full_row_text, interval_text, origin_text, tenths_text, sources_text, left_text, reception_text, row_text, standing_text, trip_text};
 
 use crate::flows::{Flow, Flows};
 use crate::notes::{Note, Notes};
-use crate::numbers::{push_fixed, push_moment, push_peer};
+use crate::numbers::{push_moment, push_peer};
 use arrayvec::ArrayVec;
 use rtcp_engine::Participant;
 use rtcp_members::{MemberTable, SourceState};
+use rtcp_plain::numbers::{self, push_fixed, push_quoted};
 use rtcp_source::{LastBlock, Reception};
 use rtcp_text::text::digits::{push_decimal, push_signed, push_word};
 use std::alloc::AllocError;
@@ -242,8 +242,7 @@ fn push_time(out: &mut Vec<u8>, word: &[u8], time: u64) -> Result<(), AllocError
     ensures { OnOk result (out.new.items ≡ out.old.items ++ word.now ++ time_text time) }
 {
     out.extend_from_slice(word)?;
-    push_fixed(out, time, 1_000)?;
-    out.extend_from_slice(b"ms")
+    numbers::push_time(out, time)
 }
 
 /// Appends the CNAME of a source, if one was read.
@@ -254,28 +253,6 @@ fn push_cname(out: &mut Vec<u8>, cname: &Option<ArrayVec<u8, 255>>) -> Result<()
     let Some(cname) = cname else {
         return Ok(());
     };
-    out.extend_from_slice(b" cname=\"")?;
-    push_escaped(out, cname)?;
-    out.push(b'"')?;
-    Ok(())
-}
-
-/// Appends a text, with escapes for what is not printed.
-fn push_escaped(out: &mut Vec<u8>, text: &[u8]) -> Result<(), AllocError>
-    ensures { OnOk result (out.new.items ≡ out.old.items ++ flat_map escape_ascii text.now) }
-{
-    for octet in text {
-        push_octet(out, *octet)?;
-    }
-    Ok(())
-}
-
-/// Appends an octet of a text, with an escape if it is not printed.
-fn push_octet(out: &mut Vec<u8>, octet: u8) -> Result<(), AllocError>
-    ensures { OnOk result (out.new.items ≡ out.old.items ++ escape_ascii octet) }
-{
-    for part in octet.escape_ascii() {
-        out.push(part)?;
-    }
-    Ok(())
+    out.extend_from_slice(b" cname=")?;
+    push_quoted(out, cname)
 }

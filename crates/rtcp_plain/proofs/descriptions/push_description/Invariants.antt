@@ -1,4 +1,4 @@
-use Rattle.std.proofs.Common.{◌≡◌, ◌++◌, codes}
+use Rattle.std.proofs.Common.{◌≡◌, ◌++◌}
 use Rattle.std.specs.List.{flat_map}
 use Rattle.rtcp_plain.specs.Plain.{chunk_text}
 use Rattle.rtcp_plain.proofs.descriptions.push_description.Given as goal

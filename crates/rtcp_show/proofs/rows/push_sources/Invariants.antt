@@ -1,6 +1,5 @@
-use Rattle.std.proofs.Common.{◌≡◌, ◌++◌, List, ℕ}
+use Rattle.std.proofs.Common.{◌≡◌, ◌++◌}
 use Rattle.std.specs.List.{flat_map}
-use Rattle.rtcp_members.specs.Told.{StateValue}
 use Rattle.rtcp_show.specs.Flows.{flow_in}
 use Rattle.rtcp_show.specs.Notes.{noted_in}
 use Rattle.rtcp_show.specs.Rows.{full_row_text}
