@@ -1,8 +1,9 @@
 -- The lines of sources that joined, left, began or ceased to send, as `rtcp listen --show` writes them.
-use Rattle.std.specs.Prelude.{◌≡◌, ◌⊎◌, ◌&&◌, ℕ, not, Bool, if◌then◌else◌, List, [], ◌∷◌, ◌++◌, map, codes}
+use Rattle.std.specs.Prelude.{◌≡◌, ◌&&◌, ℕ, not, Bool, true, false, if◌then◌else◌, List, [], ◌∷◌, ◌++◌, map, codes, is_some, Ok, Err}
 use Rattle.std.specs.List.{flat_map}
 use Rattle.rtcp_engine.specs.Histories.{History, life_at, setup_at}
 use Rattle.rtcp_engine.specs.Lives.{WalksInLife}
+use Rattle.rtcp_engine.specs.Steps.{AnswerValue}
 use Rattle.rtcp_listing.specs.declared.change.Change.{Change}
 use Rattle.rtcp_listing.specs.declared.change.Role.TheVariants.{Away, Sender}
 use Rattle.rtcp_listing.specs.Differences.{ListedValue, changes, is_same, listed_of, rises_from}
@@ -31,8 +32,23 @@ abbrev pub changes_text : (moment : ℕ) → (before after : List ListedValue) �
 changes_text moment before after =
     if rises_from 0 before && rises_from 0 after then flat_map (change_text moment) (changes before after) else []
 
--- Nothing, or what changed between an earlier listing and the sources that are there after a history.
-abbrev pub ShowsChanges : (moment : ℕ) → History → (before : List ListedValue) → List ℕ → Type 0
-ShowsChanges moment history before text =
-    (text ≡ []) ⊎ ((states : List StateValue) × WalksInLife (setup_at history) (life_at history) states
-    × (text ≡ changes_text moment before (map listed_of states)))
+-- An answer tells that others changed their roles, and the participant has not left.
+abbrev pub tells_of_others : AnswerValue → Bool
+tells_of_others (Ok step) = step.others_changed && is_some step.next
+tells_of_others (Err refusal) = false
+
+-- Nothing, where it is not told that others changed; else what changed between an earlier listing and the sources that
+-- are there after a history.
+abbrev pub ShowsChanges : (told : Bool) → (moment : ℕ) → History → (before : List ListedValue) → List ℕ → Type 0
+ShowsChanges false moment history before text = text ≡ []
+ShowsChanges true moment history before text =
+    (states : List StateValue) × WalksInLife (setup_at history) (life_at history) states
+    × (text ≡ changes_text moment before (map listed_of states))
+
+-- What is kept of the sources to tell the next changes from: where it is told that others changed, those that are there
+-- after a history, and else the listing that was kept before.
+abbrev pub KeepsListing : (told : Bool) → History → (before after : List ListedValue) → Type 0
+KeepsListing false history before after = after ≡ before
+KeepsListing true history before after =
+    (states : List StateValue) × WalksInLife (setup_at history) (life_at history) states
+    × (after ≡ map listed_of states)

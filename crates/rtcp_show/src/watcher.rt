@@ -7,7 +7,7 @@ ghost use Rattle.std.specs.Net.Socket.{v4_ip, v4_port};
 ghost use Rattle.rtcp_engine.specs.Histories.{History};
 ghost use Rattle.rtcp_engine.specs.States.{StandsAt};
 ghost use Rattle.rtcp_engine.specs.Views.{answer_value, event_value};
-ghost use Rattle.rtcp_show.specs.Changes.{ShowsChanges};
+ghost use Rattle.rtcp_show.specs.Changes.{KeepsListing, ShowsChanges, tells_of_others};
 ghost use Rattle.rtcp_show.specs.Wordings.{shown_in};
 ghost use Rattle.rtcp_show.specs.declared.wording.Wording.TheVariants.{Brief};
 ghost use Rattle.rtcp_show.specs.Lines.{ReadsAs, ShowsBothBy, moment_of_event as moment_in, unsent_text};
@@ -146,10 +146,15 @@ impl<W: Write> Watcher<W> {
         ensures terms { terms_of self.new ≡ terms_of self.old }
         ensures written { (history : History) → StandsAt participant.now history →
             OnOk result ((lines changes those : List ℕ)
-            × ShowsBothBy (shown_in (terms_of self.old).wording) (terms_of self.old).to (event_value event.now) (answer_value answer.now) lines
-            × ShowsChanges (moment_in (event_value event.now)) history (listing_of self.old) changes
+            × ShowsBothBy (shown_in (terms_of self.old).wording) (terms_of self.old).to (event_value event.now)
+            (answer_value answer.now) lines
+            × ShowsChanges (tells_of_others (answer_value answer.now)) (moment_in (event_value event.now)) history
+            (listing_of self.old) changes
             × ShowsThose (moment_in (event_value event.now)) history those
             × Appends (held_by W.contents self.old) (held_by W.contents self.new) (lines ++ (changes ++ those))) }
+        ensures keeps { (history : History) → StandsAt participant.now history →
+            OnOk result (KeepsListing (tells_of_others (answer_value answer.now)) history (listing_of self.old)
+            (listing_of self.new)) }
     {
         let now = moment_of(event);
         let compound = compound_of(event, answer);
@@ -176,8 +181,12 @@ impl<W: Write> Watcher<W> {
         ensures terms { terms_of self.new ≡ terms_of self.old }
         ensures written { (history : History) → StandsAt participant.now history →
             OnOk result ((changes those : List ℕ)
-            × ShowsChanges now history (listing_of self.old) changes × ShowsThose now history those
+            × ShowsChanges (tells_of_others (answer_value answer.now)) now history (listing_of self.old) changes
+            × ShowsThose now history those
             × Appends (held_by W.contents self.old) (held_by W.contents self.new) (changes ++ those)) }
+        ensures keeps { (history : History) → StandsAt participant.now history →
+            OnOk result (KeepsListing (tells_of_others (answer_value answer.now)) history (listing_of self.old)
+            (listing_of self.new)) }
     {
         let changed = self.show_changes(now, answer, participant);
         let listed = self.show_sources(now, participant);
@@ -197,8 +206,12 @@ impl<W: Write> Watcher<W> {
     ) -> Result<(), TextFault>
         ensures terms { terms_of self.new ≡ terms_of self.old }
         ensures written { (history : History) → StandsAt participant.now history →
-            OnOk result ((changes : List ℕ) × ShowsChanges now history (listing_of self.old) changes
+            OnOk result ((changes : List ℕ)
+            × ShowsChanges (tells_of_others (answer_value answer.now)) now history (listing_of self.old) changes
             × Appends (held_by W.contents self.old) (held_by W.contents self.new) changes) }
+        ensures keeps { (history : History) → StandsAt participant.now history →
+            OnOk result (KeepsListing (tells_of_others (answer_value answer.now)) history (listing_of self.old)
+            (listing_of self.new)) }
     {
         match answer {
             Ok(step) if step.others_changed && step.next.is_some() => {
@@ -216,8 +229,10 @@ impl<W: Write> Watcher<W> {
     ) -> Result<(), TextFault>
         ensures terms { terms_of self.new ≡ terms_of self.old }
         ensures written { (history : History) → StandsAt participant.now history →
-            OnOk result ((changes : List ℕ) × ShowsChanges now history (listing_of self.old) changes
+            OnOk result ((changes : List ℕ) × ShowsChanges true now history (listing_of self.old) changes
             × Appends (held_by W.contents self.old) (held_by W.contents self.new) changes) }
+        ensures keeps { (history : History) → StandsAt participant.now history →
+            OnOk result (KeepsListing true history (listing_of self.old) (listing_of self.new)) }
     {
         match self.compose_changes(now, participant) {
             Ok(()) => self.write(),
@@ -234,7 +249,9 @@ impl<W: Write> Watcher<W> {
         ensures terms { terms_of self.new ≡ terms_of self.old }
         ensures writer { writer_of self.new ≡ writer_of self.old }
         ensures composed { (history : History) → StandsAt participant.now history →
-            OnOk result (ShowsChanges now history (listing_of self.old) self.new.text.items) }
+            OnOk result (ShowsChanges true now history (listing_of self.old) self.new.text.items) }
+        ensures keeps { (history : History) → StandsAt participant.now history →
+            OnOk result (KeepsListing true history (listing_of self.old) (listing_of self.new)) }
     {
         self.text.clear();
         self.next_listing.clear();
@@ -273,7 +290,8 @@ impl<W: Write> Watcher<W> {
         ensures terms { terms_of self.new ≡ terms_of self.old }
         ensures listing { listing_of self.new ≡ listing_of self.old }
         ensures written { OnOk result ((lines : List ℕ)
-            × ShowsBothBy (shown_in (terms_of self.old).wording) (terms_of self.old).to (event_value event.now) (answer_value answer.now) lines
+            × ShowsBothBy (shown_in (terms_of self.old).wording) (terms_of self.old).to (event_value event.now)
+            (answer_value answer.now) lines
             × Appends (held_by W.contents self.old) (held_by W.contents self.new) lines) }
     {
         self.text.clear();
@@ -298,6 +316,7 @@ impl<W: Write> Watcher<W> {
         participant: &Participant<T>,
     ) -> Result<(), TextFault>
         ensures terms { terms_of self.new ≡ terms_of self.old }
+        ensures listing { listing_of self.new ≡ listing_of self.old }
         ensures written { (history : History) → StandsAt participant.now history →
             OnOk result ((those : List ℕ) × ShowsThose now history those
             × Appends (held_by W.contents self.old) (held_by W.contents self.new) those) }
@@ -323,6 +342,7 @@ impl<W: Write> Watcher<W> {
     ) -> Result<bool, AllocError>
         ensures terms { terms_of self.new ≡ terms_of self.old }
         ensures writer { writer_of self.new ≡ writer_of self.old }
+        ensures listing { listing_of self.new ≡ listing_of self.old }
         ensures composed { (history : History) → StandsAt participant.now history →
             result ≡ Ok true → ShowsSources now history self.new.text.items }
     {

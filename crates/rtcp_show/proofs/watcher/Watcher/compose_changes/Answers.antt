@@ -1,4 +1,4 @@
-use Rattle.std.proofs.Common.{inr, map, refl}
+use Rattle.std.proofs.Common.{map, refl}
 use Rattle.rtcp_listing.specs.Differences.{listed_of}
 use Rattle.rtcp_members.specs.ListViews.{state_value}
 use Rattle.rtcp_show.proofs.LineLemmas.{map_twice}
@@ -7,8 +7,7 @@ use Rattle.rtcp_show.proofs.watcher.Watcher.compose_changes.Goals as goal
 pub returns-clause-composed : goal.returns-clause-composed
 returns-clause-composed g c =
     λ history stands.
-    let listed = c.push_listing.new.listing.items in
-    inr (
+    let listed = c.push_listing.new.listing.items in (
       map state_value listed,
       c.in_ok-push_listing.ensures history stands,
       rw (
@@ -18,4 +17,13 @@ returns-clause-composed g c =
         c.deref.ensures.value,
         c.deref-2.ensures.value,
       ) refl,
+    )
+
+pub returns-clause-keeps : goal.returns-clause-keeps
+returns-clause-keeps g c =
+    λ history stands.
+    let listed = c.push_listing.new.listing.items in (
+      map state_value listed,
+      c.in_ok-push_listing.ensures history stands,
+      rw (map_twice state_value listed_of listed, c.swap.ensures.x_after) refl,
     )
