@@ -51,7 +51,8 @@ pub fn command<R: Read + Drop, W: Write + Drop, F: Write>(
 ///
 /// # Errors
 ///
-/// Those of [`check_up_to`], [`check_plain`] or [`replay_up_to`], and [`RunFault::Write`] where the flush fails, whatever failed before.
+/// Those of [`check_up_to`], [`check_plain`] or [`replay_up_to`], and [`RunFault::Write`] where the flush fails,
+/// whatever failed before.
 fn run<R: Read, W: Write>(
     alloc: Global,
     order: TextOrder,

@@ -30,11 +30,13 @@ pub fn check_plain<R: Read, W: Write>(
     requires writer_unfailed { failures_of writer.old ≡ 0 }
 
     // What is written is always a prefix of the text of the whole input.
-    ensures prefix { Wrote R.remaining W.contents reader.old writer.old writer.new (IsPrefixOfTextBy (plain_text None) lines) }
+    ensures prefix { Wrote R.remaining W.contents reader.old writer.old writer.new
+        (IsPrefixOfTextBy (plain_text None) lines) }
     ensures whole { OnOk result
         (Wrote R.remaining W.contents reader.old writer.old writer.new (IsTextOfBy (plain_text None) lines None)) }
     ensures refused { (line : ℕ) (fault : Fault) → result ≡ Err (TextFault.Text line fault)
-        → Wrote R.remaining W.contents reader.old writer.old writer.new (IsTextOfBy (plain_text None) lines (Some (line, fault))) }
+        → Wrote R.remaining W.contents reader.old writer.old writer.new
+        (IsTextOfBy (plain_text None) lines (Some (line, fault))) }
     ensures read { result ≡ Err TextFault.Read
         → Wrote R.remaining W.contents reader.old writer.old writer.new
         (ShowsWhatCame (plain_text None) lines (R.remaining (inner_of reader.new))) }

@@ -16,8 +16,8 @@ pub trait Observer {
         participant: &Participant<T>,
     );
 
-    /// Is called after each compound that the link was asked to send: whether that failed. Where nothing else is said it
-    /// does nothing.
+    /// Is called after each compound that the link was asked to send: whether that failed. Where nothing else is said
+    /// it does nothing.
     fn sent(&mut self, _failed: bool) {}
 }
 

@@ -1,5 +1,6 @@
-//! A session, shown while it runs: a [`Watcher`] observes one, and writes a line for each RTCP datagram that comes in and
-//! each compound that goes out, and once a second who is there and how their packets come, as `rtcp listen --show` does.
+//! A session, shown while it runs: a [`Watcher`] observes one, and writes a line for each RTCP datagram that comes in
+//! and each compound that goes out. Once a second it writes who is there and how their packets come, as
+//! `rtcp listen --show` does.
 //!
 //! ```
 //! let mut text = Vec::new(alloc);

@@ -50,7 +50,8 @@ pub(crate) fn push_read_lines(
     compound: &Option<Compound<'_>>,
 ) -> Result<(), AllocError>
     requires { IfSome compound.now (ReadsAs (event_value event.now)) }
-    ensures { OnOk result ((text : List ℕ) × ShowsBothBy (shown_in wording) to (event_value event.now) (answer_value answer.now) text
+    ensures { OnOk result ((text : List ℕ)
+        × ShowsBothBy (shown_in wording) to (event_value event.now) (answer_value answer.now) text
         × (out.new.items ≡ out.old.items ++ text)) }
 {
     push_event(out, wording, event, answer, compound)?;
@@ -91,7 +92,8 @@ fn push_event(
     compound: &Option<Compound<'_>>,
 ) -> Result<(), AllocError>
     requires { IfSome compound.now (ReadsAs (event_value event.now)) }
-    ensures { OnOk result ((text : List ℕ) × ShowsEvent (shown_in wording) (event_value event.now) (answer_value answer.now) text
+    ensures { OnOk result ((text : List ℕ)
+        × ShowsEvent (shown_in wording) (event_value event.now) (answer_value answer.now) text
         × (out.new.items ≡ out.old.items ++ text)) }
 {
     match event {
@@ -121,7 +123,8 @@ fn push_rtcp(
     compound: &Option<Compound<'_>>,
 ) -> Result<(), AllocError>
     requires { IfSome compound.now (IsAccepted bytes.now) }
-    ensures { OnOk result ((text : List ℕ) × ShowsRtcp (shown_in wording) now peer bytes.now (answer_value answer.now) text
+    ensures { OnOk result ((text : List ℕ)
+        × ShowsRtcp (shown_in wording) now peer bytes.now (answer_value answer.now) text
         × (out.new.items ≡ out.old.items ++ text)) }
 {
     push_passing(out, now, b" in ", peer)?;
@@ -139,7 +142,8 @@ fn push_datagram(
     compound: &Option<Compound<'_>>,
 ) -> Result<(), AllocError>
     requires { IfSome compound.now (IsAccepted bytes.now) }
-    ensures { OnOk result ((text : List ℕ) × IsAnswerBy (shown_in wording) bytes.now text × (out.new.items ≡ out.old.items ++ text)) }
+    ensures { OnOk result ((text : List ℕ) × IsAnswerBy (shown_in wording) bytes.now text
+        × (out.new.items ≡ out.old.items ++ text)) }
 {
     match compound {
         Some(compound) => push_compound(out, compound, wording),

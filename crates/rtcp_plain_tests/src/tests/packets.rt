@@ -53,8 +53,8 @@ fn moments(rt: HostRuntime) -> Result<(), Fail> {
     shows(&rt, rt.alloc(), &greatest, None, want)
 }
 
-/// A block about source aa: 85/256 are 33.2 per cent, a packet is lost in all, the jitter is 1 unit, and the last sender
-/// report was that of 2 seconds, half a second ago.
+/// A block about source aa: 85/256 are 33.2 per cent, a packet is lost in all, the jitter is 1 unit, and the last
+/// sender report was the one of 2 seconds, half a second ago.
 const BLOCK: [u8; 32] = [
     0x81, 0xc9, 0, 7, 0, 0, 0, 0x0b, 0, 0, 0, 0xaa, 85, 0, 0, 1, 0, 0, 0, 4, 0, 0, 0, 1, 0, 2, 0,
     0, 0, 0, 0x80, 0,
