@@ -1,3 +1,12 @@
+-- `StepLemmas` has a lemma for each kind of step, by what the layers below say of their parts. `Agreeing` has lemmas on
+-- `Agrees`, and `RolesChanged` on what changes the roles of others; `Soundness` shows that a state stays sound.
+-- `ActLemmas` leads from `Does` to `Acts`, by phase, and from `Acts` to `Takes`, with `AnswerLemmas` and `LifeLemmas`.
+-- `Changing` and `ChangeLemmas` cover a change of SSRC, in a session and in a participant; `Arriving` covers datagrams.
+-- That the search for a new SSRC ends with a free one is proved by counting those in its way (`NewIdentifiers`,
+-- `IdentifierSearch`).
+--
+-- The bounds on what is sent: `Sending` proves them by induction on the acts, with the timer's law
+-- `never_due_too_soon`, and `Windows` counts; `Waiting` proves the other side, with `due_in_time`.
 mod ActLemmas
 mod Agreeing
 mod Among
