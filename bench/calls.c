@@ -3,7 +3,7 @@
  *
  *     calls CALL SHAPE SOURCES [BATCHES]
  *
- * SHAPE says how the SSRCs of the sources are distributed: random, numbered or clusters, as in crates/rtcp_calls. The
+ * SHAPE says how the SSRCs of the sources are distributed: random, numbered or clusters, as in crates/rtcp_measure. The
  * table has room for SOURCES, from 1 to 1,024, and all of them come before anything is timed. CALL is one of these:
  *
  *     present      jalwedd_arrive_rtp of a packet of a source chosen at random

@@ -1,8 +1,8 @@
 //! Who is there: each second, sessions of 1,000 sources are listed, and what changed since the last listing is told.
 
-use crate::datagram::{Datagram, Media};
 use crate::digest::Digest;
-use crate::host::{Host, Setup};
+use crate::jobs::datagram::{Datagram, Media};
+use crate::jobs::host::{Host, Setup};
 use crate::random::{Random, ssrc_of};
 use rtcp_engine::{Changes, is_rising};
 use rtcp_members::SourceState;

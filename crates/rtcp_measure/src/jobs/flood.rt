@@ -2,9 +2,9 @@
 //! a full table, damaged datagrams, compounds about 31 sources in no order, CSRC lists and the own SSRC, all leave at
 //! once, and hundreds are timed out by one tick.
 
-use crate::datagram::{Datagram, Media};
 use crate::digest::Digest;
-use crate::host::{Host, Setup};
+use crate::jobs::datagram::{Datagram, Media};
+use crate::jobs::host::{Host, Setup};
 use crate::random::{Random, ssrc_of};
 use std::alloc::{AllocError, Global};
 

@@ -1,30 +1,27 @@
-//! The program `rtcp_workloads`: it does one of the jobs that a host spends its time on, with input generated from a
-//! seed, and prints a digest of all results. `bench/run` measures it.
+//! The mode `jobs`: it does one of the jobs that a host spends its time on, with input generated from a seed, and prints
+//! a digest of all results.
 //!
-//!     rtcp_workloads NAME COUNT SEED
+//!     rtcp_measure jobs NAME COUNT SEED
 //!
 //! The names are `server`, `broadcast`, `flood`, `listing`, `captures` and `recording`, and `all` for one after the
 //! other. They make the calls that hosts and the program `rtcp` make: `Participant` over a table on the heap, and
 //! `check` and `replay` from memory to memory.
-#![tactic(auto)]
 
 mod broadcast;
 mod captures;
 mod datagram;
-mod digest;
 mod digits;
 mod flood;
 mod host;
 mod listing;
-mod random;
 mod recording;
 mod server;
 
-use digest::Digest;
+use crate::digest::Digest;
+use crate::number;
 use std::alloc::{AllocError, Global};
-use std::env;
+use std::env::Args;
 use std::io::Write;
-use std::process::ExitCode;
 
 /// The names of all jobs.
 const JOBS: [&str; 6] = [
@@ -36,21 +33,11 @@ const JOBS: [&str; 6] = [
     "recording",
 ];
 
-fn main(rt: HostRuntime) -> ExitCode {
-    match run(&rt) {
-        Some(()) => ExitCode::SUCCESS,
-        None => ExitCode::from(2),
-    }
-}
-
 /// Does the job that the arguments say, or returns `None` where one is wrong, or memory is missing.
-fn run(rt: &HostRuntime) -> Option<()> {
-    let mut arguments = env::args(rt).ok()?;
-    // The first argument is the name of the program.
-    arguments.next()?;
+pub fn run(rt: &HostRuntime, arguments: &mut Args) -> Option<()> {
     let name = arguments.next()?;
-    let count: u32 = arguments.next()?.as_str().parse().ok()?;
-    let seed: u32 = arguments.next()?.as_str().parse().ok()?;
+    let count = number(arguments)?;
+    let seed = number(arguments)?;
     if name.as_str() != "all" {
         return report(rt, name.as_str(), count, seed);
     }

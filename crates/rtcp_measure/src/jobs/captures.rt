@@ -1,9 +1,9 @@
 //! An engineer's captures: texts of hex lines for a check. Half of the lines are a short report with a description,
 //! a fifth are sender reports with 31 blocks, a fifth have several packets, and a tenth have a damaged octet.
 
-use crate::datagram::Datagram;
 use crate::digest::Digest;
-use crate::digits::HexLine;
+use crate::jobs::datagram::Datagram;
+use crate::jobs::digits::HexLine;
 use crate::random::Random;
 use rtcp_text::Counted;
 use rtcp_text::check::check;

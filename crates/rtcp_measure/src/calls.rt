@@ -1,7 +1,7 @@
-//! The program `rtcp_calls`: it makes one kind of call on a participant over and over, and prints a digest of the
-//! answers. `bench/calls` measures it, for calls that hosts in C cannot make.
+//! The mode `calls`: it makes one kind of call on a participant over and over, and prints a digest of the answers. These
+//! are calls that hosts in C cannot make.
 //!
-//!     rtcp_calls TABLE SHAPE SOURCES CALL COUNT
+//!     rtcp_measure calls TABLE SHAPE SOURCES CALL COUNT
 //!
 //! TABLE is the table that holds the sources: `heap`, `sorted` or `list`. SHAPE is the pattern of their SSRCs:
 //! `random`, `numbered` or `clusters`. SOURCES is their number, from 1 to 1,024, and the capacity of the table. COUNT
@@ -14,23 +14,21 @@
 //! - `members`: a datagram that is refused arrives, and the member count is read.
 //!
 //! `all` for TABLE or CALL stands for each of them. All tables answer the same, so the digests of a call are equal.
-#![tactic(auto)]
 
 mod caller;
-mod digest;
-mod random;
+mod mixing;
 mod shape;
 
+use crate::digest::Digest;
+use crate::number;
 use arrayvec::ArrayVec;
 use caller::{Call, Caller, Row};
-use digest::Digest;
 use rtcp_engine::{Config, Participant};
 use rtcp_members::{HeapTable, ListTable, SortedTable};
 use shape::Shape;
 use std::alloc::Global;
-use std::env;
+use std::env::Args;
 use std::io::Write;
-use std::process::ExitCode;
 
 /// The names of the tables.
 const TABLES: [&str; 3] = ["heap", "sorted", "list"];
@@ -44,23 +42,13 @@ const OWN_SSRC: u32 = 0x0bad_cafe;
 /// The random word of the session's begin.
 const WORD: u32 = 0x1234_5678;
 
-fn main(rt: HostRuntime) -> ExitCode {
-    match run(&rt) {
-        Some(()) => ExitCode::SUCCESS,
-        None => ExitCode::from(2),
-    }
-}
-
 /// Makes the calls that the arguments say, or returns `None` where one is wrong, or memory is missing.
-fn run(rt: &HostRuntime) -> Option<()> {
-    let mut arguments = env::args(rt).ok()?;
-    // The first argument is the name of the program.
-    arguments.next()?;
+pub fn run(rt: &HostRuntime, arguments: &mut Args) -> Option<()> {
     let table = arguments.next()?;
     let shape = Shape::named(arguments.next()?.as_str())?;
-    let sources: u32 = arguments.next()?.as_str().parse().ok()?;
+    let sources = number(arguments)?;
     let call = arguments.next()?;
-    let count: u32 = arguments.next()?.as_str().parse().ok()?;
+    let count = number(arguments)?;
     let row = Row {
         shape,
         sources,

@@ -1,4 +1,4 @@
-//! Random numbers of a seed, the same at each run.
+//! Random numbers, the same at each run.
 
 /// A generator of Steele, Lea and Flood (SplitMix64).
 #[derive(Clone, Copy, Debug)]
@@ -7,6 +7,11 @@ pub struct Random {
 }
 
 impl Random {
+    /// The numbers that follow a state.
+    pub fn begun_at(state: u64) -> Random {
+        Random { state }
+    }
+
     /// The numbers of a seed.
     pub fn new(seed: u32) -> Random {
         Random { state: mixed(seed) }

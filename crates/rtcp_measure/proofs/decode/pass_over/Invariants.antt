@@ -1,5 +1,5 @@
 use Rattle.std.proofs.Common.{length}
-use Rattle.rtcp_bench.proofs.pass_over.Given as goal
+use Rattle.rtcp_measure.proofs.decode.pass_over.Given as goal
 
 abbrev pub invariant-datagrams : goal.invariant-datagrams
 invariant-datagrams l = Unit {0}

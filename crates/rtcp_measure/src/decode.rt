@@ -1,35 +1,22 @@
-//! The program `rtcp_bench`: it reads datagrams from standard input, decodes all of them as many times as its
-//! argument says, and prints the sums of their fields. `bench/decode` measures it.
+//! The mode `decode`: it reads datagrams from standard input, decodes all of them a number of times, and prints the sums
+//! of their fields.
+//!
+//!     rtcp_measure decode PASSES
 //!
 //! Each datagram follows its length in two octets (RFC 4571, section 2).
-#![tactic(auto)]
 
 ghost use Rattle.std.specs.Prelude.{◌<◌, length, IfSome};
 
 mod tally;
 
-use std::env;
 use std::io::{Read, Write};
-use std::process::ExitCode;
 use tally::Tally;
 
 /// The octets of a datagram's length.
 const LENGTH_SIZE: usize = 2;
 
-fn main(rt: HostRuntime) -> ExitCode {
-    match run(&rt) {
-        Some(()) => ExitCode::SUCCESS,
-        None => ExitCode::from(2),
-    }
-}
-
-/// Decodes the input as often as the argument says, or returns `None` where an argument, the input or memory
-/// is missing.
-fn run(rt: &HostRuntime) -> Option<()> {
-    let mut arguments = env::args(rt).ok()?;
-    // The first argument is the name of the program.
-    arguments.next()?;
-    let passes: u32 = arguments.next()?.as_str().parse().ok()?;
+/// Decodes the input so many times, and prints what was summed, or returns `None` where the input or memory is missing.
+pub fn run(rt: &HostRuntime, passes: u32) -> Option<()> {
     let mut datagrams = Vec::new(rt.alloc());
     rt.stdin().read_to_end(&mut datagrams).ok()?;
     let mut tally = Tally::default();

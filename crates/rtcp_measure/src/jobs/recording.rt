@@ -1,10 +1,10 @@
 //! A recorded session that is played again: mostly RTP packets of 20 sources, a compound now and then, what the host
 //! sent, and ticks.
 
-use crate::datagram::{Datagram, Media};
 use crate::digest::Digest;
-use crate::digits::{HexLine, hex_word};
-use crate::host::{Setup, configured};
+use crate::jobs::datagram::{Datagram, Media};
+use crate::jobs::digits::{HexLine, hex_word};
+use crate::jobs::host::{Setup, configured};
 use crate::random::{Random, ssrc_of};
 use itoa::Buffer;
 use rtcp_text::Counted;

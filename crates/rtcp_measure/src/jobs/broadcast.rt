@@ -1,9 +1,9 @@
 //! A broadcast: sessions of 1,000 members who come slowly, describe themselves every 80 seconds and seldom leave, two
 //! that speak, and hosts that ask every 20 milliseconds whether a report is due.
 
-use crate::datagram::{Datagram, Media};
 use crate::digest::Digest;
-use crate::host::{Host, Setup};
+use crate::jobs::datagram::{Datagram, Media};
+use crate::jobs::host::{Host, Setup};
 use crate::random::{Random, ssrc_of};
 use std::alloc::{AllocError, Global};
 

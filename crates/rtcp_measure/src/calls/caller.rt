@@ -1,14 +1,18 @@
 //! The calls, and what comes to a participant with them.
 
+use crate::calls::mixing::{mix_reply, mix_source};
+use crate::calls::shape::Shape;
 use crate::digest::Digest;
 use crate::random::Random;
-use crate::shape::Shape;
 use rtcp_engine::Participant;
 use rtcp_members::MemberTable;
 
 /// How many microseconds lie between two descriptions, where the sources describe themselves in turn. A thousand of
 /// them take just under 25 seconds, after which a source would be dropped.
 const BETWEEN: u64 = 25_000;
+
+/// The state that the random numbers begin in.
+const START: u64 = 0x243f_6a88_85a3_08d3;
 
 /// A kind of call.
 #[derive(Clone, Copy, Debug)]
@@ -68,7 +72,7 @@ impl Caller {
     pub fn new(row: Row) -> Caller {
         Caller {
             row,
-            random: Random::new(),
+            random: Random::begun_at(START),
             now: 0,
             packet: packet(),
             description: description(),
@@ -93,7 +97,7 @@ impl Caller {
             Call::Members => self.members(participant),
         }
         for state in participant.sources() {
-            self.digest.source(&state);
+            mix_source(&mut self.digest, &state);
         }
         self.digest
     }
@@ -103,7 +107,7 @@ impl Caller {
     fn begin<T: MemberTable>(&mut self, participant: &mut Participant<T>) {
         self.now = participant.next().unwrap_or(0);
         let reply = participant.tick_into(self.now, 0, 0, &mut self.room);
-        self.digest.reply(&reply);
+        mix_reply(&mut self.digest, &reply);
         for source in 0..self.row.sources {
             self.describe(source, participant);
             self.speak(source, participant);
@@ -114,7 +118,7 @@ impl Caller {
     /// Packets of sources.
     fn present<T: MemberTable>(&mut self, participant: &mut Participant<T>) {
         for _ in 0..self.row.count {
-            let source = self.random.below(self.row.sources);
+            let source = self.any_source();
             self.speak(source, participant);
         }
     }
@@ -140,7 +144,7 @@ impl Caller {
             let now = self.now.wrapping_add(BETWEEN - 1);
             let words = [self.random.word(), self.random.word()];
             let reply = participant.tick_into(now, words[0], words[1], &mut self.room);
-            self.digest.reply(&reply);
+            mix_reply(&mut self.digest, &reply);
         }
     }
 
@@ -151,7 +155,7 @@ impl Caller {
             let state = participant.source_above(after);
             after = state.map(|told| told.ssrc);
             if let Some(told) = state {
-                self.digest.source(&told);
+                mix_source(&mut self.digest, &told);
             }
         }
     }
@@ -160,7 +164,7 @@ impl Caller {
     fn members<T: MemberTable>(&mut self, participant: &mut Participant<T>) {
         for _ in 0..self.row.count {
             let reply = participant.arrive_rtp_into(self.now, 1, 0, &[], &mut self.room);
-            self.digest.reply(&reply);
+            mix_reply(&mut self.digest, &reply);
             self.digest.number(u64::from(participant.members()));
         }
     }
@@ -172,7 +176,7 @@ impl Caller {
         self.description[12..16].copy_from_slice(&ssrc.to_be_bytes());
         let octets = &self.description;
         let reply = participant.arrive_rtcp_into(self.now, 1, 0, octets, &mut self.room);
-        self.digest.reply(&reply);
+        mix_reply(&mut self.digest, &reply);
     }
 
     /// A source sends its next packet.
@@ -190,7 +194,12 @@ impl Caller {
         self.packet[8..12].copy_from_slice(&ssrc.to_be_bytes());
         let octets = &self.packet;
         let reply = participant.arrive_rtp_into(self.now, 1, 0, octets, &mut self.room);
-        self.digest.reply(&reply);
+        mix_reply(&mut self.digest, &reply);
+    }
+
+    /// A source chosen at random.
+    fn any_source(&mut self) -> u32 {
+        ((u64::from(self.random.word()) * u64::from(self.row.sources)) >> 32) as u32
     }
 
     /// The source whose turn it is after another.

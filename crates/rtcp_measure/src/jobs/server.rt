@@ -1,9 +1,9 @@
 //! A conference server: many sessions of 20 sources that speak, 50 packets a second each, on one core. Packets come
 //! from any source of any session, one in 64 is lost, and each source reports every five seconds.
 
-use crate::datagram::{Datagram, Media};
 use crate::digest::Digest;
-use crate::host::{Host, Setup};
+use crate::jobs::datagram::{Datagram, Media};
+use crate::jobs::host::{Host, Setup};
 use crate::random::{Random, share, ssrc_of};
 use std::alloc::{AllocError, Global};
 
