@@ -1,5 +1,5 @@
 """A plain model of what `rtcp listen --show` writes to standard error, by the record of the session, and of the text of
-`rtcp check --plain`, written from docs/FORMATS.md and docs/PROTOCOL.md alone."""
+`rtcp check --plain`, written from docs/PROGRAM.md, docs/FORMATS.md and docs/PROTOCOL.md alone."""
 import re
 
 import decoder
