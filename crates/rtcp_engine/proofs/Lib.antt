@@ -26,6 +26,7 @@ mod OneMore
 mod HandingOver
 mod Pacing
 mod Past
+pub mod Hearing
 mod OneClock
 mod ChangeLemmas
 mod Saying

@@ -1,5 +1,6 @@
 mod ChangeRows
 mod ForgettingRows
+mod HearingRows
 mod LateRows
 mod LeavingRows
 mod Rows

@@ -13,6 +13,7 @@ pub mod Leaving
 pub mod Lives
 pub mod Changes
 pub mod Histories
+pub mod Hearing
 pub mod Refusals
 pub mod Answers
 pub mod Sent

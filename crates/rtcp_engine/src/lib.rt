@@ -35,7 +35,8 @@
 //! that describes it.
 //!
 //! A call that is refused (`Refusal`) changes nothing. `specs/` defines the answer to each call over everything that
-//! the participant was told (`Histories`, `Ticks`, `Lives`, `Answers`); `laws` states properties of these definitions.
+//! the participant was told (`Histories`, `Ticks`, `Lives`, `Answers`); `laws` states properties of these definitions,
+//! and `heard_laws` who is a member by them.
 //! [`run`] makes the calls of a list of events and passes on each answer.
 #![tactic(auto)]
 
@@ -47,6 +48,7 @@ mod config;
 pub mod difference_laws;
 mod event;
 mod extra;
+pub mod heard_laws;
 pub mod laws;
 mod own;
 mod pace;

@@ -92,6 +92,19 @@ fact_keeps_capacity table fact moment within =
     rw (len_if (changes (placed table fact)) table, map.len-insert nat_cmp_total table.entries (subject fact))
     (len_after fact (map.get table.entries (subject fact)) (map.len table.entries) table.capacity within)
 
+-- A fact adds one entry at most.
+one_at_most : (added held : Bool) (len : ℕ) → cond added (cond held len (len + 1)) len ≤ len + 1
+one_at_most true true len = omega arith
+one_at_most true false len = omega arith
+one_at_most false held len = omega arith
+
+pub fact_adds_one : (table : TableValue) (fact : Fact) (moment : ℕ) →
+    map.len (after_fact fact moment table).entries ≤ map.len table.entries + 1
+fact_adds_one table fact moment =
+    rw (len_if (changes (placed table fact)) table, map.len-insert nat_cmp_total table.entries (subject fact))
+    (one_at_most (changes (placed table fact)) (is_some (map.get table.entries (subject fact)))
+    (map.len table.entries))
+
 pub facts_keep_capacity : (facts : List Fact) (table : TableValue) (moment : ℕ) →
     map.len table.entries ≤ table.capacity → map.len (after_facts facts moment table).entries ≤ table.capacity
 facts_keep_capacity [] table moment within = within

@@ -44,6 +44,8 @@ mod Above
 mod Past
 mod TraceTables
 mod StayLaws
+pub mod Lasting
+pub mod Introducing
 mod SenderLaws
 mod NewsOfTraces
 mod Agreeing

@@ -1,5 +1,6 @@
 pub mod Traces
 pub mod Stays
+pub mod Lasting
 pub mod Entries
 pub mod Tables
 pub mod Pending

@@ -19,9 +19,9 @@
 //! ```
 //!
 //! `specs/` defines over the whole trace of a session who is present, a member or a sender (`Traces`, `Stays`,
-//! `Entries`); `trace_laws` describes the same a second way. Contracts see a table as a finite map (`Tables`), and
-//! `laws` ties the two. Which source is reported next is defined over that map (`Pending`) and over the trace
-//! (`News`); `turn_laws` states properties of these.
+//! `Entries`); `trace_laws` describes the same a second way, and `heard_laws` says who becomes a member and stays one.
+//! Contracts see a table as a finite map (`Tables`), and `laws` ties the two. Which source is reported next is defined
+//! over that map (`Pending`) and over the trace (`News`); `turn_laws` states properties of these.
 #![tactic(auto)]
 
 mod blocks;
@@ -29,6 +29,7 @@ mod bounds;
 mod cells;
 mod counts;
 mod entry;
+pub mod heard_laws;
 mod index;
 pub mod laws;
 mod list_table;

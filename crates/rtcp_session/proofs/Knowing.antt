@@ -1,5 +1,5 @@
 -- Who gave its CNAME stays a member: as long as there is room for it, it is heard, and it says no goodbye.
-use Rattle.std.proofs.Common.{◌≡◌, ℕ, ◌&&◌, ◌||◌, ◌==◌, nat_lt, Bool, true, false, cond, List, [], ◌∷◌, All, Option, Some, None, is_some, is_none, option_map, if◌then◌else◌, refl, sym, ap, ◌∙◌, subst}
+use Rattle.std.proofs.Common.{◌≡◌, ℕ, ◌&&◌, ◌||◌, ◌==◌, nat_lt, Bool, true, false, List, [], ◌∷◌, All, Option, Some, None, is_some, is_none, option_map, if◌then◌else◌, refl, sym, ap, ◌∙◌, subst}
 use Rattle.std.proofs.lemmas.Bool.{and_from, and_right, cond_both}
 use Rattle.std.proofs.lemmas.List.Elements.{All-nil, All-cons, All-head, All-tail}
 use Rattle.rtcp_wire.specs.declared.fact.Fact.{Fact}
@@ -7,9 +7,11 @@ use Rattle.rtcp_wire.specs.declared.fact.Fact.TheVariants.{Heard, Told, Named, G
 use Rattle.rtcp_wire.specs.Facts.{subject, is_media}
 use Rattle.rtcp_source.specs.Packets.{Given, taken_in, is_counted, run_of}
 use Rattle.rtcp_members.specs.Traces.{TraceStep, fact_came, check_made, block_taken, is_naming, names, source_forgotten}
-use Rattle.rtcp_members.specs.Stays.{mark_at, mark_of, before_mark, present_among, stay_of, stay_with, ends_stay}
+use Rattle.rtcp_members.specs.Stays.{mark_of, before_mark, present_among, stay_of, stay_with, ends_stay}
+use Rattle.rtcp_members.specs.Lasting.{says_goodbye}
 use Rattle.rtcp_members.specs.Entries.{gives_name, given_of, is_counted_fact, is_counted_by, sending_of, still_sending, is_sender, is_valid, entry_of, entry_at, is_member, is_such}
-use Rattle.rtcp_session.specs.Deliveries.{brings_rtp, is_named_in, says_goodbye, pasts_of, has_room, ends_by, is_dropped, IsKept}
+use Rattle.rtcp_members.proofs.Lasting.{all_before, still_valid, unmarked_by}
+use Rattle.rtcp_session.specs.Deliveries.{brings_rtp, is_named_in, pasts_of, has_room, ends_by, is_dropped, IsKept}
 
 -- ---- Steps
 
@@ -22,15 +24,6 @@ naming ssrc (fact_came (Media other seq timestamp octets rate) moment) is = absu
 naming ssrc (check_made horizons) is = absurd cc
 naming ssrc (block_taken other) is = absurd cc
 naming ssrc (source_forgotten other) is = absurd cc
-
--- a step that is no goodbye leaves no mark
-unmarked_by : (ssrc : ℕ) (step : TraceStep) (stay : List TraceStep) → says_goodbye ssrc step ≡ false →
-    mark_of ssrc stay ≡ None → mark_of ssrc (step ∷ stay) ≡ None
-unmarked_by ssrc (fact_came fact moment) stay quiet none =
-    ap (mark_at ssrc (fact_came fact moment)) none ∙ ap (λ (b : Bool). cond b (Some moment) None) quiet
-unmarked_by ssrc (check_made horizons) stay quiet none = ap (mark_at ssrc (check_made horizons)) none
-unmarked_by ssrc (block_taken other) stay quiet none = ap (mark_at ssrc (block_taken other)) none
-unmarked_by ssrc (source_forgotten other) stay quiet none = ap (mark_at ssrc (source_forgotten other)) none
 
 -- ---- Members
 
@@ -80,16 +73,6 @@ valid_now ssrc step stay gives =
     by : (a b c : Bool) → a ≡ true → (a || b || c) ≡ true
     by true b c is = refl
     by false b c is = absurd cc
-
-still_valid : (ssrc : ℕ) (step : TraceStep) (stay : List TraceStep) → is_valid ssrc stay ≡ true →
-    is_valid ssrc (step ∷ stay) ≡ true
-still_valid ssrc step stay valid =
-    by (gives_name ssrc step) (is_counted_by ssrc step (given_of ssrc stay)) (is_valid ssrc stay) valid
-  where
-    by : (a b c : Bool) → c ≡ true → (a || b || c) ≡ true
-    by true b c is = refl
-    by false true c is = refl
-    by false false c is = is
 
 -- The step that gives the CNAME.
 named_now : (ssrc : ℕ) (step : TraceStep) (stay : Option (List TraceStep)) (admits : Bool) →
@@ -187,11 +170,6 @@ named_are_there capacity ssrc (step ∷ earlier) named kept =
         still_there ssrc step (stay_of capacity earlier ssrc) admits lasts quiet (before named)
 
 -- ---- Entries
-
-all_before : (ssrc : ℕ) (stay : List TraceStep) → mark_of ssrc stay ≡ None → before_mark ssrc stay ≡ stay
-all_before ssrc [] none = refl
-all_before ssrc (step ∷ earlier) none =
-    ap (λ (mark : Option ℕ). if is_some mark then before_mark ssrc earlier else step ∷ earlier) none
 
 pub named_are_members : (capacity ssrc : ℕ) (trace : List TraceStep) → is_named_in ssrc trace ≡ true →
     IsKept capacity ssrc trace → is_such is_member (entry_at capacity trace ssrc) ≡ true

@@ -5,10 +5,11 @@ use Rattle.std.specs.Prelude.{ℕ, ◌≡◌, ◌+◌, ◌-◌, ◌*◌, ◌/◌
 use Rattle.std.specs.List.{list_any, AllPairs}
 use Rattle.rtcp_wire.specs.declared.fact.Fact.TheVariants.{Named}
 use Rattle.rtcp_wire.specs.Values.{RtcpPacket}
-use Rattle.rtcp_wire.specs.Facts.{subject, is_gone, is_media, facts_of}
+use Rattle.rtcp_wire.specs.Facts.{subject, is_media, facts_of}
 use Rattle.rtcp_wire.specs.Writing.{written_all}
 use Rattle.rtcp_members.specs.Traces.{TraceStep, fact_came, check_made, block_taken, names, source_forgotten}
 use Rattle.rtcp_members.specs.Stays.{present_among, stay_of, ends_stay}
+use Rattle.rtcp_members.specs.Lasting.{says_goodbye}
 use Rattle.rtcp_members.specs.Entries.{gives_name, is_such, is_sender, entry_at}
 use Rattle.rtcp_engine.specs.Acts.{arrived, rtcp}
 use Rattle.rtcp_session.specs.Windows.{Decided, load_at, Joined, decided_within}
@@ -51,12 +52,6 @@ octets_after delay width bandwidth of_average terms =
 -- Whether a source gave its CNAME, in some step of a trace.
 abbrev pub is_named_in : (ssrc : ℕ) → List TraceStep → Bool
 is_named_in ssrc trace = list_any (gives_name ssrc) trace
-
-abbrev pub says_goodbye : (ssrc : ℕ) → TraceStep → Bool
-says_goodbye ssrc (fact_came fact moment) = is_gone fact && subject fact == ssrc
-says_goodbye ssrc (check_made horizons) = false
-says_goodbye ssrc (block_taken other) = false
-says_goodbye ssrc (source_forgotten other) = false
 
 -- a trace as it was after each of its steps, and before the first
 abbrev pub pasts_of : List TraceStep → List (List TraceStep)

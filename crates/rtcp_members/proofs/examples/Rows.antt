@@ -1,7 +1,8 @@
 -- Worked examples: the definitions, computed on short traces.
 use Rattle.std.proofs.Common.{◌≡◌, ℕ, Bool, true, false, List, [], ◌∷◌, is_some, refl}
+use Rattle.rtcp_wire.specs.declared.fact.Fact.{Fact}
 use Rattle.rtcp_wire.specs.declared.fact.Fact.TheVariants.{Heard, Named, Gone, Media}
-use Rattle.rtcp_members.specs.Traces.{horizons_at, TraceStep, fact_came, check_made, source_forgotten}
+use Rattle.rtcp_members.specs.Traces.{horizons_at, TraceStep, fact_came, check_made, source_forgotten, with_facts}
 use Rattle.rtcp_members.specs.Stays.{stay_of}
 use Rattle.rtcp_members.specs.Entries.{members_at, senders_at}
 
@@ -97,3 +98,36 @@ seen_at_the_horizon = refl
 
 seen_before_the_horizon : is_present (horizons 1 0 0 ∷ fact_came (Heard 7) 0 ∷ []) 7 ≡ false
 seen_before_the_horizon = refl
+
+-- It stays as long as each check finds it at the horizon or later, however old its CNAME is.
+abbrev heard_at_each_check : List TraceStep
+heard_at_each_check =
+    horizons 20 0 0 ∷ fact_came (Heard 7) 20 ∷ horizons 10 0 0 ∷ fact_came (Heard 8) 15 ∷ fact_came (Named 7) 10 ∷ []
+
+heard_at_each_check_stays : members_at 2 heard_at_each_check ≡ 1
+heard_at_each_check_stays = refl
+
+silent_for_too_long : members_at 2 (horizons 21 0 0 ∷ heard_at_each_check) ≡ 0
+silent_for_too_long = refl
+
+-- Where moments fall, a later fact may be an older sighting: no horizon here is later than the first one.
+sighted_earlier_again : is_present (horizons 5 0 0 ∷ fact_came (Heard 7) 3 ∷ fact_came (Heard 7) 5 ∷ []) 7 ≡ false
+sighted_earlier_again = refl
+
+-- ---- A CNAME that comes
+
+-- the compound of a source that joins, with one of another before it
+abbrev two_join : List Fact
+two_join = Heard 8 ∷ Named 8 ∷ Heard 7 ∷ Named 7 ∷ []
+
+both_have_room : members_at 2 (with_facts two_join 0 []) ≡ 2
+both_have_room = refl
+
+first_takes_the_room : members_at 1 (with_facts two_join 0 []) ≡ 1
+first_takes_the_room = refl
+
+second_has_no_room : is_some (stay_of 1 (with_facts two_join 0 []) 7) ≡ false
+second_has_no_room = refl
+
+no_member_with_a_mark : members_at 2 (with_facts two_join 1 (fact_came (Gone 7) 0 ∷ fact_came (Heard 7) 0 ∷ [])) ≡ 1
+no_member_with_a_mark = refl

@@ -6,12 +6,13 @@ use Rattle.rtcp_wire.specs.declared.fact.Fact.{Fact}
 use Rattle.rtcp_wire.specs.declared.fact.Fact.TheVariants.{Heard, Told, Named, Gone, Media}
 use Rattle.rtcp_wire.specs.Facts.{facts_of}
 use Rattle.rtcp_members.specs.Traces.{TraceStep}
+use Rattle.rtcp_members.specs.Lasting.{says_goodbye}
 use Rattle.rtcp_members.specs.Entries.{entry_at, is_such, is_sender}
 use Rattle.rtcp_engine.specs.Acts.{Act, arrived, rtcp, rtp, rtp_sent, ticked, left, configured, forgotten}
 use Rattle.rtcp_session.specs.Windows.{Joined, load_at}
 use Rattle.rtcp_session.specs.Crowds.{Terms}
 use Rattle.rtcp_session.specs.Waits.{Wait, all_waits, waits_within}
-use Rattle.rtcp_session.specs.Deliveries.{waits_after, IsCountedAfter, least_wait, says_goodbye, pasts_of, has_room, is_dropped, IsKept, HasHeard, Knows, EndsAfter, IsDelivered}
+use Rattle.rtcp_session.specs.Deliveries.{waits_after, IsCountedAfter, least_wait, pasts_of, has_room, is_dropped, IsKept, HasHeard, Knows, EndsAfter, IsDelivered}
 use Rattle.rtcp_session.proofs.examples.CrowdRows.{named_came, joined_with, each, terms, pair}
 use Rattle.rtcp_session.proofs.examples.WaitRows.{all_count, are_counted, goes_by, bandwidths, turnover}
 

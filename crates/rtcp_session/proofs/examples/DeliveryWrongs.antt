@@ -8,6 +8,7 @@ use Rattle.rtcp_wire.specs.declared.fact.Fact.TheVariants.{Heard, Named, Gone, M
 use Rattle.rtcp_wire.specs.Values.{RtcpPacket, rr, sdes, bye}
 use Rattle.rtcp_wire.specs.Facts.{facts_of}
 use Rattle.rtcp_members.specs.Traces.{TraceStep, fact_came, check_made, horizons_at}
+use Rattle.rtcp_members.specs.Lasting.{says_goodbye}
 use Rattle.rtcp_members.specs.Entries.{entry_at, is_member, is_sender, is_such}
 use Rattle.rtcp_engine.specs.Acts.{Act, arrived, rtcp, ticked}
 use Rattle.rtcp_engine.specs.Taken.{IsHistory}
@@ -15,7 +16,7 @@ use Rattle.rtcp_engine.specs.Histories.{History}
 use Rattle.rtcp_session.specs.Windows.{Joined, Decided, decided_at, load_at}
 use Rattle.rtcp_session.specs.Crowds.{total_reports, Terms}
 use Rattle.rtcp_session.specs.Waits.{Wait, all_waits, averages_of, rtcp_bw, waits_as, HasBandwidth, HasAverage}
-use Rattle.rtcp_session.specs.Deliveries.{least_wait, carried_after, IsCountedAfter, is_named_in, says_goodbye, pasts_of, has_room, is_dropped, IsKept, KnowEachOther, IsDelivered}
+use Rattle.rtcp_session.specs.Deliveries.{least_wait, carried_after, IsCountedAfter, is_named_in, pasts_of, has_room, is_dropped, IsKept, KnowEachOther, IsDelivered}
 use Rattle.rtcp_session.proofs.examples.CrowdRows.{setup_of, named_came, joined_with, terms, pair, stands, each}
 use Rattle.rtcp_session.proofs.examples.WaitRows.{bandwidths, average_of_pair, unaware, average_of_unaware}
 use Rattle.rtcp_session.proofs.examples.WrongRows.{who_is_deaf, four, one_in_four}

@@ -1,0 +1,39 @@
+-- Who is heard: a source is a member from a compound with its CNAME on, until it says goodbye, the host says that it is
+-- gone, or it is silent for too long (RFC 3550, 6.2.1, 6.3.3 to 6.3.5, 6.3.7). Lists are newest first.
+use Rattle.std.specs.Prelude.{ℕ, ◌≡◌, ◌+◌, ◌*◌, ◌≤◌, ◌==◌, ◌&&◌, Bool, false, List, ◌∷◌, ◌++◌, All, Ok}
+use Rattle.rtcp_wire.specs.Facts.{subject, is_gone, facts_of}
+use Rattle.rtcp_members.specs.Stays.{last_naming}
+use Rattle.rtcp_members.specs.Entries.{is_member, is_such}
+use Rattle.rtcp_engine.specs.Setups.{Setup}
+use Rattle.rtcp_engine.specs.Acts.{Act, arrived, rtcp, ticked, forgotten}
+use Rattle.rtcp_engine.specs.Outcomes.{Outcome, check_interval}
+use Rattle.rtcp_engine.specs.Leaving.{present}
+use Rattle.rtcp_engine.specs.Lives.{entry_in_life}
+use Rattle.rtcp_engine.specs.Histories.{History, life_at, setup_at}
+
+-- A source is a member by what a history has come to, of a participant that takes part.
+abbrev pub is_member_at : (ssrc : ℕ) → History → Bool
+is_member_at ssrc history = is_such is_member (entry_in_life (setup_at history) (life_at history) ssrc)
+
+-- a history and the acts after it
+abbrev pub with_acts : List Act → History → History
+with_acts since history = record history { acts = since ++ history.acts }
+
+-- An act brings no goodbye of a source, and the host does not say in it that the source is gone.
+abbrev pub LeavesAlone : (ssrc : ℕ) → Act → Type 0
+LeavesAlone ssrc (arrived moment peer word (rtcp size (Ok packets))) =
+    All (λ fact. (is_gone fact && subject fact == ssrc) ≡ false) (facts_of packets)
+LeavesAlone ssrc (forgotten moment other) = (other == ssrc) ≡ false
+LeavesAlone ssrc act = Unit {0}
+
+-- At a moment, the newest fact that names a source came no longer ago than five of the intervals that a check then goes
+-- by (6.3.5).
+abbrev pub IsHeardLately : (ssrc : ℕ) → Setup → (t : ℕ) → Outcome → Type 0
+IsHeardLately ssrc setup t outcome = t ≤ last_naming ssrc outcome.trace + 5 * check_interval setup t outcome
+
+-- A source was heard lately at each tick among these acts, as long as the participant took part.
+abbrev pub IsHeardAtTicks : (ssrc : ℕ) (since : List Act) → History → Type 0
+IsHeardAtTicks ssrc since history =
+    (newer : List Act) (t first_word second_word : ℕ) (older : List Act) (outcome : Outcome) →
+    since ≡ newer ++ ticked t first_word second_word ∷ older → let earlier = with_acts older history in
+    life_at earlier ≡ present outcome → IsHeardLately ssrc (setup_at earlier) t outcome
