@@ -2,3 +2,4 @@ mod Locating
 mod Serving
 mod Refusing
 mod Walking
+mod OwnApps

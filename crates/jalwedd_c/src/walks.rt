@@ -3,7 +3,7 @@
 ghost use Rattle.std.specs.Prelude.{◌≡◌, ◌≤◌, ◌+◌, length};
 ghost use Rattle.rtcp_wire.specs.Contents.{packet_apps, packet_blocks, packet_goodbyes, packet_items, packet_senders};
 ghost use Rattle.rtcp_parts.specs.Cursors.{LeavesBlocks, LeavesGoodbyes, LeavesItems, LeavesNone};
-ghost use Rattle.jalwedd_host.specs.Apps.{ShowsApp};
+ghost use Rattle.jalwedd_host.specs.Apps.{ShowsApp, WalksOwn};
 ghost use Rattle.jalwedd_host.specs.Parts.{ShowsGoodbye, ShowsItem, ShowsSender};
 ghost use Rattle.jalwedd_host.specs.Readings.{ShowsBlock};
 ghost use Rattle.jalwedd_host.specs.Walks.{Continues};
@@ -103,12 +103,14 @@ pub extern "C" fn jalwedd_next_goodbye(
     }
 }
 
-/// The same, of a walk over the packets of applications, and where the data of each stand.
+/// The same, of a walk over the packets of applications, and where the data of each stand. With a cursor that a walk
+/// left, each is one of the datagram's own, and none inside another.
 #[unsafe(no_mangle)]
 pub extern "C" fn jalwedd_next_app(datagram: &[u8], cursor: &mut Cursor, app: &mut AppPlace) -> u32
     ensures tells { Continues packet_apps LeavesNone (ShowsApp datagram.now)
         datagram.now cursor.old cursor.new result app.old app.new }
     ensures within { result ≡ 0 → app.new.offset + app.new.size ≤ length datagram.now }
+    ensures own { WalksOwn datagram.now cursor.old cursor.new result app.new }
 {
     match rtcp_parts::next_app(datagram, cursor) {
         Ok(Some(placed)) => {

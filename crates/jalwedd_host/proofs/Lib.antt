@@ -9,3 +9,4 @@ mod Telling
 mod Turns
 mod Held
 mod WholeWalks
+mod OwnWalks

@@ -7,7 +7,7 @@ pub mod Configs
 pub mod Readings
 pub mod Parts
 pub mod Heads
-pub mod Apps
 pub mod Walks
+pub mod Apps
 pub mod Sources
 pub mod Changes

@@ -25,12 +25,12 @@ ghost use Rattle.jalwedd_host.specs.declared.head.HeadPlace.{HeadPlace};
 ghost use Rattle.jalwedd_host.specs.declared.parts.GoodbyePlace.{GoodbyePlace};
 ghost use Rattle.jalwedd_host.specs.declared.parts.ItemPlace.{ItemPlace};
 ghost use Rattle.jalwedd_host.specs.declared.reading.Report.{Report};
-ghost use Rattle.rtcp_parts.specs.Cursors.{LeavesBlocks, LeavesGoodbyes, LeavesItems, LeavesNone};
-ghost use Rattle.jalwedd_host.specs.Apps.{ShowsApp};
+ghost use Rattle.rtcp_parts.specs.Cursors.{IsBoundary, LeavesBlocks, LeavesGoodbyes, LeavesItems, LeavesNone};
+ghost use Rattle.jalwedd_host.specs.Apps.{ShowsApp, TellsOwnApps};
 ghost use Rattle.jalwedd_host.specs.Heads.{ShowsHead};
 ghost use Rattle.jalwedd_host.specs.Parts.{ShowsGoodbye, ShowsItem, ShowsSender};
 ghost use Rattle.jalwedd_host.specs.Readings.{ShowsBlock};
-ghost use Rattle.jalwedd_host.specs.Walks.{TellsAll};
+ghost use Rattle.jalwedd_host.specs.Walks.{TellsAll, begins};
 
 use rtcp_engine::difference_laws::changes_tell_each_once;
 use rtcp_engine::laws::told_moments_have_passed;
@@ -68,13 +68,17 @@ pub fn changes_are_told_in_turn()
 }
 
 /// Begun with a cursor of zeros, and gone on with until no part is told, a walk over a datagram that is a compound
-/// tells of each part of its kind once, in their order.
+/// tells of each part of its kind once, in their order. A cursor of zeros stands at a boundary of its packets, so that
+/// each packet of an application is one of the datagram's own (`WalksOwn`), and none inside another.
 pub fn walks_tell_of_each_part()
     ensures senders { TellsAll packet_senders LeavesNone (λ datagram. ShowsSender) }
     ensures blocks { TellsAll packet_blocks LeavesBlocks (λ datagram. ShowsBlock) }
     ensures items { TellsAll packet_items LeavesItems ShowsItem }
     ensures goodbyes { TellsAll packet_goodbyes LeavesGoodbyes ShowsGoodbye }
     ensures apps { TellsAll packet_apps LeavesNone ShowsApp }
+    ensures boundary { (datagram : List ℕ) (packets : List RtcpPacket) → IsAccepted datagram packets →
+        IsBoundary datagram begins.next }
+    ensures own_apps { TellsOwnApps }
 {}
 
 /// What a host is told of the parts of a datagram is in the ranges that the header states: items have a type from 1 to

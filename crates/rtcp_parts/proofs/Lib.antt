@@ -1,5 +1,6 @@
 mod OctetParts
 mod Packets
+pub mod Boundaries
 pub mod Calls
 mod Entering
 mod Rests

@@ -49,6 +49,7 @@ comes_first value others datagram octets body at packet room h own own_body kind
       spelled = h.3;
       stands = first_stands datagram h.0 h.1 at room h.2;
       place = place;
+      next = next ∙ ap (λ (t : List ℕ). at + length t) first;
     }
 
 -- ---- Packets that are passed

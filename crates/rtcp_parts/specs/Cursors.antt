@@ -29,6 +29,17 @@ begun_at octets cursor =
 abbrev pub position : Cursor → ℕ
 position cursor = if cursor.next == 0 then 0 else (if cursor.left == 0 then cursor.next else cursor.place)
 
+-- ---- Boundaries
+
+-- These octets are packets, one after the other.
+abbrev pub ArePackets : List ℕ → Type 0
+ArePackets octets = (packets : List RtcpPacket) × Joins IsSpelling packets octets
+
+-- After so many octets of a datagram none of its packets is cut: those octets are packets, and so are the others.
+pub record IsBoundary (datagram : List ℕ) (octets : ℕ) : Type 0 where
+  pub before : ArePackets (take octets datagram)
+  pub after : ArePackets (drop octets datagram)
+
 -- ---- What is left to a walk
 
 -- what is left of the packet that the walk is in, up to its padding

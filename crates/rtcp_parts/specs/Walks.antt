@@ -12,7 +12,7 @@ use Rattle.rtcp_wire.specs.declared.placed.PlacedApp.{PlacedApp}
 use Rattle.rtcp_parts.specs.declared.cursor.Cursor.{Cursor}
 use Rattle.rtcp_parts.specs.declared.packet.Packet.{Packet}
 use Rattle.rtcp_parts.specs.declared.packet.Wanted.{Wanted}
-use Rattle.rtcp_parts.specs.Cursors.{HasPassed, Leaves, LeavesItems, blocks_place, is_within, position, rest_of}
+use Rattle.rtcp_parts.specs.Cursors.{HasPassed, IsBoundary, Leaves, LeavesItems, blocks_place, is_within, position, rest_of}
 
 -- ---- A call
 
@@ -66,6 +66,20 @@ pub record ComesFirst
   pub spelled : IsSpelling value octets
   pub stands : StandsIn before octets datagram
   pub place : packet.place ≡ before + 4
+  pub next : packet.next ≡ before + length octets
+
+-- A packet begins and ends where none of the datagram's own is cut: so it is one of these, and none inside another.
+pub record IsOwnPacket (datagram : List ℕ) (packet : Packet) : Type 0 where
+  pub before : ℕ
+  pub place : packet.place ≡ before + 4
+  pub begins : IsBoundary datagram before
+  pub ends : IsBoundary datagram packet.next
+
+-- The packet of an application, whose data stand 12 octets after its start, is one of the datagram's own.
+pub record IsOwnApp (datagram : List ℕ) (app : PlacedApp) : Type 0 where
+  pub before : ℕ
+  pub place : app.content.place ≡ before + 12
+  pub begins : IsBoundary datagram before
 
 -- It is the first of these packets that is wanted.
 pub record ComesNext (wanted : Wanted) (datagram : List ℕ) (packets : List RtcpPacket) (packet : Packet) : Type 0 where

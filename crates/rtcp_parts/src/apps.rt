@@ -3,8 +3,8 @@
 ghost use Rattle.std.specs.Prelude.{◌≡◌, ◌≤◌, ◌+◌, ◌<◌, ◌^◌, length, true, IfOk, IfSome, MatchOption};
 ghost use Rattle.rtcp_wire.specs.Contents.{packet_apps};
 ghost use Rattle.rtcp_wire.specs.Placed.{PlacesApp};
-ghost use Rattle.rtcp_parts.specs.Cursors.{LeavesNone, is_within};
-ghost use Rattle.rtcp_parts.specs.Walks.{Gives, ReadsApp, TakesNext};
+ghost use Rattle.rtcp_parts.specs.Cursors.{IsBoundary, LeavesNone, is_within};
+ghost use Rattle.rtcp_parts.specs.Walks.{Gives, IsOwnApp, ReadsApp, TakesNext};
 
 use crate::cursor::{Cursor, begun};
 use crate::octets::u32_at;
@@ -22,7 +22,7 @@ const APPLICATIONS: Wanted = Wanted {
 };
 
 /// The next packet of a walk over those of applications in a datagram, in their order; `None` after the last one, and
-/// again from then on.
+/// again from then on. From a cursor that a walk left, each is one of the datagram's own, and none inside another.
 ///
 /// # Errors
 ///
@@ -32,6 +32,8 @@ pub fn next_app(datagram: &[u8], cursor: &mut Cursor) -> Result<Option<PlacedApp
         datagram.now cursor.old cursor.new result }
     ensures within { IfOk result (λ given. IfSome given (λ app.
         app.content.place + app.content.size ≤ length datagram.now)) }
+    ensures own { IsBoundary datagram.now cursor.old.next → IsBoundary datagram.now cursor.new.next
+        × IfOk result (λ given. IfSome given (IsOwnApp datagram.now)) }
 {
     let mut at = match begun(datagram, cursor) {
         Ok(at) => at,
@@ -48,6 +50,8 @@ fn take_app(datagram: &[u8], cursor: &mut Cursor) -> Option<PlacedApp>
     ensures takes { TakesNext packet_apps LeavesNone (PlacesApp datagram.now)
         datagram.now cursor.old cursor.new result }
     ensures within { IfSome result (λ app. app.content.place + app.content.size ≤ length datagram.now) }
+    ensures own { IsBoundary datagram.now cursor.old.next → IsBoundary datagram.now cursor.new.next
+        × IfSome result (IsOwnApp datagram.now) }
 {
     let next = cursor.next as usize;
     *cursor = Cursor::ended(datagram.len());

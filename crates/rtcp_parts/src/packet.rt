@@ -1,9 +1,10 @@
 //! The next packet of a datagram that has parts of a kind.
 
-ghost use Rattle.std.specs.Prelude.{◌≡◌, ◌≤◌, ◌<◌, ◌-◌, ◌↔◌, List, [], ◌∷◌, length, drop, IfSome, MatchOption, IsTrue, None};
+ghost use Rattle.std.specs.Prelude.{◌≡◌, ◌≤◌, ◌<◌, ◌+◌, ◌-◌, ◌↔◌, List, [], ◌∷◌, length, drop, IfSome, MatchOption, IsTrue, None};
 ghost use Rattle.rtcp_wire.specs.Grammar.{Joins, IsSpelling, body_of, padding_of, size_of};
 ghost use Rattle.rtcp_wire.specs.Values.{RtcpPacket};
-ghost use Rattle.rtcp_parts.specs.Walks.{ComesFirst, ComesNext, IsWanted, AreUnwanted, IsPlaced};
+ghost use Rattle.rtcp_parts.specs.Cursors.{IsBoundary};
+ghost use Rattle.rtcp_parts.specs.Walks.{ComesFirst, ComesNext, IsOwnPacket, IsWanted, AreUnwanted, IsPlaced};
 
 /// The octets of a packet's header (RFC 3550, 6.4.1).
 const HEADER_SIZE: usize = 4;
@@ -45,6 +46,7 @@ pub(crate) fn packet_from<'a>(datagram: &'a [u8], from: usize, wanted: Wanted) -
         × IsWanted wanted packet.kind packet.count) }
     ensures next { (packets : List RtcpPacket) → Joins IsSpelling packets (drop from datagram.now) →
         MatchOption result (AreUnwanted wanted packets) (ComesNext wanted datagram.now packets) }
+    ensures own { IsBoundary datagram.now from → IfSome result (IsOwnPacket datagram.now) }
 {
     let mut at = from;
     'packets: loop {
@@ -59,6 +61,7 @@ pub(crate) fn packet_from<'a>(datagram: &'a [u8], from: usize, wanted: Wanted) -
 /// The packet after so many octets, if a whole one can be there.
 fn packet_at(datagram: &[u8], at: usize) -> Option<Packet<'_>>
     ensures placed { IfSome result (λ packet. IsPlaced datagram.now at packet) }
+    ensures place { IfSome result (λ packet. packet.place ≡ at + 4) }
     ensures none { drop at datagram.now ≡ [] → result ≡ None }
     ensures first { (packet : RtcpPacket) (packets : List RtcpPacket) →
         Joins IsSpelling (packet ∷ packets) (drop at datagram.now) →

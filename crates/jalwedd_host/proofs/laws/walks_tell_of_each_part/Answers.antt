@@ -4,6 +4,8 @@ use Rattle.rtcp_parts.specs.Cursors.{LeavesBlocks, LeavesGoodbyes, LeavesItems, 
 use Rattle.jalwedd_host.specs.Apps.{ShowsApp}
 use Rattle.jalwedd_host.specs.Parts.{ShowsGoodbye, ShowsItem, ShowsSender}
 use Rattle.jalwedd_host.specs.Readings.{ShowsBlock}
+use Rattle.rtcp_parts.proofs.Boundaries.{boundary_at_start}
+use Rattle.jalwedd_host.proofs.OwnWalks.{tells_own}
 use Rattle.jalwedd_host.proofs.WholeWalks.{tells_all}
 use Rattle.jalwedd_host.proofs.laws.walks_tell_of_each_part.Goals as goal
 
@@ -21,3 +23,9 @@ returns-clause-goodbyes c = tells_all packet_goodbyes LeavesGoodbyes ShowsGoodby
 
 pub returns-clause-apps : goal.returns-clause-apps
 returns-clause-apps c = tells_all packet_apps LeavesNone ShowsApp
+
+pub returns-clause-boundary : goal.returns-clause-boundary
+returns-clause-boundary c = boundary_at_start
+
+pub returns-clause-own_apps : goal.returns-clause-own_apps
+returns-clause-own_apps c = tells_own

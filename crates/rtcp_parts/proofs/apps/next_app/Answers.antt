@@ -1,5 +1,6 @@
 -- The walk is over a datagram that is a compound, or its fault is told.
 use Rattle.std.proofs.Common.{Err}
+use Rattle.rtcp_parts.proofs.Boundaries.{boundary_begun}
 use Rattle.rtcp_parts.proofs.Calls.{begun_within, gives, refuses}
 use Rattle.rtcp_parts.proofs.apps.next_app.Goals as goal
 
@@ -17,3 +18,8 @@ pub returns-clause-gives : goal.returns-clause-gives
 returns-clause-gives c =
     gives c.args.datagram.now c.args.cursor.now c.in-Ok.at _ c.in-Ok.ensures.begins _
     (λ fault first begins. cc (c.in-Ok.ensures.refused fault first begins)) c.take_app-app.ensures.takes
+
+pub returns-clause-own : goal.returns-clause-own
+returns-clause-own c here =
+    c.take_app-app.ensures.own
+    (boundary_begun c.args.datagram.now c.args.cursor.now c.in-Ok.at c.in-Ok.ensures.begins here)

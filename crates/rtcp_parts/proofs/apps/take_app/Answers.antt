@@ -1,5 +1,8 @@
 -- The packet is the next one of an application.
-use Rattle.std.proofs.Common.{arith}
+use Rattle.std.proofs.Common.{subst, sym, arith}
+use Rattle.rtcp_parts.specs.Cursors.{IsBoundary}
+use Rattle.rtcp_parts.specs.declared.cursor.Cursor.{Cursor}
+use Rattle.rtcp_parts.proofs.Boundaries.{boundary_at_end}
 use Rattle.rtcp_parts.proofs.Entering.{none_among}
 use Rattle.rtcp_parts.proofs.SinglePackets.{app_next, app_room, applications, defined, no_app_in, takes_none, takes_one}
 use Rattle.rtcp_parts.proofs.apps.take_app.Goals as goal
@@ -28,3 +31,30 @@ returns-clause-takes c =
     c.in_ok-app.app placed.0 c.ended-2.ensures
     (λ packets h. app_next c.args.datagram.now packets c.in_ok-packet.packet c.in_ok-app.app
     (c.in_ok-packet.ensures.next packets h) (omega (arith, placed.1.0, placed.1.1)) c.in_ok-app.ensures.1)
+
+pub returns-in_err-packet-clause-own : goal.returns-in_err-packet-clause-own
+returns-in_err-packet-clause-own c here =
+    rw c.from_residual.ensures (
+      subst (λ (cursor : Cursor). IsBoundary c.args.datagram.now cursor.next)
+          (sym c.ended.ensures) (boundary_at_end c.args.datagram.now c.args.cursor.now.next here),
+      tt {0},
+    )
+
+pub returns-in_err-app-clause-own : goal.returns-in_err-app-clause-own
+returns-in_err-app-clause-own c here =
+    rw c.from_residual-in_err-app.ensures (
+      subst (λ (cursor : Cursor). IsBoundary c.args.datagram.now cursor.next)
+          (sym c.ended.ensures) (boundary_at_end c.args.datagram.now c.args.cursor.now.next here),
+      tt {0},
+    )
+
+pub returns-clause-own : goal.returns-clause-own
+returns-clause-own c here =
+    let own = c.in_ok-packet.ensures.own here in (
+      subst (λ (cursor : Cursor). IsBoundary c.args.datagram.now cursor.next) (sym c.ended-2.ensures) own.ends,
+      record {
+        before = own.before;
+        place = omega (arith, own.place, c.in_ok-app.ensures.1.place);
+        begins = own.begins;
+      },
+    )
