@@ -200,7 +200,7 @@ module _ (ssrc : ℕ) where
       by (forgotten t other) heard (backing_off outcome backoff) is = tt
       by (forgotten t other) heard (gone outcome) is = tt
 
-  heard_before : (history : History) (act : Act) (since : List Act) → IsHeardAtTicks ssrc (act ∷ since) history →
+  pub heard_before : (history : History) (act : Act) (since : List Act) → IsHeardAtTicks ssrc (act ∷ since) history →
       IsHeardAtTicks ssrc since history
   heard_before history act since heard newer t first_word second_word older outcome is =
       heard (act ∷ newer) t first_word second_word older outcome (ap (λ (acts : List Act). act ∷ acts) is)

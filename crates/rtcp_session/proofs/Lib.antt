@@ -13,7 +13,8 @@
 --
 -- Deliveries: `Stretching` shifts the beginning of each wait by the delay. `Announcing`, `Taking` and `Knowing` go from
 -- a report to a member: the report gives a CNAME, a compound that was taken stands in the trace, and who is named and
--- kept is a member. `Delivering` counts these, and `Delivered` has the clauses.
+-- kept is a member. `Introduced` does so by the laws of rtcp_engine on who is heard. `Delivering` counts these, and
+-- `Delivered` has the clauses.
 --
 -- `examples` has small sessions. Among them are a turnover, in which at most two wait at a time and each counts two,
 -- and a pair whose reports come 300 milliseconds late. The modules `WrongRows`, `DeliveryWrongs`, `JoinRows` and
@@ -40,3 +41,4 @@ mod Taking
 mod Announcing
 mod Delivering
 mod Delivered
+mod Introduced

@@ -1,17 +1,21 @@
 //! Laws of sessions by what the network does: if the compounds of each participant come to the others within some
 //! delay, the session keeps to its bandwidth. Each is an empty function whose postcondition is the law.
 
-ghost use Rattle.std.specs.Prelude.{◌≡◌, ◌≤◌, ◌<◌, ℕ, ◌+◌, ◌-◌, ◌*◌, true, false, List, All, Contains, length, Ok};
+ghost use Rattle.std.specs.Prelude.{◌≡◌, ◌≤◌, ◌<◌, ℕ, ◌+◌, ◌-◌, ◌*◌, true, false, List, ◌∷◌, All, Contains, length, Ok};
 ghost use Rattle.rtcp_wire.specs.declared.fact.Fact.TheVariants.{Named};
 ghost use Rattle.rtcp_wire.specs.Values.{RtcpPacket};
 ghost use Rattle.rtcp_wire.specs.Facts.{facts_of};
 ghost use Rattle.rtcp_members.specs.Traces.{TraceStep};
+ghost use Rattle.rtcp_members.specs.Lasting.{MayBring};
 ghost use Rattle.rtcp_members.specs.Entries.{entry_at, is_member, is_sender, is_such};
 ghost use Rattle.rtcp_timer.specs.Averages.{with_headers};
-ghost use Rattle.rtcp_engine.specs.Acts.{arrived, rtcp};
-ghost use Rattle.rtcp_engine.specs.Histories.{History};
+ghost use Rattle.rtcp_engine.specs.Acts.{Act, arrived, rtcp, ticked};
+ghost use Rattle.rtcp_engine.specs.Outcomes.{Outcome};
+ghost use Rattle.rtcp_engine.specs.Leaving.{present};
+ghost use Rattle.rtcp_engine.specs.Histories.{History, life_at, session_at, setup_at, with_act};
+ghost use Rattle.rtcp_engine.specs.Hearing.{IsHeardAtTicks, LeavesAlone, with_acts};
 ghost use Rattle.rtcp_engine.specs.Taken.{IsHistory};
-ghost use Rattle.rtcp_session.specs.Windows.{Joined, decided_at, reports_within};
+ghost use Rattle.rtcp_session.specs.Windows.{Joined, decided_at, decided_by, reports_within};
 ghost use Rattle.rtcp_session.specs.Crowds.{total_reports, total_octets, total_compounds, Terms};
 ghost use Rattle.rtcp_session.specs.Waits.{
   waits_within,
@@ -58,6 +62,22 @@ pub fn those_who_report_become_members()
     ensures listeners { (capacity ssrc : ℕ) (trace : List TraceStep) →
         All (λ step. brings_rtp ssrc step ≡ false) trace →
         is_such is_sender (entry_at capacity trace ssrc) ≡ false }
+{}
+
+/// A source whose compound was taken is heard at a report, in the sense of `AreHeard`: it is a member by what decides on
+/// that report (RFC 3550, 6.2.1, 6.3.3 to 6.3.5). The compound gives its CNAME and may bring it in: there is room for it,
+/// and no goodbye of it. In the acts since, no datagram brings its goodbye and the host does not say that it is gone. At
+/// each tick, that of the report among them, its newest fact is no older than five of the intervals that the tick's
+/// check goes by. (`those_named_become_members` of rtcp_engine says the same of any moment.)
+pub fn those_named_are_heard()
+    ensures { (before : History) (moment peer word size ssrc t first_word second_word : ℕ)
+        (packets : List RtcpPacket) (outcome : Outcome) (since : List Act) → life_at before ≡ present outcome →
+        Contains (facts_of packets) (Named ssrc) →
+        MayBring (setup_at before).capacity ssrc (facts_of packets) outcome.trace →
+        let named = with_act before (arrived moment peer word (rtcp size (Ok packets))) in
+        All (LeavesAlone ssrc) since → IsHeardAtTicks ssrc (ticked t first_word second_word ∷ since) named →
+        All (λ decided. is_such is_member (entry_at decided.setup.capacity decided.outcome.trace ssrc) ≡ true)
+        (decided_by (session_at (with_acts since named)) (ticked t first_word second_word)) }
 {}
 
 /// A delay stretches the window. If those who wait for their next reports count each other once a delay has passed
