@@ -38,8 +38,8 @@ pub record IsOwnPlace (datagram : List ℕ) (place : AppPlace) : Type 0 where
   pub offset : place.offset ≡ before + 12
   pub boundary : IsBoundary datagram before
 
--- A cursor that stands at a boundary of a datagram's packets, as one of zeros does, is left at one, and a packet that is
--- told is one of the datagram's own.
+-- A cursor that stands at a boundary of a datagram's packets is left at one, and a packet that is told is one of the
+-- datagram's own. (Of an accepted datagram a cursor of zeros stands at one.)
 pub record WalksOwn (datagram : List ℕ) (was now : Cursor) (result : ℕ) (place : AppPlace) : Type 0 where
   pub stays : IsBoundary datagram was.next → IsBoundary datagram now.next
   pub own : IsBoundary datagram was.next → result ≡ 0 → IsOwnPlace datagram place
@@ -52,8 +52,8 @@ AreOwnTold datagram was (place ∷ places) now =
     × Continues packet_apps LeavesNone (ShowsApp datagram) datagram was next 0 before place
     × WalksOwn datagram was next 0 place × AreOwnTold datagram next places now
 
--- A walk that begins over an accepted datagram and that no call told of another packet has told of all, and of each that
--- it is one of the datagram's own.
+-- A walk that begins over an accepted datagram and that no call told of another packet has told of all, each of which
+-- is one of the datagram's own.
 abbrev pub TellsOwnApps : Type 0
 TellsOwnApps =
     (datagram : List ℕ) (packets : List RtcpPacket) (places : List AppPlace) (last end : Cursor)

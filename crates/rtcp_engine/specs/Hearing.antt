@@ -1,11 +1,12 @@
 -- Who is heard: a source is a member from a compound with its CNAME on, until it says goodbye, the host says that it is
 -- gone, or it is silent for too long (RFC 3550, 6.2.1, 6.3.3 to 6.3.5, 6.3.7). Lists are newest first.
-use Rattle.std.specs.Prelude.{ℕ, ◌≡◌, ◌+◌, ◌*◌, ◌≤◌, ◌==◌, ◌&&◌, Bool, false, List, ◌∷◌, ◌++◌, All, Ok}
+use Rattle.std.specs.Prelude.{ℕ, ◌≡◌, ◌+◌, ◌*◌, ◌≤◌, ◌==◌, ◌&&◌, not, Bool, true, false, List, ◌∷◌, ◌++◌, All, Contains, Ok, Err}
+use Rattle.std.specs.List.{list_any}
 use Rattle.rtcp_wire.specs.Facts.{subject, is_gone, facts_of}
 use Rattle.rtcp_members.specs.Stays.{last_naming}
 use Rattle.rtcp_members.specs.Entries.{is_member, is_such}
 use Rattle.rtcp_engine.specs.Setups.{Setup}
-use Rattle.rtcp_engine.specs.Acts.{Act, arrived, rtcp, ticked, forgotten}
+use Rattle.rtcp_engine.specs.Acts.{Act, Datagram, arrived, rtcp, rtp, ticked, forgotten}
 use Rattle.rtcp_engine.specs.Outcomes.{Outcome, check_interval}
 use Rattle.rtcp_engine.specs.Leaving.{present}
 use Rattle.rtcp_engine.specs.Lives.{entry_in_life}
@@ -37,3 +38,32 @@ IsHeardAtTicks ssrc since history =
     (newer : List Act) (t first_word second_word : ℕ) (older : List Act) (outcome : Outcome) →
     since ≡ newer ++ ticked t first_word second_word ∷ older → let earlier = with_acts older history in
     life_at earlier ≡ present outcome → IsHeardLately ssrc (setup_at earlier) t outcome
+
+-- ---- Datagrams
+
+-- A datagram names a source: its RTP packet comes from it, or a fact of its compound is one of it, and not its goodbye.
+abbrev pub names_source : (ssrc : ℕ) → Datagram → Bool
+names_source ssrc (rtcp size (Ok packets)) =
+    list_any (λ fact. not (is_gone fact) && subject fact == ssrc) (facts_of packets)
+names_source ssrc (rtcp size (Err fault)) = false
+names_source ssrc (rtp (Ok head)) = head.ssrc == ssrc
+names_source ssrc (rtp (Err fault)) = false
+
+-- By a moment, a datagram that names a source was taken, no longer ago than five such intervals.
+pub record CameLately (ssrc t interval : ℕ) (history : History) : Type 0 where
+  pub at : ℕ
+  pub peer : ℕ
+  pub word : ℕ
+  pub datagram : Datagram
+  pub taken : Contains history.acts (arrived at peer word datagram)
+  pub named : names_source ssrc datagram ≡ true
+  pub lately : t ≤ at + 5 * interval
+
+-- At each tick among these acts, as long as the participant took part, such a datagram came lately, by the interval
+-- that the tick's check goes by.
+abbrev pub IsNamedAtTicks : (ssrc : ℕ) (since : List Act) → History → Type 0
+IsNamedAtTicks ssrc since history =
+    (newer : List Act) (t first_word second_word : ℕ) (older : List Act) (outcome : Outcome) →
+    since ≡ newer ++ ticked t first_word second_word ∷ older → let earlier = with_acts older history in
+    life_at earlier ≡ present outcome →
+    CameLately ssrc t (check_interval (setup_at earlier) t outcome) earlier

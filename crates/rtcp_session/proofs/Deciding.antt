@@ -171,7 +171,8 @@ some_intervals history =
 
 -- ---- What holds of each
 
-pub all_such : (Q : Setup → Outcome → Type 0) (setup : Setup) (outcome : Outcome) → Q setup outcome → (reports : List Sent)
+pub all_such : (Q : Setup → Outcome → Type 0) (setup : Setup) (outcome : Outcome) → Q setup outcome →
+    (reports : List Sent)
     → All (λ decided. Q decided.setup decided.outcome) (map (decided_as setup outcome) reports)
 all_such Q setup outcome is [] = All-nil (λ (decided : Decided). Q decided.setup decided.outcome)
 all_such Q setup outcome is (report ∷ earlier) =

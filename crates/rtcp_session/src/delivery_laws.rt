@@ -64,11 +64,11 @@ pub fn those_who_report_become_members()
         is_such is_sender (entry_at capacity trace ssrc) ≡ false }
 {}
 
-/// A source whose compound was taken is heard at a report, in the sense of `AreHeard`: it is a member by what decides on
-/// that report (RFC 3550, 6.2.1, 6.3.3 to 6.3.5). The compound gives its CNAME and may bring it in: there is room for it,
-/// and no goodbye of it. In the acts since, no datagram brings its goodbye and the host does not say that it is gone. At
-/// each tick, that of the report among them, its newest fact is no older than five of the intervals that the tick's
-/// check goes by. (`those_named_become_members` of rtcp_engine says the same of any moment.)
+/// A source whose compound was taken is heard at a report, in the sense of `AreHeard`: it is a member by what decides
+/// on that report (RFC 3550, 6.2.1, 6.3.3 to 6.3.5). The compound gives its CNAME and may bring it in: there is room
+/// for it, and no goodbye of it. In the acts since, no datagram brings its goodbye, and the host does not say that it
+/// is gone. At each tick, that of the report among them, its newest fact is no older than five of the intervals that
+/// the tick's check goes by. (`those_named_become_members` of rtcp_engine says the same of any moment.)
 pub fn those_named_are_heard()
     ensures { (before : History) (moment peer word size ssrc t first_word second_word : ℕ)
         (packets : List RtcpPacket) (outcome : Outcome) (since : List Act) → life_at before ≡ present outcome →

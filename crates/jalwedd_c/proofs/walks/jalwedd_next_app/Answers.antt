@@ -23,7 +23,9 @@ returns-in-Ok-Some-clause-own c =
     (c.in-Ok-Some.is ∙ ap Ok (cc c.in-Ok-Some.field-0-is)) c.next_app.ensures.own
 
 pub returns-in-Ok-None-clause-own : goal.returns-in-Ok-None-clause-own
-returns-in-Ok-None-clause-own c = none_told c.next_app.result 8 c.args.app.now (λ taken. absurd (cc taken)) c.next_app.ensures.own
+returns-in-Ok-None-clause-own c = none_told c.next_app.result 8 c.args.app.now (λ taken. absurd (cc taken))
+    c.next_app.ensures.own
 
 pub returns-in-Err-clause-own : goal.returns-in-Err-clause-own
-returns-in-Err-clause-own c = none_told c.next_app.result 5 c.args.app.now (λ taken. absurd (cc taken)) c.next_app.ensures.own
+returns-in-Err-clause-own c = none_told c.next_app.result 5 c.args.app.now (λ taken. absurd (cc taken))
+    c.next_app.ensures.own

@@ -6,5 +6,6 @@ returns-clause-joins c = λ history moment peer word size ssrc packets outcome s
     named_join moment peer word size ssrc packets named history outcome same may
 
 pub returns-clause-remains : goal.returns-clause-remains
-returns-clause-remains c = λ history moment peer word size ssrc packets outcome later since same named may alone heard is.
+returns-clause-remains c =
+    λ history moment peer word size ssrc packets outcome later since same named may alone heard is.
     named_remain moment peer word size ssrc packets named history outcome later since same may alone heard is
