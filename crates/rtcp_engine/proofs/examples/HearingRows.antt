@@ -1,7 +1,6 @@
 -- Worked rows: who is a member from a compound with its CNAME on, and until when.
-use Rattle.std.proofs.Common.{◌≡◌, ℕ, true, false, List, [], ◌∷◌, None, Ok, refl}
+use Rattle.std.proofs.Common.{◌≡◌, ℕ, true, false, [], ◌∷◌, None, Ok, refl}
 use Rattle.rtcp_wire.specs.Values.{rr, sdes, bye}
-use Rattle.rtcp_engine.specs.Setups.{Setup}
 use Rattle.rtcp_engine.specs.Acts.{Act, arrived, rtcp, ticked, forgotten}
 use Rattle.rtcp_engine.specs.Hearing.{is_member_at, with_acts}
 use Rattle.rtcp_engine.specs.Histories.{History, with_act}
