@@ -1,7 +1,7 @@
 -- Which participants wait for their next reports at a moment, and how many each counts when it sends its own. A
 -- participant waits from one of its reports in a window to its next one there: at no moment twice. Lists are newest
 -- first; moments and widths are in microseconds, by the clock of the window.
-use Rattle.std.specs.Prelude.{ℕ, ◌≡◌, ◌+◌, ◌*◌, ◌/◌, ◌≤◌, ◌&&◌, not, nat_le, nat_lt, Bool, true, false, List, [], ◌∷◌, length, filter, All, flat_map}
+use Rattle.std.specs.Prelude.{ℕ, ◌+◌, ◌*◌, ◌/◌, ◌≤◌, ◌&&◌, not, nat_le, nat_lt, Bool, true, false, List, [], ◌∷◌, length, filter, All, flat_map}
 use Rattle.std.specs.List.{sum_by}
 use Rattle.rtcp_members.specs.Entries.{is_member}
 use Rattle.rtcp_timer.specs.declared.load.Load.{Load}

@@ -2,9 +2,9 @@
 -- senders and 16 for the others, and each compound has 48 octets with its headers. Each hears of the others, and
 -- reports as soon as it may. Two that do not send RTP send as many reports as a crowd may: with 243,655 in place of
 -- 243,656 they would be one too many, as without the one report that each may send besides.
-use Rattle.std.proofs.Common.{◌≡◌, ◌≤◌, ◌==◌, ◌<◌, ◌^◌, ℕ, ◌+◌, ◌*◌, ◌/◌, List, [], ◌∷◌, ◌&&◌, not, nat_le, nat_lt, length, map, All, Bool, true, false, Option, Some, None, is_some, Ok, Err, refl, arith}
+use Rattle.std.proofs.Common.{◌≡◌, ◌<◌, ◌^◌, ℕ, ◌+◌, ◌*◌, ◌/◌, List, [], ◌∷◌, ◌&&◌, not, nat_le, nat_lt, length, map, All, Bool, true, false, Option, Some, None, is_some, Ok, Err, refl, arith}
 use Rattle.std.specs.List.{list_all}
-use Rattle.std.proofs.lemmas.Bool.{and_parts, leb-true, ltb-true, eqb-true}
+use Rattle.std.proofs.lemmas.Bool.{and_parts, leb-true, ltb-true}
 use Rattle.std.proofs.lemmas.List.Elements.{All-nil, All-cons, All-weaker}
 use Rattle.std.proofs.lemmas.List.Sums.{AllPass-from_list_all}
 use Rattle.rtcp_wire.specs.Values.{rr, sdes}

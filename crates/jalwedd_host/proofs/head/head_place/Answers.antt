@@ -1,5 +1,5 @@
 -- What is told of a head is what its octets say, and its parts stand there.
-use Rattle.std.proofs.Common.{length, refl, sym, ap, ◌∙◌}
+use Rattle.std.proofs.Common.{length, sym, ap, ◌∙◌}
 use Rattle.std.proofs.lemmas.Iterator.Consumers.{count_from_yields_List, YieldsList-from_first}
 use Rattle.jalwedd_host.specs.Answers.{one_if}
 use Rattle.jalwedd_host.proofs.Options.{bit_number}
