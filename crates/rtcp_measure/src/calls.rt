@@ -1,5 +1,5 @@
-//! The mode `calls`: it makes one kind of call on a participant over and over, and prints a digest of the answers. These
-//! are calls that hosts in C cannot make.
+//! The mode `calls`: it makes one kind of call on a participant over and over, and prints a digest of the answers.
+//! These are calls that hosts in C cannot make.
 //!
 //!     rtcp_measure calls TABLE SHAPE SOURCES CALL COUNT
 //!

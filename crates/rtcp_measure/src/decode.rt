@@ -1,5 +1,5 @@
-//! The mode `decode`: it reads datagrams from standard input, decodes all of them a number of times, and prints the sums
-//! of their fields.
+//! The mode `decode`: it reads datagrams from standard input, decodes all of them a number of times, and prints the
+//! sums of their fields.
 //!
 //!     rtcp_measure decode PASSES
 //!

@@ -1,5 +1,5 @@
-//! The mode `jobs`: it does one of the jobs that a host spends its time on, with input generated from a seed, and prints
-//! a digest of all results.
+//! The mode `jobs`: it does one of the jobs that a host spends its time on, with input generated from a seed, and
+//! prints a digest of all results.
 //!
 //!     rtcp_measure jobs NAME COUNT SEED
 //!
