@@ -4,7 +4,7 @@ ghost use Rattle.std.specs.Prelude.{◌≡◌, ◌==◌, ◌+◌, ◌≤◌, ◌
 ghost use Rattle.rtcp_wire.specs.Views.{block_value};
 ghost use Rattle.rtcp_wire.specs.Writing.{IsWritableBlock};
 ghost use Rattle.rtcp_source.specs.LastBlocks.{fraction_of};
-ghost use Rattle.rtcp_source.specs.Blocks.{expected_in, lost_of, block_of_run, news_of};
+ghost use Rattle.rtcp_source.specs.Blocks.{expected_in, lost_of, block_of_run};
 ghost use Rattle.rtcp_source.specs.Bounds.{IsRunBounded};
 ghost use Rattle.rtcp_source.specs.Steps.{run_from, run_after, run_reported};
 ghost use Rattle.rtcp_source.specs.Summary.{transit_distance, jitter_on};
@@ -12,7 +12,7 @@ ghost use Rattle.rtcp_source.specs.Receptions.{reception_of_run};
 ghost use Rattle.rtcp_source.specs.Views.{run_value, reception_value};
 
 use crate::reception::Reception;
-use crate::sequence::{FIRST, nearest_ordinal};
+use crate::sequence::{FIRST, greatest_with};
 use rtcp_wire::Block;
 
 /// The counted packets of a run, in numbers. Ordinals are those of `sequence`.
@@ -66,7 +66,7 @@ impl Run {
         ensures bounded { IsRunBounded (self.received + 1) (run_value result) }
     {
         Run {
-            greatest: self.greatest.max(nearest_ordinal(self.greatest, seq)),
+            greatest: greatest_with(self.greatest, seq),
             received: self.received + 1,
             transit,
             rate,
@@ -143,13 +143,6 @@ impl Run {
             jitter: (self.jitter / 16) as u32,
             rate: self.rate,
         }
-    }
-
-    /// Whether a packet was counted since the last block.
-    pub(crate) fn has_news(self) -> bool
-        ensures { result ≡ news_of (Some (run_value self)) }
-    {
-        self.received_before < self.received
     }
 
     /// The packets expected, from the first one to the greatest.

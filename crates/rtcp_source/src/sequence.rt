@@ -2,7 +2,7 @@
 //! sequence number modulo 65536, and that counts the wraps. It is 65536 above that integer, so that it is
 //! never negative.
 
-ghost use Rattle.std.specs.Prelude.{◌≡◌, ◌≤◌, ◌<◌, ◌^◌, option_map};
+ghost use Rattle.std.specs.Prelude.{◌≡◌, ◌≤◌, ◌<◌, ◌^◌, max, option_map};
 ghost use Rattle.rtcp_source.specs.Packets.{ahead, is_near, ordinal_near, follows, taken_as};
 
 use crate::taken::Taken;
@@ -55,17 +55,17 @@ fn follows_stray(stray: Option<u16>, seq: u16) -> bool
     }
 }
 
-/// The ordinal of a number that is near the greatest ordinal: the congruent one that is near it.
-pub(crate) fn nearest_ordinal(greatest: u64, seq: u16) -> u64
+/// The greatest ordinal with one packet more, whose number is near it: that of a late packet is lesser.
+pub(crate) fn greatest_with(greatest: u64, seq: u16) -> u64
     requires low { 65536 ≤ greatest }
     requires high { greatest < 2 ^ 60 }
-    ensures { result ≡ ordinal_near greatest seq }
+    ensures { result ≡ max (ordinal_near greatest seq) greatest }
 {
     let distance = distance_ahead(greatest, seq);
     if distance < MAX_DROPOUT {
         greatest + distance as u64
     } else {
-        greatest + distance as u64 - 65_536
+        greatest
     }
 }
 

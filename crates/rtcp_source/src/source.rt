@@ -112,6 +112,8 @@ impl Source {
     /// of the timestamp's clock, modulo 2^32, as rtcp_clock's `rtp_units` gives it, `octets` are those of its payload,
     /// and `rate` are the units a second of the timestamp's clock, which is that of the packet's payload type. A source
     /// takes at most 2^40 packets.
+    // Inlined, as an RTP packet is the most frequent event.
+    #[inline(always)]
     pub fn take(&mut self, seq: u16, rtp_ts: u32, arrival: u32, octets: u64, rate: u32) -> Taken
         requires { self.old.packets < 2 ^ 40 }
         ensures taken { result ≡ taken_by self.old seq }
@@ -188,7 +190,7 @@ impl Source {
         ensures news { result ≡ news_of self.now.run }
         ensures since_block { (given : List Given) → StandsAt self.now given → result ≡ has_news_since given }
     {
-        self.run().is_some_and(|run| run.has_news())
+        self.received_before < self.received
     }
 
     /// How the source's packets are received, as its report block would say it, but for the fraction lost.
