@@ -346,9 +346,9 @@ typedef struct jalwedd_role_change {
 
 /* ---- A participant */
 
-/* The memory, in octets, that a participant of this capacity takes: a block of 2,720 octets, and one of 144 octets for
+/* The memory, in octets, that a participant of this capacity takes: a block of 2,720 octets, and one of 152 octets for
  * each source of the capacity. */
-#define JALWEDD_MEMORY(capacity) (2720 + 144 * (size_t)(capacity))
+#define JALWEDD_MEMORY(capacity) (2720 + 152 * (size_t)(capacity))
 
 /* Makes the library use `allocate` and `release` in place of malloc and free. `allocate` returns a block of `size`
  * octets, aligned as by malloc, or NULL. Call this at most once, before the first jalwedd_new. */

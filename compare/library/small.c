@@ -77,7 +77,7 @@ static void take_part(jalwedd_handle *session, uint32_t others)
     HOLDS(step.kind == JALWEDD_REPORT);
 }
 
-/* As the header says: 2,720 octets in one block and 144 for each source of the capacity in another, all of it as the
+/* As the header says: 2,720 octets in one block and 152 for each source of the capacity in another, all of it as the
  * session begins. */
 static void heap_by_capacity(void)
 {

@@ -54,6 +54,14 @@ entries_same [] k d cell same = refl
 entries_same (x ∷ cells) zero d cell same = ap (λ e. e ∷ entries_in cells) same
 entries_same (x ∷ cells) (suc k) d cell same = ap (λ es. x.entry ∷ es) (entries_same cells k d cell same)
 
+-- Writing what is no slot leaves the slots.
+pub pairs_held : (cells : List Cell) (k : ℕ) (d cell : Cell) → cell.even ≡ (slice_index_or cells k d).even →
+    cell.odd ≡ (slice_index_or cells k d).odd → pairs_in (set cells k cell) ≡ pairs_in cells
+pairs_held [] k d cell even odd = refl
+pairs_held (x ∷ cells) zero d cell even odd = λ i. even i ∷ odd i ∷ pairs_in cells
+pairs_held (x ∷ cells) (suc k) d cell even odd = ap (λ slots. x.even ∷ x.odd ∷ slots)
+    (pairs_held cells k d cell even odd)
+
 set_of : (cells : List Cell) (k : ℕ) (cell : Cell) →
     pairs_in (set cells k cell) ≡ set (set (pairs_in cells) (twice k) cell.even) (suc (twice k)) cell.odd
 set_of [] k cell = refl

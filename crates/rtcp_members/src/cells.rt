@@ -1,10 +1,11 @@
-//! Cells that have an entry each, and two slots of an index.
+//! Cells that have an entry each, two slots of an index, and four hints.
 
 ghost use Rattle.std.specs.Prelude.{◌≡◌, ◌*◌, ◌≤◌, ◌<◌, List, length, take, drop, set, ◌++◌, slice_index_or};
 ghost use Rattle.std.specs.List.{insert};
 ghost use Rattle.rtcp_members.specs.storage.Heaps.{no_slot, entries_in, pairs_in};
 
 use crate::entry::Entry;
+use crate::hints::HINTS;
 
 /// Where the entry of a source lies.
 #[derive(Clone, Copy)]
@@ -23,12 +24,14 @@ impl Slot {
 }
 
 /// Room for an entry, and for the slots of two ranks: twice the cell's place, and the next. So entries and index
-/// lie in one block of memory, and the slots of a list lie in the first half of its cells.
+/// lie in one block of memory, and the slots of a list lie in the first half of its cells. The hints of all cells are
+/// one table.
 #[derive(Drop)]
 pub struct Cell {
     pub(crate) entry: Entry,
     pub(crate) even: Slot,
     pub(crate) odd: Slot,
+    pub(crate) hints: [u16; HINTS],
 }
 
 impl Cell {
@@ -40,6 +43,7 @@ impl Cell {
             entry,
             even: Slot::none(),
             odd: Slot::none(),
+            hints: [0; HINTS],
         }
     }
 }

@@ -175,7 +175,12 @@ impl Entry {
         match fact {
             Fact::Heard(_) | Fact::Told(_, _, _) => true,
             Fact::Named(_) => self.valid,
-            Fact::Media(_, _, _, _, _) => self.is_sender() && self.is_due(),
+            Fact::Media(_, _, _, _, _) => {
+                if self.left || !self.valid || !self.sends {
+                    return false;
+                }
+                self.source.has_news()
+            }
             Fact::Gone(_) => false,
         }
     }

@@ -30,6 +30,7 @@ mod cells;
 mod counts;
 mod entry;
 pub mod heard_laws;
+mod hints;
 mod index;
 pub mod laws;
 mod list_table;

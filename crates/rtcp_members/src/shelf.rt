@@ -20,6 +20,7 @@ use crate::bounds::Bounds;
 use crate::cells::{Cell, Slot, exchange, set_entry, shift, slot_at};
 use crate::counts::Counts;
 use crate::entry::Entry;
+use crate::hints::{hinted, note};
 use crate::index::{entry_at, find, walk_to};
 use crate::state::SourceState;
 use crate::table::Effect;
@@ -85,6 +86,26 @@ impl<B: Blocks> Shelf<B> {
         ensures { IsRankOf result self.now.items at }
     {
         slot_at(self.cells.as_slice(), at).ssrc
+    }
+
+    /// The rank of a source, if the hint at it says so.
+    #[inline(always)]
+    pub(crate) fn hinted(&self, ssrc: u32) -> Option<usize>
+        ensures { IfSome result (IsRankOf ssrc self.now.items) }
+    {
+        let rank = hinted(self.cells.as_slice(), ssrc);
+        if rank < self.used && self.ssrc_at(rank) == ssrc {
+            return Some(rank);
+        }
+        None
+    }
+
+    /// Makes the hint at a source say this rank.
+    #[inline(always)]
+    pub(crate) fn note(&mut self, ssrc: u32, rank: usize)
+        ensures { self.new ≡ self.old }
+    {
+        note(self.cells.as_mut_slice(), ssrc, rank);
     }
 
     /// Whether a source has no entry, and one would stand at this rank.

@@ -1,12 +1,13 @@
 //! A table that keeps its entries by rising SSRC, with running counts.
 
-ghost use Rattle.std.specs.Prelude.{◌≡◌, ℕ, [], ◌<◌, ◌≤◌, ◌^◌, List, length, filter, take, drop, not, IfSome, IfOk, option_map};
+ghost use Rattle.std.specs.Prelude.{◌≡◌, ℕ, [], ◌<◌, ◌≤◌, ◌^◌, false, List, length, filter, take, drop, not, IfSome, IfOk, option_map};
 ghost use Rattle.std.specs.FinMap as finite;
 ghost use Rattle.rtcp_wire.specs.Facts.{subject};
 ghost use Rattle.rtcp_members.specs.Traces.{horizons_at};
 ghost use Rattle.rtcp_members.specs.Told.{first_state};
 ghost use Rattle.rtcp_members.specs.Entries.{is_such};
 ghost use Rattle.rtcp_members.specs.ListViews.{state_value, rows_of, map_of, table_of, tally_of, IsRankOf};
+ghost use Rattle.rtcp_members.specs.storage.Shelves.{Joins, tallies_differ};
 ghost use Rattle.rtcp_members.specs.storage.SortedViews.{CutsAbove, IsRising, IsSortedTable, IsGapFor, Locates};
 ghost use Rattle.rtcp_members.specs.declared.bounds.Bounds.{Bounds as BoundsOf};
 ghost use Rattle.rtcp_members.specs.storage.Standing.{AllStandBy, IsUpTo};
@@ -34,14 +35,11 @@ const SHORT_LIST: u64 = 64;
 #[derive(Drop)]
 pub struct Sorted<B: Blocks> {
     capacity: u16,
-    /// Where the source of the last fact, block or telling stands, or would.
+    /// Where the source of the last block or telling stands, or would.
     last_rank: u16,
     entries: Shelf<B>,
     /// Whether walks to a source pay.
     walks: Walks,
-    /// The source of the last fact: the next one is often of the same. Where it is not, what stands at the last
-    /// rank need not be read.
-    last_ssrc: u32,
     /// Up to which moments a check changes nothing.
     bounds: Bounds,
 }
@@ -61,12 +59,12 @@ impl<B: Blocks> Model for Sorted<B> {
     ghost invariant = { λ t. IsKept t.capacity t.entries.room t.bounds t.entries.items };
 }
 
-/// A sorted table with room for 1,024 entries in itself, whatever its capacity: some 147 KB.
+/// A sorted table with room for 1,024 entries in itself, whatever its capacity: some 156 KB.
 pub type SortedTable = Sorted<ArrayVec<Cell, MAX_CAPACITY>>;
 
-/// A sorted table whose entries lie in a block of memory of their own, with room for its capacity: 144 octets
-/// for each source, of which 16 are for an index of all of them. The block is taken when the table is made, and none
-/// later.
+/// A sorted table whose entries lie in a block of memory of their own, with room for its capacity: 152 octets
+/// for each source, of which 16 are for an index of all of them, and 8 for hints. The block is taken when the table is
+/// made, and none later.
 pub type HeapTable = Sorted<Vec<Cell>>;
 
 impl InlineTable for Sorted<ArrayVec<Cell, MAX_CAPACITY>> {
@@ -105,7 +103,6 @@ impl<B: Blocks> Sorted<B> {
             last_rank: 0,
             entries: Shelf::over(cells),
             walks: Walks::none(),
-            last_ssrc: 0,
             bounds: Bounds::none(),
         }
     }
@@ -148,27 +145,11 @@ impl<B: Blocks> MemberTable for Sorted<B> {
     fn apply_fact(&mut self, fact: Fact, t: u64) -> Effect {
         self.bounds.lower(fact, t);
         let ssrc = fact.ssrc();
-        let hint = if ssrc == self.last_ssrc {
-            usize::from(self.last_rank)
-        } else {
-            usize::MAX
-        };
-        self.last_ssrc = ssrc;
-        match search(&self.entries, &mut self.walks, hint, ssrc) {
-            Ok(at) => {
-                self.last_rank = at as u16;
-                self.entries.apply(at, fact, t)
-            }
+        match search_hinted(&mut self.entries, &mut self.walks, ssrc) {
+            Ok(at) => self.entries.apply(at, fact, t),
             Err(gap) => {
-                self.last_rank = gap as u16;
-                let (capacity, before) = (u32::from(self.capacity), self.entries.counts());
-                let place = admit(&mut self.entries, capacity, gap, fact, t);
-                let applied = Applied {
-                    place,
-                    counted: false,
-                };
-                let moved = self.entries.counts().moved_from(before);
-                Effect { applied, moved }
+                let capacity = u32::from(self.capacity);
+                admit(&mut self.entries, capacity, gap, fact, t)
             }
         }
     }
@@ -254,9 +235,74 @@ impl<B: Blocks> MemberTable for Sorted<B> {
     }
 }
 
-/// The rank of the entry of a source, or else the gap where it would stand. The ranks where it likely stands are tried
-/// first: the last one, and those that a walk from the likely rank comes to, if walks pay.
-// Inlined, with the rest apart: a source that sends one packet after the other is not searched for.
+/// The rank of the entry of a source, or else the gap where it would stand. The hint at the source is looked at first,
+/// and made to say the rank where it did not.
+// Inlined, with the rest apart: a source that was found before is not searched for.
+#[inline(always)]
+fn search_hinted<B: Blocks>(
+    entries: &mut Shelf<B>,
+    walks: &mut Walks,
+    ssrc: u32,
+) -> Result<usize, usize>
+    ensures located { Locates ssrc entries.new.items result }
+    ensures kept { entries.new ≡ entries.old }
+{
+    if let Some(at) = entries.hinted(ssrc) {
+        return Ok(at);
+    }
+    if walks.pay() {
+        return walk_noting(entries, walks, ssrc);
+    }
+    walks.ease();
+    search_apart_noting(entries, walks, ssrc)
+}
+
+/// The same without a look at the hint, by a walk first.
+#[inline(never)]
+fn walk_noting<B: Blocks>(
+    entries: &mut Shelf<B>,
+    walks: &mut Walks,
+    ssrc: u32,
+) -> Result<usize, usize>
+    ensures located { Locates ssrc entries.new.items result }
+    ensures kept { entries.new ≡ entries.old }
+{
+    if let Some(found) = search_near(entries, ssrc) {
+        walks.ease();
+        note_found(entries, ssrc, found);
+        return found;
+    }
+    walks.failed();
+    search_apart_noting(entries, walks, ssrc)
+}
+
+/// The same without a look at the hint, and without a walk.
+#[inline(never)]
+fn search_apart_noting<B: Blocks>(
+    entries: &mut Shelf<B>,
+    walks: &mut Walks,
+    ssrc: u32,
+) -> Result<usize, usize>
+    ensures located { Locates ssrc entries.new.items result }
+    ensures kept { entries.new ≡ entries.old }
+{
+    let found = search_apart(entries, walks, ssrc);
+    note_found(entries, ssrc, found);
+    found
+}
+
+/// Makes the hint at a source say where a search found it, if it did.
+#[inline(always)]
+fn note_found<B: Blocks>(entries: &mut Shelf<B>, ssrc: u32, found: Result<usize, usize>)
+    ensures { entries.new ≡ entries.old }
+{
+    if let Ok(at) = found {
+        entries.note(ssrc, at);
+    }
+}
+
+/// The same without hints. The ranks where the source likely stands are tried first: the last one, and those that a walk
+/// from the likely rank comes to, if walks pay.
 #[inline(always)]
 fn search<B: Blocks>(
     entries: &Shelf<B>,
@@ -304,7 +350,8 @@ fn search_near<B: Blocks>(entries: &Shelf<B>, ssrc: u32) -> Option<Result<usize,
 
 /// `search` without a walk. Where SSRCs lie close together, a source without an entry likely lies beyond all of them,
 /// or in the gap where the last one was: these are looked at first.
-#[inline(never)]
+// Inlined, with the search by halves apart: it is seldom needed in a flood of sources without an entry.
+#[inline(always)]
 fn search_apart<B: Blocks>(entries: &Shelf<B>, walks: &mut Walks, ssrc: u32) -> Result<usize, usize>
     ensures { Locates ssrc entries.now.items result }
 {
@@ -318,6 +365,18 @@ fn search_apart<B: Blocks>(entries: &Shelf<B>, walks: &mut Walks, ssrc: u32) -> 
     if entries.is_gap(0, ssrc) {
         return Err(0);
     }
+    search_by_halves(entries, walks, ssrc)
+}
+
+/// `search` by halves. The gap is noted, if it finds that.
+#[inline(never)]
+fn search_by_halves<B: Blocks>(
+    entries: &Shelf<B>,
+    walks: &mut Walks,
+    ssrc: u32,
+) -> Result<usize, usize>
+    ensures { Locates ssrc entries.now.items result }
+{
     let found = entries.find(ssrc);
     if let Err(gap) = found {
         walks.note_gap(gap);
@@ -374,27 +433,69 @@ fn search_behind<B: Blocks>(
 /// A fact comes whose source has no entry. Where it is added, its entry is put into the gap.
 // Inlined, with what adds it apart: nothing is made ready for a fact that a full table turns away.
 #[inline(always)]
-fn admit<B: Blocks>(entries: &mut Shelf<B>, capacity: u32, gap: usize, fact: Fact, t: u64) -> Place
+fn admit<B: Blocks>(entries: &mut Shelf<B>, capacity: u32, gap: usize, fact: Fact, t: u64) -> Effect
     requires sorted { IsSortedTable capacity entries.old.items }
     requires room { capacity ≤ entries.old.room }
     requires gap { IsGapFor (subject fact) entries.old.items gap }
     ensures sorted { IsSortedTable capacity entries.new.items }
     ensures room { capacity ≤ entries.new.room }
     ensures in_place { entries.new.block ≡ entries.old.block }
-    ensures place { result ≡ placed (table_of capacity entries.old.items) fact }
+    ensures place { result.applied.place ≡ placed (table_of capacity entries.old.items) fact }
+    ensures counted { result.applied.counted ≡ false }
+    ensures moved { result.moved ≡ tallies_differ entries.old.items entries.new.items }
     ensures stand { (bounds : BoundsOf) → IsUpTo bounds fact t → AllStandBy bounds entries.old.items →
         AllStandBy bounds entries.new.items }
     ensures table { table_of capacity entries.new.items
         ≡ after_fact fact t (table_of capacity entries.old.items) }
 {
     if fact.is_goodbye() {
-        return Place::Ignored;
+        return without_an_entry(Place::Ignored);
     }
     if entries.len() >= capacity as usize {
-        return Place::NoRoom;
+        return without_an_entry(Place::NoRoom);
     }
+    let moved = add(entries, gap, fact, t);
+    Effect {
+        applied: Applied {
+            place: Place::Added,
+            counted: false,
+        },
+        moved,
+    }
+}
+
+/// What a fact did whose source got no entry.
+#[inline(always)]
+fn without_an_entry(place: Place) -> Effect
+    ensures place { result.applied.place ≡ place }
+    ensures counted { result.applied.counted ≡ false }
+    ensures moved { result.moved ≡ false }
+{
+    let applied = Applied {
+        place,
+        counted: false,
+    };
+    Effect {
+        applied,
+        moved: false,
+    }
+}
+
+/// Puts an entry for the source of a fact into the gap for it. Returns whether that changed who is a member or who
+/// sends.
+#[inline(always)]
+fn add<B: Blocks>(entries: &mut Shelf<B>, gap: usize, fact: Fact, t: u64) -> bool
+    requires gap { IsGapFor (subject fact) entries.old.items gap }
+    requires room { length entries.old.items < entries.old.room }
+    ensures joined { Joins fact t entries.old.items entries.new.items gap }
+    ensures room { entries.new.room ≡ entries.old.room }
+    ensures in_place { entries.new.block ≡ entries.old.block }
+    ensures moved { result ≡ tallies_differ entries.old.items entries.new.items }
+{
+    let before = entries.counts();
     entries.join(gap, fact, t);
-    Place::Added
+    entries.note(fact.ssrc(), gap);
+    entries.counts().moved_from(before)
 }
 
 /// Drops the entry of a source, which stands at `at`, unless the source said goodbye. Returns whether it dropped it.

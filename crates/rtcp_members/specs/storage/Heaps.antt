@@ -25,7 +25,7 @@ no_entry =
     }
 
 abbrev pub no_cell : Cell
-no_cell = record { entry = no_entry; even = no_slot; odd = no_slot }
+no_cell = record { entry = no_entry; even = no_slot; odd = no_slot; hints = [] }
 
 abbrev pub entries_in : List Cell → List Entry
 entries_in cells = map (λ (cell : Cell). cell.entry) cells

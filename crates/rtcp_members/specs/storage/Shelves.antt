@@ -44,6 +44,11 @@ pub record IsChanged (change : EntryValue → EntryValue) (entries next : List E
   pub ssrc : (d : Entry) → entry.ssrc ≡ (slice_index_or entries at d).ssrc
   pub value : (d : Entry) → entry_value entry ≡ change (entry_value (slice_index_or entries at d))
 
+-- Whether there are not as many members, or not as many senders.
+abbrev pub tallies_differ : (entries next : List Entry) → Bool
+tallies_differ entries next = not ((tally_of is_member next == tally_of is_member entries)
+    && (tally_of is_sender next == tally_of is_sender entries))
+
 -- What a fact makes of the entry of a rank, and what is returned of it.
 pub record TakesFact (fact : Fact) (moment : ℕ) (entries next : List Entry) (at : ℕ) (effect : Effect) :
     Type 0 where
@@ -52,8 +57,7 @@ pub record TakesFact (fact : Fact) (moment : ℕ) (entries next : List Entry) (a
       effect.applied.place ≡ place_of fact (Some (entry_value (slice_index_or entries at d))) room
   pub counted : (d : Entry) →
       effect.applied.counted ≡ counted_of fact (Some (entry_value (slice_index_or entries at d)))
-  pub moved : effect.moved ≡ not ((tally_of is_member next == tally_of is_member entries)
-      && (tally_of is_sender next == tally_of is_sender entries))
+  pub moved : effect.moved ≡ tallies_differ entries next
 
 -- An entry for the source of a fact is put into a gap, as the fact makes it.
 pub record Joins (fact : Fact) (moment : ℕ) (entries next : List Entry) (gap : ℕ) : Type 0 where

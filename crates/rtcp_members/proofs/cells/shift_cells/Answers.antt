@@ -31,6 +31,7 @@ cells-preserved c =
       even = c.cells.carried;
       odd = (slice_index_or cells at x).even;
       entry = (slice_index_or cells at x).entry;
+      hints = (slice_index_or cells at x).hints;
     } in
     let count : length old ≡ 2 * length c.args.cells.now = length_pairs c.args.cells.now in
     let same_count : length cells ≡ length c.args.cells.now = c.cells.auto.cells in
