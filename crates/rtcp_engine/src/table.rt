@@ -46,7 +46,7 @@ pub(crate) fn apply_media<T: MemberTable>(
         return effect.moved;
     }
     let others = apply_csrcs(table, head, own, t);
-    effect.moved || others
+    effect.moved | others
 }
 
 /// Applies the contributing sources of a packet but for the participant itself, `own`, and returns whether that changed

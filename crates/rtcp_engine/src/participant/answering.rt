@@ -1,10 +1,10 @@
 //! Where a participant stands, and what it answers to a call that was taken.
 
-ghost use Rattle.std.specs.Prelude.{◌≡◌, ℕ, List};
+ghost use Rattle.std.specs.Prelude.{◌≡◌, ℕ, List, None};
 ghost use Rattle.rtcp_engine.specs.Leaving.{Life};
 ghost use Rattle.rtcp_engine.specs.Lives.{standing_in_life, step_into};
 ghost use Rattle.rtcp_engine.specs.Promises.{SaysStanding};
-ghost use Rattle.rtcp_engine.specs.States.{IsAt};
+ghost use Rattle.rtcp_engine.specs.States.{IsAt, taking_part};
 ghost use Rattle.rtcp_engine.specs.Views.{out_in, told_value};
 
 use super::{Participant, Phase};
@@ -21,23 +21,53 @@ impl<T: MemberTable> Participant<T> {
             result ≡ standing_in_life self.now.presence.setup life }
     {
         let presence = &self.presence;
-        let ssrc = presence.ssrc();
-        let (members, senders, entries, next) = match self.phase {
-            Phase::Present => (
-                presence.member_count(),
-                presence.sender_count(),
-                presence.entries(),
-                Some(presence.next_moment()),
-            ),
-            Phase::BackingOff(members) => (members, 0, 0, Some(presence.next_moment())),
-            Phase::Gone => (0, 0, 0, None),
+        let (members, next) = match self.phase {
+            Phase::Present => return self.standing_in_session(),
+            Phase::BackingOff(members) => (members, Some(presence.next_moment())),
+            Phase::Gone => (0, None),
         };
+        let ssrc = presence.ssrc();
         Standing {
             members,
-            senders,
-            entries,
+            senders: 0,
+            entries: 0,
             ssrc,
             next,
+        }
+    }
+
+    /// The same of one that takes part.
+    #[inline(always)]
+    fn standing_in_session(&self) -> Standing
+        requires { self.now.phase ≡ taking_part }
+        ensures says { SaysStanding result self.now }
+        ensures in_life { (life : Life) → IsAt self.now life →
+            result ≡ standing_in_life self.now.presence.setup life }
+    {
+        let presence = &self.presence;
+        Standing {
+            members: presence.member_count(),
+            senders: presence.sender_count(),
+            entries: presence.entries(),
+            ssrc: presence.ssrc(),
+            next: Some(presence.next_moment()),
+        }
+    }
+
+    /// The answer of a call that was taken, and handed out nothing, of one that takes part.
+    #[inline(always)]
+    pub(super) fn told_in_session(&self, others_changed: bool) -> Told
+        requires { self.now.phase ≡ taking_part }
+        ensures exact { (octets : List ℕ) (life : Life) → IsAt self.now life → told_value octets result
+            ≡ step_into self.now.presence.setup None others_changed life }
+        ensures standing { SaysStanding result.standing self.now }
+        ensures out { result.out ≡ None }
+    {
+        Told {
+            standing: self.standing_in_session(),
+            changed: None,
+            others_changed,
+            out: None,
         }
     }
 

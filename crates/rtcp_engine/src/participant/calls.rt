@@ -230,7 +230,7 @@ impl<T: MemberTable> Participant<T> {
 
     /// Takes a datagram that does not name the participant's SSRC: it hands out nothing.
     // Inlined, so that a call goes on with the datagram at hand, and writes its answer once, into its caller's
-    // room for that: what answers otherwise has returned before.
+    // room for that: what answers otherwise has returned before. The phase is asked once for the most frequent one.
     #[inline(always)]
     fn arrive_as_other(&mut self, now: u64, arrival: &Arrival<'_>) -> Told
         requires other { is_about self.old.presence.setup.ssrc (datagram_of arrival.now) ≡ false }
@@ -244,6 +244,10 @@ impl<T: MemberTable> Participant<T> {
         ensures within { KeepsCapacity self.new.presence }
     {
         self.take_call(now);
+        if let Phase::Present = self.phase {
+            let others_changed = self.take_in_session(now, arrival);
+            return self.told_in_session(others_changed);
+        }
         let others_changed = self.take_datagram(now, arrival);
         self.told(Brought {
             out: None,

@@ -4,7 +4,7 @@
 ghost use Rattle.std.specs.Prelude.{◌≡◌, ◌≤◌, ◌<◌, ◌-◌, ℕ, None, false};
 ghost use Rattle.rtcp_engine.specs.Acts.{arrived, configured, forgotten, left, rtp_sent, ticked};
 ghost use Rattle.rtcp_engine.specs.Refused.{settings_error};
-ghost use Rattle.rtcp_engine.specs.States.{Acts, Admits, KeepsCapacity, called};
+ghost use Rattle.rtcp_engine.specs.States.{Acts, Admits, KeepsCapacity, called, taking_part};
 ghost use Rattle.rtcp_engine.specs.Views.{LeavesRest, datagram_of, out_in, settings_value, size_of};
 ghost use Rattle.rtcp_members.specs.Tables.{HasFew};
 
@@ -40,7 +40,7 @@ impl<T: MemberTable> Participant<T> {
         ensures within { KeepsCapacity self.new.presence }
     {
         match self.phase {
-            Phase::Present => self.presence.take_datagram(now, arrival),
+            Phase::Present => self.take_in_session(now, arrival),
             Phase::BackingOff(members) => {
                 if let Arrival::Rtcp(compound, size) = arrival {
                     self.count_farewell(compound, *size, members);
@@ -49,6 +49,22 @@ impl<T: MemberTable> Participant<T> {
             }
             Phase::Gone => false,
         }
+    }
+
+    /// Takes a datagram of a participant that takes part, as `take_datagram`.
+    #[inline(always)]
+    pub(super) fn take_in_session(&mut self, now: u64, arrival: &Arrival<'_>) -> bool
+        requires present { self.old.phase ≡ taking_part }
+        requires order { self.old.presence.latest ≡ now }
+        requires size { size_of arrival.now ≤ 65535 }
+        requires reports { self.old.presence.reports < self.old.presence.calls }
+        requires few { HasFew (self.old.presence.calls - 1) self.old.presence.table }
+        ensures new { (peer word : ℕ) →
+            Acts self.old self.new (arrived now peer word (datagram_of arrival.now)) None result }
+        ensures present { self.new.phase ≡ taking_part }
+        ensures within { KeepsCapacity self.new.presence }
+    {
+        self.presence.take_datagram(now, arrival)
     }
 
     /// Takes a packet that the host sent, which counts as long as the participant takes part.

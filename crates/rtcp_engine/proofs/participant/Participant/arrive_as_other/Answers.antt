@@ -19,3 +19,15 @@ returns-clause-takes g c peer w room fits =
     (subst (λ (x : ParticipantValue). Acts x c.take_datagram-others_changed.new.self act None
     c.take_datagram-others_changed.result) c.take_call.ensures.new
     (c.take_datagram-others_changed.ensures.new peer w)) (c.told.ensures.exact room) fits
+
+pub returns-in-Present-clause-takes : goal.returns-in-Present-clause-takes
+returns-in-Present-clause-takes g c peer w room fits =
+    let p = c.args.self.now in
+    let arrival = c.args.arrival.now in
+    let datagram = datagram_of arrival in
+    let act = arrived c.args.now peer w datagram in
+    takes _ (λ history h. plain p history c.args.now peer w arrival h c.requires.admitted
+    (sym (ap (λ (s : Setup). is_about s.ssrc datagram) h.session.setup) ∙ c.requires.other))
+    (subst (λ (x : ParticipantValue). Acts x c.take_in_session-others_changed.new.self act None
+    c.take_in_session-others_changed.result) c.take_call.ensures.new
+    (c.take_in_session-others_changed.ensures.new peer w)) (c.told_in_session.ensures.exact room) fits
