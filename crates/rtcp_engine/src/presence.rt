@@ -171,7 +171,21 @@ impl<T: MemberTable> Presence<T> {
     }
 
     /// Why a call at the moment `now` is refused, whatever it tells.
+    // Why it is, is asked apart, so that a call that is taken goes straight on.
+    #[inline(always)]
     pub(crate) fn refusal(&self, now: u64) -> Option<Refusal>
+        ensures { result ≡ call_refusal now self.now.latest self.now.calls }
+    {
+        if self.latest <= now && now <= MAX_MOMENT && self.calls < MAX_CALLS {
+            return None;
+        }
+        self.refusal_told(now)
+    }
+
+    /// The same, where there likely is one.
+    #[cold]
+    #[inline(never)]
+    fn refusal_told(&self, now: u64) -> Option<Refusal>
         ensures { result ≡ call_refusal now self.now.latest self.now.calls }
     {
         if now < self.latest {
