@@ -86,8 +86,8 @@ fn apply_goodbyes<T: MemberTable>(table: &mut T, ids: Ids<'_>, t: u64) -> bool
     moved
 }
 
-/// Applies one fact of a compound. It is a call of its own so that the fact is written to memory once, for `apply_said`,
-/// and not at each place that makes one.
+/// Applies one fact of a compound. It is a call of its own so that the fact is written to memory once, for
+/// `apply_said`, and not at each place that makes one.
 fn apply_one<T: MemberTable>(table: &mut T, fact: Fact, t: u64) -> bool
     requires { is_media fact ≡ false }
     ensures content { T.content table.new ≡ after_facts (fact ∷ []) t (T.content table.old) }
