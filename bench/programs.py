@@ -1,4 +1,4 @@
-"""Finds the program that measures in a checkout: rtcp_measure, whose first argument is a mode, or in one up to 283fdf04
+"""Finds the program that measures in a checkout: rtcp_measure, whose first argument is a mode, or in an older one
 a program for each mode. A checkout over which another's crates were copied can have both."""
 import sys
 
