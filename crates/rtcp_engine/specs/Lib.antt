@@ -15,6 +15,7 @@ pub mod Changes
 pub mod Histories
 pub mod Hearing
 pub mod Refusals
+pub mod Untimely
 pub mod Answers
 pub mod Sent
 pub mod Spacing

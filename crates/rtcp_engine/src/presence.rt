@@ -1,6 +1,6 @@
 //! A participant as long as it takes part in its session (RFC 3550, 6.2, 6.3).
 
-ghost use Rattle.std.specs.Prelude.{◌≡◌, ◌↔◌, ◌≤◌, ◌<◌, ◌*◌, ◌^◌, Option, Some, None, is_some, option_map};
+ghost use Rattle.std.specs.Prelude.{◌≡◌, ◌≢◌, ◌↔◌, ◌≤◌, ◌<◌, ◌*◌, ◌^◌, Option, Some, None, is_some, option_map};
 ghost use Rattle.std.specs.FinMap as map;
 ghost use Rattle.rtcp_members.specs.Told.{state_above, states_above};
 ghost use Rattle.rtcp_members.specs.ListViews.{state_value};
@@ -11,6 +11,7 @@ ghost use Rattle.rtcp_engine.specs.Outcomes.{Outcome, one_if, member_count as me
 ghost use Rattle.rtcp_engine.specs.Taken.{begun};
 ghost use Rattle.rtcp_engine.specs.States.{Agrees, HasOthers, KeepsCapacity, StandsAt, newcomer};
 ghost use Rattle.rtcp_engine.specs.Refusals.{call_refusal};
+ghost use Rattle.rtcp_engine.specs.Untimely.{refusal_of_moment};
 
 use crate::config::Config;
 use crate::own::OwnStream;
@@ -74,6 +75,13 @@ impl<T: MemberTable> Model for Presence<T> {
     ghost invariant = { λ p. IsSound (
         state_with (setup_of p.config) (T.content p.table) p.schedule p.average p.own p.cursor p.pace p.reports
         p.latest p.calls) };
+}
+
+/// Why a call is refused, whatever it tells: a refusal that needs no room beside a register.
+enum Untimely {
+    Backwards,
+    TooFar,
+    TooMany,
 }
 
 impl<T: MemberTable> Presence<T> {
@@ -171,7 +179,7 @@ impl<T: MemberTable> Presence<T> {
     }
 
     /// Why a call at the moment `now` is refused, whatever it tells.
-    // Why it is, is asked apart, so that a call that is taken goes straight on.
+    // Why it is, is asked apart, so that a call that is taken goes straight on, with no room made for a reason.
     #[inline(always)]
     pub(crate) fn refusal(&self, now: u64) -> Option<Refusal>
         ensures { result ≡ call_refusal now self.now.latest self.now.calls }
@@ -179,25 +187,27 @@ impl<T: MemberTable> Presence<T> {
         if self.latest <= now && now <= MAX_MOMENT && self.calls < MAX_CALLS {
             return None;
         }
-        self.refusal_told(now)
+        match self.untimely(now) {
+            Untimely::Backwards => Some(Refusal::Backwards),
+            Untimely::TooFar => Some(Refusal::TooFar),
+            Untimely::TooMany => Some(Refusal::TooMany),
+        }
     }
 
-    /// The same, where there likely is one.
+    /// Which of the reasons holds for a call at the moment `now`, of which one does.
     #[cold]
     #[inline(never)]
-    fn refusal_told(&self, now: u64) -> Option<Refusal>
-        ensures { result ≡ call_refusal now self.now.latest self.now.calls }
+    fn untimely(&self, now: u64) -> Untimely
+        requires { call_refusal now self.now.latest self.now.calls ≢ None }
+        ensures { Some (refusal_of_moment result) ≡ call_refusal now self.now.latest self.now.calls }
     {
         if now < self.latest {
-            return Some(Refusal::Backwards);
+            return Untimely::Backwards;
         }
         if now > MAX_MOMENT {
-            return Some(Refusal::TooFar);
+            return Untimely::TooFar;
         }
-        if self.calls >= MAX_CALLS {
-            return Some(Refusal::TooMany);
-        }
-        None
+        Untimely::TooMany
     }
 
     /// What the interval depends on.
