@@ -103,8 +103,9 @@ pub extern "C" fn jalwedd_next_goodbye(
     }
 }
 
-/// The same, of a walk over the packets of applications, and where the data of each stand. With a cursor that a walk
-/// left, each is one of the datagram's own, and none inside another.
+/// The same, of a walk over the packets of applications, and where the data of each stand. With a cursor at a
+/// boundary of the datagram's packets, as a walk over an accepted one leaves it, each is one of the datagram's own, and
+/// none inside another.
 #[unsafe(no_mangle)]
 pub extern "C" fn jalwedd_next_app(datagram: &[u8], cursor: &mut Cursor, app: &mut AppPlace) -> u32
     ensures tells { Continues packet_apps LeavesNone (ShowsApp datagram.now)

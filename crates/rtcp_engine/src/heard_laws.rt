@@ -48,8 +48,8 @@ pub fn those_heard_stay_members()
 {}
 
 /// Whose compound comes is a member (RFC 3550, 6.2.1, 6.3.3). A compound that is taken gives the CNAME of a source, and
-/// may bring it in: there is room for it, and it says no goodbye. Then the source is a member after that, and as long
-/// as `those_heard_stay_members` says.
+/// may bring it in: it is present, or there is room for it and a source for each fact of others; and it says no
+/// goodbye. Then the source is a member after that, and as long as `those_heard_stay_members` says.
 pub fn those_named_become_members()
     ensures joins { (history : History) (moment peer word size ssrc : ℕ) (packets : List RtcpPacket)
         (outcome : Outcome) → life_at history ≡ present outcome → Contains (facts_of packets) (Named ssrc) →

@@ -60,7 +60,7 @@ IsUnmarked ssrc None = Unit {0}
 IsUnmarked ssrc (Some stay) = mark_of ssrc stay ≡ None
 
 -- These facts may bring a source in: none is its goodbye, nor did it say goodbye in a stay that lasts still, and it is
--- present, or there is room for it and for all others that are named beside it.
+-- present, or there is room for it and for one more source for each fact of others.
 pub record MayBring (capacity ssrc : ℕ) (facts : List Fact) (trace : List TraceStep) : Type 0 where
   pub no_goodbye : All (λ fact. (is_gone fact && subject fact == ssrc) ≡ false) facts
   pub unmarked : IsUnmarked ssrc (stay_of capacity trace ssrc)

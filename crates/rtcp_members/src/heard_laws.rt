@@ -10,7 +10,8 @@ ghost use Rattle.rtcp_members.specs.Lasting.{IsHeardAtChecks, IsLeftAlone, Looks
 ghost use Rattle.rtcp_members.specs.Entries.{entry_at, is_member, is_such};
 
 /// Once the facts of a compound came, with the CNAME of a source among them, the source is a member, if these facts may
-/// bring it in: there is room for it and it says no goodbye (RFC 3550, 6.2.1, 6.3.3).
+/// bring it in: it is present, or there is room for it and a source for each fact of others; and it says no goodbye
+/// (RFC 3550, 6.2.1, 6.3.3).
 pub fn those_named_become_members()
     ensures { (capacity ssrc moment : ℕ) (facts : List Fact) (trace : List TraceStep) →
         Contains facts (Named ssrc) → MayBring capacity ssrc facts trace →

@@ -22,7 +22,8 @@ const APPLICATIONS: Wanted = Wanted {
 };
 
 /// The next packet of a walk over those of applications in a datagram, in their order; `None` after the last one, and
-/// again from then on. From a cursor that a walk left, each is one of the datagram's own, and none inside another.
+/// again from then on. From a cursor at a boundary of the datagram's packets, as a walk over an accepted one leaves it,
+/// each is one of the datagram's own, and none inside another.
 ///
 /// # Errors
 ///
