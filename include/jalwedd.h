@@ -346,16 +346,16 @@ typedef struct jalwedd_role_change {
 
 /* ---- A participant */
 
-/* The memory, in octets, that a participant of this capacity takes: a block of 2,720 octets, and one of 152 octets for
- * each source of the capacity. */
-#define JALWEDD_MEMORY(capacity) (2720 + 152 * (size_t)(capacity))
+/* The memory, in octets, that a participant of this capacity takes: a block of 2,744 octets, and blocks of 136 and of 8
+ * octets for each source of the capacity. */
+#define JALWEDD_MEMORY(capacity) (2744 + 144 * (size_t)(capacity))
 
 /* Makes the library use `allocate` and `release` in place of malloc and free. `allocate` returns a block of `size`
  * octets, aligned as by malloc, or NULL. Call this at most once, before the first jalwedd_new. */
 void jalwedd_memory(void *(*allocate)(size_t size), void (*release)(void *at));
 
 /* Makes a participant in an empty handle; its session starts at the moment config->start, which is now. `word` is for
- * the draw of the first interval. Allocates JALWEDD_MEMORY(config->capacity) octets in two blocks; no other call
+ * the draw of the first interval. Allocates JALWEDD_MEMORY(config->capacity) octets in three blocks; no other call
  * allocates.
  * Statuses: TAKEN; IS_LIVE, and the step is that of the participant already there; CNAME to START; NO_MEMORY. */
 uint32_t jalwedd_new(jalwedd_handle *handle, const jalwedd_config *config, const uint8_t *cname, size_t cname_size,

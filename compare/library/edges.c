@@ -533,8 +533,8 @@ static int listings(void)
     return 0;
 }
 
-/* Memory is refused as a participant begins, at the first block and at the second, which leaves nothing behind; and then
- * there are just these two, which its end gives back. */
+/* Memory is refused as a participant begins, at each of its three blocks, which leaves nothing behind; and then there are
+ * just these three, which its end gives back. */
 static int memory(void)
 {
     jalwedd_handle handle = JALWEDD_EMPTY;
@@ -542,21 +542,21 @@ static int memory(void)
     uint8_t octets[JALWEDD_OCTETS] = {0};
     const jalwedd_item no_item = {0, 0, ""};
     HOLDS(blocks_held == 0);
-    for (int given = 0; given < 2; given++) {
+    for (int given = 0; given < 3; given++) {
         blocks_left = given;
         blocks_asked = 0;
         HOLDS(jalwedd_new(&handle, &CONFIG, OF_SEVEN + 18, 1, &no_item, 0, 0, &step) == JALWEDD_NO_MEMORY);
         HOLDS(is_blank(&step) && handle.at == NULL && blocks_asked == given + 1 && blocks_held == 0);
         HOLDS(jalwedd_free(&handle) == JALWEDD_IS_EMPTY);
     }
-    blocks_left = 2;
+    blocks_left = 3;
     blocks_asked = 0;
     HOLDS(jalwedd_new(&handle, &CONFIG, OF_SEVEN + 18, 1, &no_item, 0, 0, &step) == JALWEDD_TAKEN);
     HOLDS(jalwedd_arrive_rtcp(&handle, 0, 1, 0, OF_SEVEN, sizeof OF_SEVEN, &step, octets) == JALWEDD_TAKEN);
     HOLDS(step.members == 2);
     HOLDS(jalwedd_tick(&handle, 1026037, 0, 0, &step, octets) == JALWEDD_TAKEN && step.kind == JALWEDD_REPORT);
     HOLDS(jalwedd_leave(&handle, 1026037, 0, &step, octets) == JALWEDD_TAKEN && step.kind == JALWEDD_BYE);
-    HOLDS(jalwedd_free(&handle) == JALWEDD_TAKEN && blocks_asked == 2 && blocks_held == 0);
+    HOLDS(jalwedd_free(&handle) == JALWEDD_TAKEN && blocks_asked == 3 && blocks_held == 0);
     return 0;
 }
 

@@ -32,6 +32,7 @@ static_assert(!std::is_invocable_v<decltype(&participant::handle), participant>)
 
 /* ---- The library's memory */
 
+static constexpr std::size_t BLOCKS = 3; /* that a participant takes */
 static std::set<void*> held;   /* blocks that were not given back yet */
 static std::size_t strangers;  /* blocks that were given back and are none of these */
 static bool refuses;
@@ -144,7 +145,7 @@ static int refused()
     refuses = false;
     HOLDS(session.join(CONFIG, longest, items.data(), 7, 0, step) == JALWEDD_TAKEN && step.next == FIRST);
     HOLDS(!session.is_empty() && session.next() == FIRST && session.members() == 1 && session.ssrc() == 0xaa);
-    HOLDS(session.join(CONFIG, "a", 0, step) == JALWEDD_IS_LIVE && step.ssrc == 0xaa && held.size() == 2);
+    HOLDS(session.join(CONFIG, "a", 0, step) == JALWEDD_IS_LIVE && step.ssrc == 0xaa && held.size() == BLOCKS);
     HOLDS(session.free() == JALWEDD_TAKEN && session.free() == JALWEDD_IS_EMPTY && held.empty());
     return 0;
 }
@@ -173,22 +174,22 @@ static participant made(std::uint32_t ssrc)
 static int moved()
 {
     participant first = made(7);
-    HOLDS(held.size() == 2 && first.ssrc() == 7);
+    HOLDS(held.size() == BLOCKS && first.ssrc() == 7);
     participant second(std::move(first));
-    HOLDS(first.is_empty() && first.ssrc() == 0 && first.next() == JALWEDD_NEVER && held.size() == 2);
+    HOLDS(first.is_empty() && first.ssrc() == 0 && first.next() == JALWEDD_NEVER && held.size() == BLOCKS);
     HOLDS(!second.is_empty() && second.ssrc() == 7 && jalwedd_ssrc(second.handle()) == 7);
-    HOLDS(join(first, 8) == JALWEDD_TAKEN && held.size() == 4);
+    HOLDS(join(first, 8) == JALWEDD_TAKEN && held.size() == 2 * BLOCKS);
     first = std::move(second);
-    HOLDS(first.ssrc() == 7 && second.is_empty() && second.ssrc() == 0 && held.size() == 2);
+    HOLDS(first.ssrc() == 7 && second.is_empty() && second.ssrc() == 0 && held.size() == BLOCKS);
     participant& same_one = first;
     first = std::move(same_one);
-    HOLDS(!first.is_empty() && first.ssrc() == 7 && first.next() == FIRST && held.size() == 2);
+    HOLDS(!first.is_empty() && first.ssrc() == 7 && first.next() == FIRST && held.size() == BLOCKS);
     std::swap(first, second);
-    HOLDS(first.is_empty() && second.ssrc() == 7 && held.size() == 2);
+    HOLDS(first.is_empty() && second.ssrc() == 7 && held.size() == BLOCKS);
     second = std::move(first);
     HOLDS(second.is_empty() && held.empty());
     first = made(9);
-    HOLDS(first.ssrc() == 9 && held.size() == 2);
+    HOLDS(first.ssrc() == 9 && held.size() == BLOCKS);
     return 0;
 }
 
@@ -197,18 +198,18 @@ static int contained()
     std::vector<participant> sessions;
     for (std::uint32_t ssrc = 1; ssrc <= 100; ssrc++)
         sessions.push_back(made(ssrc));
-    HOLDS(held.size() == 200);
+    HOLDS(held.size() == 100 * BLOCKS);
     sessions.erase(sessions.begin() + 10, sessions.begin() + 20);
-    HOLDS(sessions.size() == 90 && held.size() == 180 && sessions[9].ssrc() == 10 && sessions[10].ssrc() == 21);
+    HOLDS(sessions.size() == 90 && held.size() == 90 * BLOCKS && sessions[9].ssrc() == 10 && sessions[10].ssrc() == 21);
     std::rotate(sessions.begin(), sessions.begin() + 45, sessions.end());
     std::sort(sessions.begin(), sessions.end(), [](participant& one, participant& other) {
         return one.ssrc() > other.ssrc();
     });
     HOLDS(sessions.front().ssrc() == 100 && sessions[79].ssrc() == 21 && sessions.back().ssrc() == 1);
     std::optional<participant> one(std::move(sessions[0]));
-    HOLDS(sessions[0].is_empty() && one->ssrc() == 100 && held.size() == 180);
+    HOLDS(sessions[0].is_empty() && one->ssrc() == 100 && held.size() == 90 * BLOCKS);
     one.reset();
-    HOLDS(held.size() == 178);
+    HOLDS(held.size() == 89 * BLOCKS);
     sessions.clear();
     HOLDS(held.empty());
     return 0;
@@ -417,7 +418,7 @@ static int answered_alike(const std::vector<std::string>& lines)
     }
     PASSES(listed_alike(both));
     HOLDS(both.reports > 0 && both.sources > 0 && both.changes > 0);
-    HOLDS(held.size() == 4 && jalwedd_free(&both.other) == JALWEDD_TAKEN && held.size() == 2);
+    HOLDS(held.size() == 2 * BLOCKS && jalwedd_free(&both.other) == JALWEDD_TAKEN && held.size() == BLOCKS);
     return 0;
 }
 

@@ -20,7 +20,7 @@
 enum { SESSIONS = 5000, OTHERS = 20, SMALL_STACK = 32768 };
 
 /* The library's memory, in place of package/memory.c: blocks and octets are counted. */
-static size_t octets_asked, blocks_asked, blocks_held, asked_last, asked_before;
+static size_t octets_asked, blocks_asked, blocks_held, asked[3];
 
 struct rattle_block {
     uint8_t ok;
@@ -32,9 +32,7 @@ struct rattle_block rattle_alloc(size_t size, size_t alignment)
     void *at = malloc(size);
     HOLDS(at != NULL && alignment <= _Alignof(max_align_t));
     octets_asked += size;
-    asked_before = asked_last;
-    asked_last = size;
-    blocks_asked++;
+    asked[blocks_asked++ % 3] = size;
     blocks_held++;
     return (struct rattle_block){1, at};
 }
@@ -77,8 +75,8 @@ static void take_part(jalwedd_handle *session, uint32_t others)
     HOLDS(step.kind == JALWEDD_REPORT);
 }
 
-/* As the header says: 2,720 octets in one block and 152 for each source of the capacity in another, all of it as the
- * session begins. */
+/* As the header says: 2,744 octets in one block, and 136 and 8 for each source of the capacity in two others, all of it
+ * as the session begins. */
 static void heap_by_capacity(void)
 {
     static const uint32_t capacities[] = {1, 20, 100, 1024};
@@ -88,11 +86,11 @@ static void heap_by_capacity(void)
         octets_asked = blocks_asked = 0;
         begin(&session, capacity);
         printf("heap at capacity %u: %zu octets in %zu blocks\n", capacity, octets_asked, blocks_asked);
-        HOLDS(octets_asked == JALWEDD_MEMORY(capacity) && blocks_asked == 2);
-        HOLDS((asked_last == 2720) != (asked_before == 2720));
+        HOLDS(octets_asked == JALWEDD_MEMORY(capacity) && blocks_asked == 3);
+        HOLDS(asked[0] == 136 * capacity && asked[1] == 8 * capacity && asked[2] == 2744);
         take_part(&session, capacity + 5);
         HOLDS(step.members == capacity + 1 && step.senders == capacity);
-        HOLDS(blocks_asked == 2);
+        HOLDS(blocks_asked == 3);
         HOLDS(jalwedd_free(&session) == JALWEDD_TAKEN && blocks_held == 0);
     }
 }

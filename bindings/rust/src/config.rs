@@ -19,7 +19,7 @@ pub struct Config {
     pub start: Moment,
     /// The participant's SSRC, chosen at random (RFC 3550, 8.1). The host's RTP packets go out under it.
     pub ssrc: u32,
-    /// How many other sources are kept track of, 1 to 1,024. The participant takes 152 octets of memory for
+    /// How many other sources are kept track of, 1 to 1,024. The participant takes 144 octets of memory for
     /// each.
     pub capacity: u32,
     /// The maximum size of a compound in octets, without UDP and IP headers: 576 to 1,472, a multiple of 4.

@@ -60,7 +60,7 @@ error! {
         Item = sys::JALWEDD_ITEM, "there are more than 7 items";
         /// C7: [`Config::start`](crate::Config::start) is 2^63 microseconds or later.
         Start = sys::JALWEDD_START, "the start is 2^63 microseconds or later";
-        /// There is no memory for its two blocks.
+        /// There is no memory for its three blocks.
         NoMemory = sys::JALWEDD_NO_MEMORY, "there is no memory for a participant";
     }
 }

@@ -76,7 +76,7 @@ impl Participant {
     /// 7 further items to send. `word` is random, for the draw of the first interval (6.3.1). No report goes
     /// out before the first [`tick`](Participant::tick).
     ///
-    /// The library allocates two blocks here, of 2,720 octets and of 152 for each source of
+    /// The library allocates three blocks here, of 2,744 octets and of 136 and 8 for each source of
     /// [`Config::capacity`], and none in any other call.
     ///
     /// # Errors

@@ -33,7 +33,7 @@ fn sizes() -> Vec<usize> {
 }
 
 #[test]
-fn two_blocks_are_taken_by_new_and_given_back_by_drop() {
+fn three_blocks_are_taken_by_new_and_given_back_by_drop() {
     // SAFETY: no participant has begun, and both functions do as malloc and free
     unsafe { sys::jalwedd_memory(take, give_back) };
     let (sender_bw, receiver_bw) = (100, 300);
@@ -43,11 +43,11 @@ fn two_blocks_are_taken_by_new_and_given_back_by_drop() {
     let mut session = Participant::new(&config, b"a", &[], 0).unwrap();
     let mut taken = sizes();
     taken.sort_unstable();
-    assert_eq!(taken, [2720, 20 * 152]);
+    assert_eq!(taken, [20 * 8, 20 * 136, 2744]);
     let report = [0x80, 0xc9, 0, 1, 0, 0, 0, 7, 0x81, 0xca, 0, 2, 0, 0, 0, 7, 1, 1, 0x61, 0];
     session.arrive_rtcp(Moment::ZERO, 1, 0, &report).unwrap();
     session.tick(session.next_tick().unwrap(), 0, 0).unwrap();
-    assert_eq!((session.sources().count(), sizes().len()), (1, 2));
+    assert_eq!((session.sources().count(), sizes().len()), (1, 3));
     drop(session);
     assert!(sizes().is_empty());
     assert!(Participant::new(&config, b"", &[], 0).is_err() && sizes().is_empty());

@@ -19,7 +19,7 @@ use std::alloc::Global;
 
 /// Puts a participant of a session that begins now, when the host's clock shows the configuration's `start`, into an
 /// empty handle. `word` is a random word, for the draw of the first interval. Call `jalwedd_tick` at the step's `next`.
-/// This call alone takes memory, in two blocks: 152 octets for each source of the capacity, and 2,720.
+/// This call alone takes memory, in three blocks: 136 and 8 octets for each source of the capacity, and 2,744.
 ///
 /// Statuses: 0; 21 where the handle holds a participant, which is then the one that the step tells of; 11 to 17 by the
 /// first of C1 to C7 that applies, where a CNAME of more than 255 octets, more than 7 items, and then more than 16

@@ -9,7 +9,7 @@ use Rattle.std.proofs.lemmas.List.Elements.{All-nil, All-head, All-tail, All-con
 use Rattle.std.proofs.lemmas.List.Edits.{length-insert}
 use Rattle.rtcp_members.specs.declared.entry.Entry.{Entry}
 use Rattle.rtcp_members.specs.declared.cells.Slot.{Slot}
-use Rattle.rtcp_members.proofs.Pairs.{take_inserted, behind}
+use Rattle.rtcp_members.proofs.Rows.{take_inserted, behind}
 use Rattle.rtcp_members.specs.storage.Heaps.{no_slot, no_entry, entry_in, picked, IsKeyed, IsHeap, IsPut}
 use Rattle.rtcp_members.proofs.Ranked.{has_place, picked_same}
 

@@ -182,26 +182,27 @@ none_forgotten ssrc table none =
 
 -- ---- One rank after the other
 
-exchanged_later : (xs : List Entry) (rank : ℕ) (d : Entry) → suc rank < length xs
+exchanged_later : {X : Type 0} (xs : List X) (rank : ℕ) (d : X) → suc rank < length xs
     → remove (set (set xs rank (slice_index_or xs (suc rank) d)) (suc rank) (slice_index_or xs rank d)) (suc rank)
     ≡ remove xs rank
 exchanged_later [] rank d within = absurd (omega arith)
 exchanged_later (x ∷ []) rank d within = absurd (omega arith)
 exchanged_later (x ∷ y ∷ xs) zero d within = refl
 exchanged_later (x ∷ y ∷ xs) (suc rank) d within =
-    ap (λ (ys : List Entry). x ∷ ys) (exchanged_later (y ∷ xs) rank d (omega arith))
+    ap (λ ys. x ∷ ys) (exchanged_later (y ∷ xs) rank d (omega arith))
 
 -- What is written in its place first does not stay.
 pub leaves_written : (xs : List Entry) (at : ℕ) (e : Entry) → remove (set xs at e) at ≡ remove xs at
 leaves_written xs at e = λ i. take-set-le at xs at e (omega arith) i ++ drop-set-lt (suc at) xs at e (omega arith) i
 
 -- It is exchanged with the next, and then leaves: so what is left is the same.
-pub leaves_later : (xs : List Entry) (rank next : ℕ) (d : Entry) → next ≡ suc rank → next < length xs
+pub leaves_later : {X : Type 0} (xs : List X) (rank next : ℕ) (d : X) → next ≡ suc rank → next < length xs
     → remove (set (set xs rank (slice_index_or xs next d)) next (slice_index_or xs rank d)) next ≡ remove xs rank
 leaves_later xs rank next d is within =
     subst (λ n. n < length xs → remove (set (set xs rank (slice_index_or xs n d)) n (slice_index_or xs rank d)) n
     ≡ remove xs rank) (sym is) (exchanged_later xs rank d) within
 
-pub last_leaves : (xs : List Entry) (used : ℕ) → length xs ≡ used → 0 < used → remove xs (used - 1) ≡ take (used - 1) xs
+pub last_leaves : {X : Type 0} (xs : List X) (used : ℕ) → length xs ≡ used → 0 < used →
+    remove xs (used - 1) ≡ take (used - 1) xs
 last_leaves xs used is some =
     ap (λ ys. take (used - 1) xs ++ ys) (drop_all (suc (used - 1)) xs (omega arith)) ∙ append-nil (take (used - 1) xs)

@@ -9,9 +9,10 @@ mod TraceStepLemmas
 mod Following
 mod Packets
 mod Listing
-mod Pairs
+mod Rows
 mod Edits
 mod Ranked
+mod Found
 mod Changing
 mod Applying
 mod AtOnce

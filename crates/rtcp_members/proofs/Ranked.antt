@@ -1,10 +1,10 @@
 -- What is read and written at the places of a heap of entries.
-use Rattle.std.specs.Prelude.{ℕ, suc, ◌≡◌, ◌<◌, ◌≤◌, ◌+◌, ◌*◌, ◌==◌, true, false, cond, Bool, Some, slice_get, List, [], ◌∷◌, length, take, set, All, slice_index_or, refl}
-use Rattle.std.specs.List.{count_by, sum_by}
+use Rattle.std.specs.Prelude.{ℕ, suc, ◌≡◌, ◌<◌, ◌≤◌, ◌+◌, ◌==◌, true, false, cond, Bool, Some, slice_get, List, [], ◌∷◌, ◌++◌, length, take, drop, set, All, slice_index_or, refl}
+use Rattle.std.specs.List.{count_by, remove, sum_by}
 use Rattle.std.proofs.Common.{inl, inr, arith, sym, ap, subst, ◌∙◌}
 use Rattle.std.proofs.lemmas.Bool.{cases_eq}
 use Rattle.std.proofs.lemmas.Bool.Decides.{nat_tests}
-use Rattle.std.proofs.lemmas.List.{length-set, length-map, length-take-le, take-map, take-take, map-set, get_or-take, get_or-map, get_or-set_same, get_or-set_other, get_or_default, get_or_read, same_lists}
+use Rattle.std.proofs.lemmas.List.{length-set, length-map, length-take-le, map-append, take-map, drop-map, take-take, map-set, get_or-take, get_or-map, get_or-set_same, get_or-set_other, get_or_default, get_or_read, same_lists}
 use Rattle.std.proofs.lemmas.List.Edits.{swap_is}
 use Rattle.std.proofs.lemmas.List.Sorted.{IsPermutation-swap, sum_by-IsPermutation}
 use Rattle.std.specs.List.Sorted.{IsPermutation}
@@ -13,7 +13,7 @@ use Rattle.std.proofs.lemmas.List.Elements.{All-head, All-tail, All-set, All-tak
 use Rattle.rtcp_members.specs.declared.entry.Entry.{Entry}
 use Rattle.rtcp_members.specs.declared.cells.Cell.{Cell}
 use Rattle.rtcp_members.specs.declared.cells.Slot.{Slot}
-use Rattle.rtcp_members.specs.storage.Heaps.{no_slot, no_entry, no_cell, entries_in, pairs_in, slots_in, entry_in, picked, in_order, place_at, IsKeyed, IsHeap, IsIndexed}
+use Rattle.rtcp_members.specs.storage.Heaps.{no_slot, no_entry, no_cell, entries_in, entry_in, exchanged, picked, in_order, place_at, IsKeyed, IsHeap, IsIndexed}
 use Rattle.rtcp_members.specs.declared.counts.Counts.{Counts}
 use Rattle.rtcp_members.specs.Entries.{EntryValue, is_member, is_sender}
 use Rattle.rtcp_members.specs.ListViews.{entry_value, tally_of, weight_of}
@@ -22,7 +22,7 @@ use Rattle.rtcp_members.specs.storage.Standing.{AreCounts, AreRecounted, IsAmong
 use Rattle.rtcp_members.proofs.Weights.{tally_at_most, tally_set, weight_within}
 use Rattle.rtcp_members.specs.storage.Shelves.{IsChanged}
 use Rattle.rtcp_members.specs.storage.SortedViews.{IsRising}
-use Rattle.rtcp_members.proofs.Pairs.{length_slots, even_read, odd_read, used_read, slot_read, slots_kept, slots_exchanged, take_written, entry_written, read_again}
+use Rattle.rtcp_members.proofs.Rows.{take_written, entry_written, read_again}
 use Rattle.rtcp_members.proofs.Rising.{rising_set}
 use Rattle.std.proofs.lemmas.Option.{slice_get_read}
 
@@ -177,98 +177,81 @@ module _ (entries : List Entry) (slots : List Slot) (used at : ℕ) (heap : IsHe
 -- ---- The entry of a rank, among cells
 
 -- What is read as the cell of a rank.
-pub record IsAtRank (cells : List Cell) (used at : ℕ) (slot : Slot) (cell : Cell) : Type 0 where
-  pub heap : IsHeap (entries_in cells) (slots_in cells) used
+pub record IsAtRank (cells : List Cell) (slots : List Slot) (used at : ℕ) (slot : Slot) (cell : Cell) : Type 0 where
+  pub heap : IsHeap (entries_in cells) slots used
   pub early : at < used
-  pub its : slot ≡ slice_index_or (pairs_in cells) at no_slot
+  pub its : slot ≡ slice_index_or slots at no_slot
   pub read : cell ≡ slice_index_or cells slot.place cell
 
-pub at_rank : (cells : List Cell) (used at : ℕ) (slot : Slot) (d : Cell) →
-    IsHeap (entries_in cells) (slots_in cells) used →
-    at < used → slot ≡ slice_index_or (pairs_in cells) at no_slot → IsAtRank cells used at slot
+pub at_rank : (cells : List Cell) (slots : List Slot) (used at : ℕ) (slot : Slot) (d : Cell) →
+    IsHeap (entries_in cells) slots used →
+    at < used → slot ≡ slice_index_or slots at no_slot → IsAtRank cells slots used at slot
     (slice_index_or cells slot.place d)
-at_rank cells used at slot d heap early its =
+at_rank cells slots used at slot d heap early its =
     record { heap = heap; early = early; its = its; read = read_again cells slot.place d }
 
-pub length_ranked : (cells : List Cell) (used : ℕ) → IsHeap (entries_in cells) (slots_in cells) used →
-    length (in_order cells used) ≡ used
-length_ranked cells used heap = length_picked (entries_in cells) (slots_in cells) used heap
+pub length_ranked : (cells : List Cell) (slots : List Slot) (used : ℕ) → IsHeap (entries_in cells) slots used →
+    length (in_order cells slots used) ≡ used
+length_ranked cells slots used heap = length_picked (entries_in cells) slots used heap
 
 -- The SSRC of a rank is that of its slot.
-module _ (cells : List Cell) (used : ℕ) (heap : IsHeap (entries_in cells) (slots_in cells) used) where
+module _ (cells : List Cell) (slots : List Slot) (used : ℕ) (heap : IsHeap (entries_in cells) slots used) where
   pub ssrc_ranked : (rank : ℕ) → rank < used → (d : Entry) →
-      (slice_index_or (pairs_in cells) rank no_slot).ssrc ≡ (slice_index_or (in_order cells used) rank d).ssrc
+      (slice_index_or slots rank no_slot).ssrc ≡ (slice_index_or (in_order cells slots used) rank d).ssrc
   ssrc_ranked rank early d =
-      let within : rank < length (take used (slots_in cells)) = omega
-      (arith, early, length-take-le used (slots_in cells) heap.in_use) in
-      ap (λ (s : Slot). s.ssrc) (used_read cells used rank heap.in_use early)
+      let within : rank < length (take used slots) = omega
+      (arith, early, length-take-le used slots heap.in_use) in
+      ap (λ (s : Slot). s.ssrc) (sym (get_or-take used slots rank no_slot early))
       ∙ heap.keyed rank no_slot within
-      ∙ ap (λ (e : Entry). e.ssrc) (sym (get_or-map (entry_in (entries_in cells)) (take used (slots_in cells)) rank
+      ∙ ap (λ (e : Entry). e.ssrc) (sym (get_or-map (entry_in (entries_in cells)) (take used slots) rank
       no_slot d within))
 
-  -- Those of a cell are those of its ranks, as far as they are in use.
-  module _ (at : ℕ) (cell : Cell) (read : cell ≡ slice_index_or cells at cell) (rank : ℕ) (early : rank < used) where
-    pub even_ranked : rank ≡ 2 * at → (d : Entry) → (slice_index_or (in_order cells used) rank d).ssrc ≡ cell.even.ssrc
-    even_ranked is d =
-        sym (ssrc_ranked rank early d)
-        ∙ ap (λ (s : Slot). s.ssrc) (even_read cells at rank cell no_slot is (omega
-        (arith, is, early, heap.in_use, length_slots cells)))
-        ∙ ap (λ (c : Cell). c.even.ssrc) (sym read)
-
-    pub odd_ranked : rank ≡ 2 * at + 1 → (d : Entry) → (slice_index_or (in_order cells used) rank d).ssrc
-        ≡ cell.odd.ssrc
-    odd_ranked is d =
-        sym (ssrc_ranked rank early d)
-        ∙ ap (λ (s : Slot). s.ssrc) (odd_read cells at rank cell no_slot is (omega
-        (arith, is, early, heap.in_use, length_slots cells)))
-        ∙ ap (λ (c : Cell). c.odd.ssrc) (sym read)
-
-module _ {cells : List Cell} {used at : ℕ} {slot : Slot} {cell : Cell} (so : IsAtRank cells used at slot cell) where
-  heap : IsHeap (entries_in cells) (slots_in cells) used
+module _ {cells : List Cell} {slots : List Slot} {used at : ℕ} {slot : Slot} {cell : Cell}
+    (so : IsAtRank cells slots used at slot cell) where
+  heap : IsHeap (entries_in cells) slots used
   heap = so.heap
 
-  pub stands : at < length (in_order cells used)
-  stands = omega (arith, so.early, length_ranked cells used heap)
+  pub stands : at < length (in_order cells slots used)
+  stands = omega (arith, so.early, length_ranked cells slots used heap)
 
-  its_place : slot.place ≡ place_at (slots_in cells) at
-  its_place = ap (λ (s : Slot). s.place) (so.its ∙ slot_read cells at (omega
-      (arith, so.early, heap.in_use, length_slots cells)))
+  its_place : slot.place ≡ place_at slots at
+  its_place = ap (λ (s : Slot). s.place) so.its
 
   pub in_cells : slot.place < length cells
   in_cells = omega (
     arith,
     its_place,
-    place_within (entries_in cells) (slots_in cells) used at heap so.early,
+    place_within (entries_in cells) slots used at heap so.early,
     length-map cells (λ (c : Cell). c.entry),
   )
 
   -- What is read there is the entry of the rank.
-  pub read_ranked : (d : Entry) → cell.entry ≡ slice_index_or (in_order cells used) at d
+  pub read_ranked : (d : Entry) → cell.entry ≡ slice_index_or (in_order cells slots used) at d
   read_ranked d =
       ap (λ (c : Cell). c.entry) (get_or_read cells slot.place cell in_cells so.read no_cell)
       ∙ sym (get_or-map (λ (c : Cell). c.entry) cells slot.place no_cell d in_cells)
       ∙ ap (λ n. slice_index_or (entries_in cells) n d) its_place
-      ∙ read_at (entries_in cells) (slots_in cells) used at heap so.early d
+      ∙ read_at (entries_in cells) slots used at heap so.early d
 
-  got : slice_get (in_order cells used) at ≡ Some cell.entry
-  got = slice_get_read (in_order cells used) (length (in_order cells used)) at cell.entry refl stands
+  got : slice_get (in_order cells slots used) at ≡ Some cell.entry
+  got = slice_get_read (in_order cells slots used) (length (in_order cells slots used)) at cell.entry refl stands
       (read_ranked cell.entry)
 
-  counted_within : (test : EntryValue → Bool) → weight_of test cell.entry ≤ tally_of test (in_order cells used)
-  counted_within test = weight_within test (in_order cells used) at cell.entry got
+  counted_within : (test : EntryValue → Bool) → weight_of test cell.entry ≤ tally_of test (in_order cells slots used)
+  counted_within test = weight_within test (in_order cells slots used) at cell.entry got
 
-  pub among_ranked : (counts : Counts) → AreCounts counts (in_order cells used) → IsAmong cell.entry counts
+  pub among_ranked : (counts : Counts) → AreCounts counts (in_order cells slots used) → IsAmong cell.entry counts
   among_ranked counts counted = record {
     members = omega (arith, counted_within is_member, counted.members);
     senders = omega (arith, counted_within is_sender, counted.senders);
     due = omega (arith, counted_within is_due, counted.due);
   }
 
-  pub few_counted : (test : EntryValue → Bool) → tally_of test (in_order cells used) ≤ 1024
+  pub few_counted : (test : EntryValue → Bool) → tally_of test (in_order cells slots used) ≤ 1024
   few_counted test = omega (
     arith,
-    tally_at_most test (in_order cells used),
-    length_ranked cells used heap,
+    tally_at_most test (in_order cells slots used),
+    length_ranked cells slots used heap,
     heap.in_use,
     heap.all,
     heap.few,
@@ -279,34 +262,31 @@ module _ {cells : List Cell} {used at : ℕ} {slot : Slot} {cell : Cell} (so : I
     abbrev after : List Cell
     after = set cells slot.place (record cell { entry = e })
 
-    entries_after : entries_in after ≡ set (entries_in cells) (place_at (slots_in cells) at) e
+    entries_after : entries_in after ≡ set (entries_in cells) (place_at slots at) e
     entries_after = entry_written cells slot.place (record cell { entry = e })
         ∙ ap (λ place. set (entries_in cells) place e) its_place
 
-    slots_after : slots_in after ≡ slots_in cells
-    slots_after = slots_kept cells slot.place e cell so.read
-
-    pub written_ranked : in_order after used ≡ set (in_order cells used) at e
+    pub written_ranked : in_order after slots used ≡ set (in_order cells slots used) at e
     written_ranked =
-        (λ i. picked (entries_after i) (take used (slots_after i))) ∙ set_picked (entries_in cells)
-        (slots_in cells) used at heap so.early e
+        ap (λ es. picked es (take used slots)) entries_after ∙ set_picked (entries_in cells)
+        slots used at heap so.early e
 
-    its_ssrc : (d : Entry) → e.ssrc ≡ (slice_index_or (in_order cells used) at d).ssrc
+    its_ssrc : (d : Entry) → e.ssrc ≡ (slice_index_or (in_order cells slots used) at d).ssrc
     its_ssrc d = same ∙ ap (λ (x : Entry). x.ssrc) (read_ranked d)
 
-    pub heap_written : IsHeap (entries_in after) (slots_in after) used
-    heap_written = subst (λ slots. IsHeap (entries_in after) slots used) (sym slots_after)
-        (subst (λ es. IsHeap es (slots_in cells) used) (sym entries_after)
-        (heap_at (entries_in cells) (slots_in cells) used at heap so.early e cell.entry (its_ssrc cell.entry)))
+    pub heap_written : IsHeap (entries_in after) slots used
+    heap_written = subst (λ es. IsHeap es slots used) (sym entries_after)
+        (heap_at (entries_in cells) slots used at heap so.early e cell.entry (its_ssrc cell.entry))
 
-    pub still_indexed : IsRising (in_order cells used) → IsIndexed after used
+    pub still_indexed : IsRising (in_order cells slots used) → IsIndexed after slots used
     still_indexed rising = record {
       heap = heap_written;
-      rising = subst IsRising (sym written_ranked) (rising_set (in_order cells used) at cell.entry e rising got same);
+      rising = subst IsRising (sym written_ranked)
+          (rising_set (in_order cells slots used) at cell.entry e rising got same);
     }
 
     pub changed_ranked : (change : EntryValue → EntryValue) → entry_value e ≡ change (entry_value cell.entry)
-        → IsChanged change (in_order cells used) (in_order after used) at
+        → IsChanged change (in_order cells slots used) (in_order after slots used) at
     changed_ranked change value =
         record {
           entry = e;
@@ -316,19 +296,19 @@ module _ {cells : List Cell} {used at : ℕ} {slot : Slot} {cell : Cell} (so : I
               ∙ ap (λ (x : Entry). change (entry_value x)) (read_ranked d);
         }
 
-    one_recounted : (test : EntryValue → Bool) (old new : ℕ) → old ≡ tally_of test (in_order cells used)
-        → new + weight_of test cell.entry ≡ old + weight_of test e → new ≡ tally_of test (in_order after used)
+    one_recounted : (test : EntryValue → Bool) (old new : ℕ) → old ≡ tally_of test (in_order cells slots used)
+        → new + weight_of test cell.entry ≡ old + weight_of test e → new ≡ tally_of test (in_order after slots used)
     one_recounted test old new was moved =
         omega (
           arith,
           was,
           moved,
-          tally_set test (in_order cells used) at cell.entry e got,
+          tally_set test (in_order cells slots used) at cell.entry e got,
           ap (tally_of test) written_ranked,
         )
 
-    pub recounted_ranked : (counts next : Counts) → AreCounts counts (in_order cells used)
-        → AreRecounted cell.entry e counts next → AreCounts next (in_order after used)
+    pub recounted_ranked : (counts next : Counts) → AreCounts counts (in_order cells slots used)
+        → AreRecounted cell.entry e counts next → AreCounts next (in_order after slots used)
     recounted_ranked counts next so made =
         record {
           members = one_recounted is_member counts.members next.members so.members made.members;
@@ -338,101 +318,108 @@ module _ {cells : List Cell} {used at : ℕ} {slot : Slot} {cell : Cell} (so : I
 
 -- ---- The ranks of cells
 
--- Fewer ranks may be in use: those that are kept.
-module _ (cells : List Cell) (used kept : ℕ) (heap : IsHeap (entries_in cells) (slots_in cells) used)
-    (fewer : kept ≤ used) where
-  pub first_ranked : take kept (in_order cells used) ≡ in_order cells kept
-  first_ranked = take-map (entry_in (entries_in cells)) kept (take used (slots_in cells))
-      ∙ ap (picked (entries_in cells)) (take-take kept used (slots_in cells) fewer)
+pub length_exchanged : (slots : List Slot) (one other : ℕ) → length (exchanged slots one other) ≡ length slots
+length_exchanged slots one other =
+    length-set (set slots one (slice_index_or slots other no_slot)) other (slice_index_or slots one no_slot)
+    ∙ length-set slots one (slice_index_or slots other no_slot)
 
-  pub heap_first : IsHeap (entries_in cells) (slots_in cells) kept
+-- Fewer ranks may be in use: those that are kept.
+module _ (cells : List Cell) (slots : List Slot) (used kept : ℕ) (heap : IsHeap (entries_in cells) slots used)
+    (fewer : kept ≤ used) where
+  pub first_ranked : take kept (in_order cells slots used) ≡ in_order cells slots kept
+  first_ranked = take-map (entry_in (entries_in cells)) kept (take used slots)
+      ∙ ap (picked (entries_in cells)) (take-take kept used slots fewer)
+
+  pub heap_first : IsHeap (entries_in cells) slots kept
   heap_first = record {
     places = heap.places;
     in_use = omega (arith, fewer, heap.in_use);
     all = heap.all;
-    keyed = subst (All (IsKeyed (entries_in cells))) (take-take kept used (slots_in cells) fewer)
-        (All-take (IsKeyed (entries_in cells)) kept (take used (slots_in cells)) heap.keyed);
+    keyed = subst (All (IsKeyed (entries_in cells))) (take-take kept used slots fewer)
+        (All-take (IsKeyed (entries_in cells)) kept (take used slots) heap.keyed);
     few = heap.few;
   }
 
--- The slots of two ranks are exchanged.
-module _ (cells next : List Cell) (used one other : ℕ) (heap : IsHeap (entries_in cells) (slots_in cells) used)
-    (low : one < used) (high : other < used) (entries : entries_in next ≡ entries_in cells) (slots : pairs_in next
-    ≡ set (set (pairs_in cells) one (slice_index_or (pairs_in cells) other no_slot)) other
-    (slice_index_or (pairs_in cells) one no_slot)) where
-  abbrev old : List Slot
-  old = slots_in cells
+-- The entries without that of a slot.
+pub picked_removed : (entries : List Entry) (slots : List Slot) (at : ℕ) →
+    picked entries (remove slots at) ≡ remove (picked entries slots) at
+picked_removed entries slots at =
+    map-append (entry_in entries) (take at slots) (drop (suc at) slots)
+    ∙ (λ i. sym (take-map (entry_in entries) at slots) i ++ sym (drop-map (entry_in entries) (suc at) slots) i)
 
+-- The first slots, where two of them are exchanged.
+pub taken_exchanged : (slots : List Slot) (used one other : ℕ) → used ≤ length slots → one < used → other < used →
+    take used (exchanged slots one other) ≡ exchanged (take used slots) one other
+taken_exchanged slots used one other in_use low high =
+    let first : Slot = slice_index_or slots one no_slot in
+    let second : Slot = slice_index_or slots other no_slot in
+    take_written (set slots one second) used other first high (omega (arith, in_use, length-set slots one second))
+    ∙ ap (λ xs. set xs other first) (take_written slots used one second low in_use)
+    ∙ (λ i. set (set (take used slots) one (sym (get_or-take used slots other no_slot high) i)) other
+    (sym (get_or-take used slots one no_slot low) i))
+
+-- The slots of two ranks are exchanged.
+module _ (entries : List Entry) (slots : List Slot) (used one other : ℕ) (heap : IsHeap entries slots used)
+    (low : one < used) (high : other < used) where
   abbrev first : Slot
-  first = slice_index_or old one no_slot
+  first = slice_index_or slots one no_slot
 
   abbrev second : Slot
-  second = slice_index_or old other no_slot
+  second = slice_index_or slots other no_slot
 
   abbrev swapped : List Slot
-  swapped = set (set old one second) other first
+  swapped = exchanged slots one other
 
-  is_swapped : slots_in next ≡ swapped
-  is_swapped =
-      let count = length_slots cells in
-      let one_in : one < length cells = omega (arith, low, heap.in_use, count) in
-      let other_in : other < length cells = omega (arith, high, heap.in_use, count) in
-      slots_exchanged cells next one other (slice_index_or (pairs_in cells) other no_slot)
-      (slice_index_or (pairs_in cells) one no_slot) one_in other_in entries slots
-      ∙ (λ i. set (set old one (slot_read cells other other_in i)) other (slot_read cells one one_in i))
-
-  in_used : take used swapped ≡ set (set (take used old) one second) other first
-  in_used =
-      take_written (set old one second) used other first high (omega (arith, heap.in_use, length-set old one second))
-      ∙ ap (λ xs. set xs other first) (take_written old used one second low heap.in_use)
+  in_used : take used swapped ≡ exchanged (take used slots) one other
+  in_used = taken_exchanged slots used one other heap.in_use low high
 
   -- So are their entries.
-  pub exchanged_ranked : (d : Entry) → in_order next used
-      ≡ set (set (in_order cells used) one (slice_index_or (in_order cells used) other d)) other
-      (slice_index_or (in_order cells used) one d)
+  pub exchanged_ranked : (d : Entry) → picked entries (take used swapped)
+      ≡ set (set (picked entries (take used slots)) one (slice_index_or (picked entries (take used slots)) other d))
+      other (slice_index_or (picked entries (take used slots)) one d)
   exchanged_ranked d =
-      let es = entries_in cells in
-      (λ i. picked (entries i) (take used (is_swapped i)))
-      ∙ ap (picked es) in_used
-      ∙ map-set (entry_in es) (set (take used old) one second) other first
-      ∙ ap (λ xs. set xs other (entry_in es first)) (map-set (entry_in es) (take used old) one second)
-      ∙ (λ i. set (set (in_order cells used) one (sym (picked_read es old used other d heap.in_use high) i)) other
-      (sym (picked_read es old used one d heap.in_use low) i))
+      let row : List Slot = take used slots in
+      let within : (k : ℕ) → k < used → k < length row = λ k less. omega
+      (arith, less, length-take-le used slots heap.in_use) in
+      ap (picked entries) in_used
+      ∙ map-set (entry_in entries) (set row one (slice_index_or row other no_slot)) other
+      (slice_index_or row one no_slot)
+      ∙ ap (λ xs. set xs other (entry_in entries (slice_index_or row one no_slot))) (map-set (entry_in entries) row one
+      (slice_index_or row other no_slot))
+      ∙ (λ i. set (set (picked entries row) one
+      (sym (get_or-map (entry_in entries) row other no_slot d (within other high)) i)) other
+      (sym (get_or-map (entry_in entries) row one no_slot d (within one low)) i))
 
-  moved : IsPermutation old swapped
+  moved : IsPermutation slots swapped
   moved =
-      let one_in : one < length old = omega (arith, low, heap.in_use) in
-      let other_in : other < length old = omega (arith, high, heap.in_use) in
-      IsPermutation-swap old swapped one other one_in other_in (swap_is old one other no_slot one_in other_in)
+      let one_in : one < length slots = omega (arith, low, heap.in_use) in
+      let other_in : other < length slots = omega (arith, high, heap.in_use) in
+      IsPermutation-swap slots swapped one other one_in other_in (swap_is slots one other no_slot one_in other_in)
 
-  heap_swapped : IsHeap (entries_in cells) swapped used
-  heap_swapped =
+  pub heap_exchanged : IsHeap entries swapped used
+  heap_exchanged =
       let within = heap.places.within in
-      let P : Slot → Type 0 = λ slot. slot.place < length (entries_in cells) in
-      let same_length : length swapped ≡ length old = length-set (set old one second) other first
-      ∙ length-set old one second in
+      let P : Slot → Type 0 = λ slot. slot.place < length entries in
+      let same_length : length swapped ≡ length slots = length_exchanged slots one other in
       record {
         places = record {
-          within = All-set P (set old one second) other first (within one no_slot (omega (arith, low, heap.in_use)))
-              (All-set P old one second (within other no_slot (omega (arith, high, heap.in_use))) within);
-          apart = λ p. fewer p (sum_by-IsPermutation (has_place p) old swapped moved) (heap.places.apart p);
+          within = All-set P (set slots one second) other first (within one no_slot (omega (arith, low, heap.in_use)))
+              (All-set P slots one second (within other no_slot (omega (arith, high, heap.in_use))) within);
+          apart = λ p. fewer p (sum_by-IsPermutation (has_place p) slots swapped moved) (heap.places.apart p);
         };
         in_use = omega (arith, same_length, heap.in_use);
         all = same_length ∙ heap.all;
-        keyed = subst (All (IsKeyed (entries_in cells))) (sym in_used)
-            (All-set (IsKeyed (entries_in cells)) (set (take used old) one second) other first (keyed_read one low)
-            (All-set (IsKeyed (entries_in cells)) (take used old) one second (keyed_read other high) heap.keyed));
+        keyed = subst (All (IsKeyed entries)) (sym in_used)
+            (All-set (IsKeyed entries) (set (take used slots) one (slice_index_or (take used slots) other no_slot))
+            other (slice_index_or (take used slots) one no_slot) (keyed_read one low)
+            (All-set (IsKeyed entries) (take used slots) one (slice_index_or (take used slots) other no_slot)
+            (keyed_read other high) heap.keyed));
         few = heap.few;
       }
     where
-      keyed_read : (k : ℕ) → k < used → IsKeyed (entries_in cells) (slice_index_or old k no_slot)
-      keyed_read k less = subst (IsKeyed (entries_in cells)) (get_or-take used old k no_slot less)
-          (heap.keyed k no_slot (omega (arith, less, length-take-le used old heap.in_use)))
+      keyed_read : (k : ℕ) → k < used → IsKeyed entries (slice_index_or (take used slots) k no_slot)
+      keyed_read k less = heap.keyed k no_slot (omega (arith, less, length-take-le used slots heap.in_use))
 
-      fewer : (p : ℕ) → sum_by (has_place p) swapped ≡ sum_by (has_place p) old → sum_by (has_place p) old ≤ 1 →
+      fewer : (p : ℕ) → sum_by (has_place p) swapped ≡ sum_by (has_place p) slots → sum_by (has_place p) slots ≤ 1 →
           sum_by (has_place p) swapped ≤ 1
       fewer p same most = omega (arith, same, most)
-
-  pub heap_exchanged : IsHeap (entries_in next) (slots_in next) used
-  heap_exchanged = subst (λ ss. IsHeap (entries_in next) ss used) (sym is_swapped)
-      (subst (λ es. IsHeap es swapped used) (sym entries) heap_swapped)

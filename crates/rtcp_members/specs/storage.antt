@@ -1,4 +1,5 @@
 pub mod SortedViews
 pub mod Heaps
+pub mod Index
 pub mod Shelves
 pub mod Standing

@@ -2,7 +2,7 @@
 //! found: who reads a hint looks at that rank, and finds the source there or searches it.
 
 ghost use Rattle.std.specs.Prelude.{◌≡◌, length};
-ghost use Rattle.rtcp_members.specs.storage.Heaps.{entries_in, pairs_in};
+ghost use Rattle.rtcp_members.specs.storage.Heaps.{entries_in};
 
 use crate::cells::Cell;
 
@@ -26,7 +26,6 @@ pub(crate) fn hinted(cells: &[Cell], ssrc: u32) -> usize {
 /// Notes the rank of a source.
 #[inline(always)]
 pub(crate) fn note(cells: &mut [Cell], ssrc: u32, rank: usize)
-    ensures slots { pairs_in cells.new ≡ pairs_in cells.old }
     ensures entries { entries_in cells.new ≡ entries_in cells.old }
     ensures as_many { length cells.new ≡ length cells.old }
 {

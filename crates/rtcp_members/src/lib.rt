@@ -3,10 +3,10 @@
 //! read no clock, open no socket and draw no random number, and only making a `HeapTable` allocates.
 //!
 //! Use a sorted table for a session. It keeps its entries by rising SSRC with running counts, so that a fact costs
-//! one search, and with bounds on their moments, so that most checks read no entry. `HeapTable` has them in a block
-//! of memory of the size of its capacity, with an index in SSRC order, so that a join moves no entry; `SortedTable`
-//! has room for 1,024 in itself. `ListTable` keeps them in order of arrival and walks them in each call: it is the
-//! simplest one, to read first. All meet the contract of `MemberTable`, so they return the same in each call.
+//! one search, and with bounds on their moments, so that most checks read no entry. An index has their order, so that
+//! a join moves no entry. `HeapTable` takes two blocks of memory by its capacity; `SortedTable` has room for 1,024 in
+//! itself. `ListTable` keeps entries in order of arrival and walks them in each call: it is the simplest one, to read
+//! first. All meet the contract of `MemberTable`, so they return the same in each call.
 //!
 //! ```
 //! let mut table = SortedTable::empty(1_024);

@@ -1,14 +1,15 @@
 //! Entries by rising SSRC, that stay where they are put, with an index and running counts of them.
 
-ghost use Rattle.std.specs.Prelude.{◌≡◌, ℕ, [], ◌<◌, ◌≤◌, ◌-◌, ◌*◌, length, slice_index_or, IfSome, IsTrue, is_some};
+ghost use Rattle.std.specs.Prelude.{◌≡◌, ℕ, [], ◌<◌, ◌≤◌, ◌-◌, length, slice_index_or, IfSome, IsTrue, is_some, Result};
 ghost use Rattle.std.specs.List.{remove};
 ghost use Rattle.rtcp_wire.specs.Facts.{is_media, subject};
 ghost use Rattle.rtcp_wire.specs.Views.{block_value};
 ghost use Rattle.rtcp_members.specs.declared.entry.Entry.{Entry};
-ghost use Rattle.rtcp_members.specs.storage.Heaps.{IsIndexed, IsHeap, IsPut, in_order, entries_in, slots_in, spared_slots};
+ghost use Rattle.rtcp_members.specs.storage.Heaps.{IsIndexed, IsHeap, IsMovedBehind, IsPut, in_order, entries_in};
 ghost use Rattle.rtcp_members.specs.ListViews.{checked, entry_value, mark_in, row_of, state_value, IsRankOf};
 ghost use Rattle.rtcp_members.specs.Pending.{is_due};
-ghost use Rattle.rtcp_members.specs.storage.Shelves.{IsCounted, Joins, MakesBlock, TakesFact};
+ghost use Rattle.rtcp_members.specs.storage.Index.{AreRising, Finds};
+ghost use Rattle.rtcp_members.specs.storage.Shelves.{IsCounted, Joins, LieAsBefore, MakesBlock, TakesFact};
 ghost use Rattle.rtcp_members.specs.storage.SortedViews.{IsGapFor, Locates};
 ghost use Rattle.rtcp_members.specs.storage.Standing.{AllStandBy, AreCounts, IsMeasured, RulesOut};
 ghost use Rattle.rtcp_members.specs.Tables.{IsFew};
@@ -17,11 +18,11 @@ ghost use Rattle.rtcp_members.specs.Traces.{horizons_at};
 
 use crate::blocks::Blocks;
 use crate::bounds::Bounds;
-use crate::cells::{Cell, Slot, exchange, set_entry, shift, slot_at};
+use crate::cells::{Cell, Slot, exchange, shift, slot_at};
 use crate::counts::Counts;
 use crate::entry::Entry;
 use crate::hints::{hinted, note};
-use crate::index::{entry_at, find, walk_to};
+use crate::index::{find, is_gap, walk_to};
 use crate::state::SourceState;
 use crate::table::Effect;
 use rtcp_wire::{Block, Fact};
@@ -29,36 +30,47 @@ use std::marker::Model;
 
 /// Entries by rising SSRC. Each lies in one cell from when it is put in until it is dropped, and slots say where, by
 /// rank: those of the entries in use, and then those of cells that are free. A search reads slots alone, and an
-/// insert moves slots and no entry. Whatever changes an entry counts it anew. No call takes memory.
+/// insert moves slots, which lie side by side, and no entry. Whatever changes an entry counts it anew. No call takes
+/// memory.
 #[derive(Drop)]
-pub struct Shelf<B: Blocks> {
-    cells: B,
+pub struct Shelf<C: Blocks<Cell>, S: Blocks<Slot>> {
+    cells: C,
+    slots: S,
     used: usize,
     counts: Counts,
 }
 
-impl<B: Blocks> Model for Shelf<B> {
+impl<C: Blocks<Cell>, S: Blocks<Slot>> Model for Shelf<C, S> {
     ghost use Rattle.rtcp_members.specs.storage.Heaps.{in_order};
     ghost use Rattle.rtcp_members.specs.storage.Shelves.{IsShelf, ShelfValue};
 
     ghost Value = { ShelfValue };
 
     ghost view = { λ s.
-        record { items = in_order (B.cells s.cells) s.used; room = B.room s.cells; block = B.block s.cells } };
+        record {
+          items = in_order (C.items s.cells) (S.items s.slots) s.used;
+          room = C.room s.cells;
+          block = C.block s.cells;
+          index_block = S.block s.slots;
+        } };
 
-    ghost invariant = { λ s. IsShelf (B.cells s.cells) s.used (B.room s.cells) s.counts };
+    ghost invariant = { λ s.
+        IsShelf (C.items s.cells) (S.items s.slots) s.used (C.room s.cells) (S.room s.slots) s.counts };
 }
 
-impl<B: Blocks> Shelf<B> {
-    /// A shelf without entries, over a block without cells.
-    pub(crate) fn over(cells: B) -> Shelf<B>
-        requires vacant { B.cells cells ≡ [] }
-        requires few { B.room cells ≤ 1024 }
+impl<C: Blocks<Cell>, S: Blocks<Slot>> Shelf<C, S> {
+    /// A shelf without entries, over blocks without any.
+    pub(crate) fn over(cells: C, slots: S) -> Shelf<C, S>
+        requires vacant { C.items cells ≡ [] }
+        requires vacant_index { S.items slots ≡ [] }
+        requires few { C.room cells ≤ 1024 }
+        requires as_many { C.room cells ≤ S.room slots }
         ensures vacant { result.items ≡ [] }
-        ensures room { result.room ≡ B.room cells }
+        ensures room { result.room ≡ C.room cells }
     {
         Shelf {
             cells,
+            slots,
             used: 0,
             counts: Counts::none(),
         }
@@ -85,7 +97,29 @@ impl<B: Blocks> Shelf<B> {
         requires { at < length self.now.items }
         ensures { IsRankOf result self.now.items at }
     {
-        slot_at(self.cells.as_slice(), at).ssrc
+        slot_at(self.in_use(), at).ssrc
+    }
+
+    /// The slots in use.
+    #[inline(always)]
+    fn in_use(&self) -> &[Slot]
+        ensures as_many { length result.now ≡ length self.now.items }
+        ensures rising { AreRising result.now }
+        ensures found { (ssrc : ℕ) (found : Result ℕ ℕ) → Finds ssrc result.now found →
+            Locates ssrc self.now.items found }
+    {
+        &self.slots.as_slice()[..self.used]
+    }
+
+    /// The entry of a rank.
+    #[inline(always)]
+    fn entry_at(&self, at: usize) -> &Entry
+        requires { at < length self.now.items }
+        ensures { (d : Entry) → result.now ≡ slice_index_or self.now.items at d }
+    {
+        let place = slot_at(self.slots.as_slice(), at).place;
+        let cell = &self.cells.as_slice()[place as usize];
+        &cell.entry
     }
 
     /// The rank of a source, if the hint at it says so.
@@ -113,21 +147,14 @@ impl<B: Blocks> Shelf<B> {
     pub(crate) fn is_gap(&self, rank: usize, ssrc: u32) -> bool
         ensures { IsTrue result → IsGapFor ssrc self.now.items rank }
     {
-        if rank > self.used {
-            return false;
-        }
-        let cells = self.cells.as_slice();
-        if rank > 0 && ssrc <= slot_at(cells, rank - 1).ssrc {
-            return false;
-        }
-        rank == self.used || ssrc < slot_at(cells, rank).ssrc
+        is_gap(self.in_use(), rank, ssrc)
     }
 
     /// The rank of a source, or else that which it would have.
     pub(crate) fn find(&self, ssrc: u32) -> Result<usize, usize>
         ensures { Locates ssrc self.now.items result }
     {
-        find(self.cells.as_slice(), self.used, ssrc)
+        find(self.in_use(), ssrc)
     }
 
     /// What `find` returns, where a walk from the rank `from` soon comes to it. No clause says where: a walk that
@@ -136,7 +163,7 @@ impl<B: Blocks> Shelf<B> {
     pub(crate) fn walk_to(&self, ssrc: u32, from: usize) -> Option<Result<usize, usize>>
         ensures { IfSome result (Locates ssrc self.now.items) }
     {
-        walk_to(self.cells.as_slice(), self.used, ssrc, from)
+        walk_to(self.in_use(), ssrc, from)
     }
 
     /// Whether a block is due of the source of a rank.
@@ -145,7 +172,7 @@ impl<B: Blocks> Shelf<B> {
         requires { at < length self.now.items }
         ensures { (d : Entry) → result ≡ is_due (entry_value (slice_index_or self.now.items at d)) }
     {
-        entry_at(self.cells.as_slice(), self.used, at).is_due()
+        self.entry_at(at).is_due()
     }
 
     /// What is told of the source of a rank.
@@ -154,7 +181,7 @@ impl<B: Blocks> Shelf<B> {
         requires { at < length self.now.items }
         ensures { (d : Entry) → state_value result ≡ state_of (row_of (slice_index_or self.now.items at d)) }
     {
-        entry_at(self.cells.as_slice(), self.used, at).state()
+        self.entry_at(at).state()
     }
 
     /// A fact comes to the source of a rank.
@@ -165,10 +192,10 @@ impl<B: Blocks> Shelf<B> {
             IsFew (entry_value (slice_index_or self.old.items at d)) }
         ensures taken { TakesFact fact t self.old.items self.new.items at result }
         ensures room { self.new.room ≡ self.old.room }
-        ensures in_place { self.new.block ≡ self.old.block }
+        ensures in_place { LieAsBefore self.old self.new }
     {
-        let (used, counts) = (self.used, &mut self.counts);
-        apply_at(self.cells.as_mut_slice(), used, counts, at, fact, t)
+        let (slots, used, counts) = (self.slots.as_slice(), self.used, &mut self.counts);
+        apply_at(self.cells.as_mut_slice(), slots, used, counts, at, fact, t)
     }
 
     /// The block of the source of a rank, where one is due.
@@ -177,10 +204,10 @@ impl<B: Blocks> Shelf<B> {
         requires due { (d : Entry) → IsTrue (is_due (entry_value (slice_index_or self.old.items at d))) }
         ensures made { MakesBlock t self.old.items self.new.items at (block_value result) }
         ensures room { self.new.room ≡ self.old.room }
-        ensures in_place { self.new.block ≡ self.old.block }
+        ensures in_place { LieAsBefore self.old self.new }
     {
-        let (used, counts) = (self.used, &mut self.counts);
-        report_at(self.cells.as_mut_slice(), used, counts, at, t)
+        let (slots, used, counts) = (self.slots.as_slice(), self.used, &mut self.counts);
+        report_at(self.cells.as_mut_slice(), slots, used, counts, at, t)
     }
 
     /// Puts an entry for the source of a fact into the gap for it.
@@ -191,15 +218,19 @@ impl<B: Blocks> Shelf<B> {
         requires room { length self.old.items < self.old.room }
         ensures joined { Joins fact t self.old.items self.new.items gap }
         ensures room { self.new.room ≡ self.old.room }
-        ensures in_place { self.new.block ≡ self.old.block }
+        ensures in_place { LieAsBefore self.old self.new }
     {
         let mut entry = Entry::new(fact.ssrc());
         let _ = entry.take_fact(fact, t);
         self.counts.add(&entry);
         let ssrc = entry.ssrc;
-        let until = self.used / 2 + 1;
-        let place = lay(&mut self.cells, self.used, 2 * until, entry);
-        shift(self.cells.as_mut_slice(), gap, until, Slot { ssrc, place });
+        let place = lay(&mut self.cells, &mut self.slots, self.used, entry);
+        shift(
+            self.slots.as_mut_slice(),
+            gap,
+            self.used,
+            Slot { ssrc, place },
+        );
         self.used += 1;
     }
 
@@ -209,9 +240,7 @@ impl<B: Blocks> Shelf<B> {
         requires { at < length self.now.items }
         ensures { (d : Entry) → result ≡ is_some (mark_in (slice_index_or self.now.items at d)) }
     {
-        entry_at(self.cells.as_slice(), self.used, at)
-            .mark()
-            .is_some()
+        self.entry_at(at).mark().is_some()
     }
 
     /// Drops the entry of a rank, and leaves its cell free.
@@ -219,10 +248,10 @@ impl<B: Blocks> Shelf<B> {
         requires { at < length self.old.items }
         ensures items { self.new.items ≡ remove self.old.items at }
         ensures room { self.new.room ≡ self.old.room }
-        ensures in_place { self.new.block ≡ self.old.block }
+        ensures in_place { LieAsBefore self.old self.new }
     {
-        let (used, counts) = (self.used, &mut self.counts);
-        remove_at(self.cells.as_mut_slice(), used, counts, at);
+        let (slots, used, counts) = (self.slots.as_mut_slice(), self.used, &mut self.counts);
+        remove_at(self.cells.as_mut_slice(), slots, used, counts, at);
         self.used -= 1;
     }
 
@@ -231,7 +260,14 @@ impl<B: Blocks> Shelf<B> {
     pub(crate) fn bounds_if_left(&self, silent: u64, idle: u64, gone: u64) -> Option<Bounds>
         ensures { IfSome result (RulesOut (horizons_at silent idle gone) self.now.items) }
     {
-        bounds_if_left(self.cells.as_slice(), self.used, silent, idle, gone)
+        bounds_if_left(
+            self.cells.as_slice(),
+            self.slots.as_slice(),
+            self.used,
+            silent,
+            idle,
+            gone,
+        )
     }
 
     /// Drops the entries that do not outlast a check, and ends the sending of the idle ones. Returns the bounds of
@@ -239,37 +275,48 @@ impl<B: Blocks> Shelf<B> {
     pub(crate) fn drop_silent(&mut self, silent: u64, idle: u64, gone: u64) -> Bounds
         ensures items { self.new.items ≡ checked (horizons_at silent idle gone) self.old.items }
         ensures room { self.new.room ≡ self.old.room }
-        ensures in_place { self.new.block ≡ self.old.block }
+        ensures in_place { LieAsBefore self.old self.new }
         ensures stand { AllStandBy result self.new.items }
     {
         let (used, counts) = (self.used, self.counts);
-        let cells = self.cells.as_mut_slice();
-        let (kept, counts, bounds) = drop_silent(cells, used, counts, silent, idle, gone);
+        let (cells, slots) = (self.cells.as_mut_slice(), self.slots.as_mut_slice());
+        let (kept, counts, bounds) = drop_silent(cells, slots, used, counts, silent, idle, gone);
         self.used = kept;
         self.counts = counts;
         bounds
     }
 }
 
-/// Lays an entry in a free cell, or else in a new one. Returns its place, which no slot has but the last before
-/// the rank `end`, or the last of all.
+/// Lays an entry in a free cell, or else in a new one. Returns its place, which no slot has but the first behind those
+/// in use.
 #[inline(always)]
-fn lay<B: Blocks>(cells: &mut B, used: usize, end: usize, entry: Entry) -> u32
-    requires sound { IsHeap (entries_in (B.cells cells.old)) (slots_in (B.cells cells.old)) used }
-    requires room { used < B.room cells.old }
-    requires end { used < end }
-    ensures put { IsPut (entries_in (B.cells cells.old)) (entries_in (B.cells cells.new))
-        (slots_in (B.cells cells.old)) (spared_slots end (B.cells cells.new)) used result entry }
-    ensures room { B.room cells.new ≡ B.room cells.old }
-    ensures in_place { B.block cells.new ≡ B.block cells.old }
+fn lay<C: Blocks<Cell>, S: Blocks<Slot>>(
+    cells: &mut C,
+    slots: &mut S,
+    used: usize,
+    entry: Entry,
+) -> u32
+    requires sound { IsHeap (entries_in (C.items cells.old)) (S.items slots.old) used }
+    requires room { used < C.room cells.old }
+    requires index_room { C.room cells.old ≤ S.room slots.old }
+    ensures put { IsPut (entries_in (C.items cells.old)) (entries_in (C.items cells.new))
+        (S.items slots.old) (remove (S.items slots.new) used) used result entry }
+    ensures end { used < length (S.items slots.new) }
+    ensures fits { length (C.items cells.new) ≤ C.room cells.new }
+    ensures room { C.room cells.new ≡ C.room cells.old }
+    ensures index_room { S.room slots.new ≡ S.room slots.old }
+    ensures in_place { C.block cells.new ≡ C.block cells.old }
+    ensures index_in_place { S.block slots.new ≡ S.block slots.old }
 {
     let count = cells.as_slice().len();
     if used == count {
         cells.push(Cell::of(entry));
+        slots.push(Slot::none());
         return count as u32;
     }
-    let place = slot_at(cells.as_slice(), end.min(count) - 1).place;
-    set_entry(cells.as_mut_slice(), place as usize, entry);
+    let place = slot_at(slots.as_slice(), used).place;
+    let cell = &mut cells.as_mut_slice()[place as usize];
+    cell.entry = entry;
     place
 }
 
@@ -277,72 +324,89 @@ fn lay<B: Blocks>(cells: &mut B, used: usize, end: usize, entry: Entry) -> u32
 #[inline(always)]
 fn apply_at(
     cells: &mut [Cell],
+    slots: &[Slot],
     used: usize,
     counts: &mut Counts,
     at: usize,
     fact: Fact,
     t: u64,
 ) -> Effect
-    requires kept { IsCounted cells.old used counts.old }
+    requires kept { IsCounted cells.old slots.now used counts.old }
     requires stands { at < used }
     requires few { (d : Entry) → IsTrue (is_media fact) →
-        IsFew (entry_value (slice_index_or (in_order cells.old used) at d)) }
-    ensures kept { IsCounted cells.new used counts.new }
+        IsFew (entry_value (slice_index_or (in_order cells.old slots.now used) at d)) }
+    ensures kept { IsCounted cells.new slots.now used counts.new }
     ensures as_many { length cells.new ≡ length cells.old }
-    ensures taken { TakesFact fact t (in_order cells.old used) (in_order cells.new used) at result }
+    ensures taken { TakesFact fact t (in_order cells.old slots.now used) (in_order cells.new slots.now used) at
+        result }
 {
-    let place = slot_at(cells, at).place;
+    let place = slot_at(slots, at).place;
     let cell = &mut cells[place as usize];
     counts.apply(&mut cell.entry, fact, t)
 }
 
 /// The block of the source of a rank, where one is due: then it is counted anew.
-fn report_at(cells: &mut [Cell], used: usize, counts: &mut Counts, at: usize, t: u64) -> Block
-    requires kept { IsCounted cells.old used counts.old }
+fn report_at(
+    cells: &mut [Cell],
+    slots: &[Slot],
+    used: usize,
+    counts: &mut Counts,
+    at: usize,
+    t: u64,
+) -> Block
+    requires kept { IsCounted cells.old slots.now used counts.old }
     requires stands { at < used }
-    requires due { (d : Entry) → IsTrue (is_due (entry_value (slice_index_or (in_order cells.old used) at d))) }
-    ensures kept { IsCounted cells.new used counts.new }
+    requires due { (d : Entry) →
+        IsTrue (is_due (entry_value (slice_index_or (in_order cells.old slots.now used) at d))) }
+    ensures kept { IsCounted cells.new slots.now used counts.new }
     ensures as_many { length cells.new ≡ length cells.old }
-    ensures made { MakesBlock t (in_order cells.old used) (in_order cells.new used) at (block_value result) }
+    ensures made { MakesBlock t (in_order cells.old slots.now used) (in_order cells.new slots.now used) at
+        (block_value result) }
 {
-    let place = slot_at(cells, at).place;
+    let place = slot_at(slots, at).place;
     let cell = &mut cells[place as usize];
     counts.report(&mut cell.entry, t)
 }
 
 /// Drops the entry of a rank, which is counted no more: one rank fewer is in use then.
-fn remove_at(cells: &mut [Cell], used: usize, counts: &mut Counts, at: usize)
-    requires kept { IsCounted cells.old used counts.old }
+fn remove_at(cells: &mut [Cell], slots: &mut [Slot], used: usize, counts: &mut Counts, at: usize)
+    requires kept { IsCounted cells.old slots.old used counts.old }
     requires stands { at < used }
-    ensures kept { IsCounted cells.new (used - 1) counts.new }
+    ensures kept { IsCounted cells.new slots.new (used - 1) counts.new }
     ensures as_many { length cells.new ≡ length cells.old }
-    ensures items { in_order cells.new (used - 1) ≡ remove (in_order cells.old used) at }
+    ensures as_many_slots { length slots.new ≡ length slots.old }
+    ensures items { in_order cells.new slots.new (used - 1) ≡ remove (in_order cells.old slots.old used) at }
 {
-    let place = slot_at(cells, at).place;
+    let place = slot_at(slots, at).place;
     let cell = &mut cells[place as usize];
     counts.remove(&cell.entry);
     cell.entry.retire();
-    move_behind(cells, used, at);
+    move_behind(slots, used, at);
 }
 
 /// Moves the slot of a rank behind the others in use: each from there on comes one rank down.
-fn move_behind(cells: &mut [Cell], used: usize, at: usize)
-    requires heap { IsHeap (entries_in cells.old) (slots_in cells.old) used }
+fn move_behind(slots: &mut [Slot], used: usize, at: usize)
     requires stands { at < used }
-    ensures heap { IsHeap (entries_in cells.new) (slots_in cells.new) (used - 1) }
-    ensures as_many { length cells.new ≡ length cells.old }
-    ensures items { in_order cells.new (used - 1) ≡ remove (in_order cells.old used) at }
+    requires in_use { used ≤ length slots.old }
+    ensures { IsMovedBehind slots.old slots.new used at }
 {
     'ranks: for rank in at..used - 1 {
-        exchange(cells, rank, rank + 1);
+        exchange(slots, rank, rank + 1);
     }
 }
 
 /// Bounds of the entries, where a check with these horizons leaves each as it is.
 // In order of memory, over free cells too: what is left in these keeps no check from being ruled out.
-fn bounds_if_left(cells: &[Cell], used: usize, silent: u64, idle: u64, gone: u64) -> Option<Bounds>
-    requires { IsIndexed cells.now used }
-    ensures { IfSome result (RulesOut (horizons_at silent idle gone) (in_order cells.now used)) }
+fn bounds_if_left(
+    cells: &[Cell],
+    slots: &[Slot],
+    used: usize,
+    silent: u64,
+    idle: u64,
+    gone: u64,
+) -> Option<Bounds>
+    requires { IsIndexed cells.now slots.now used }
+    ensures { IfSome result (RulesOut (horizons_at silent idle gone) (in_order cells.now slots.now used)) }
 {
     let mut bounds = Bounds::none();
     'cells: for cell in cells {
@@ -361,24 +425,27 @@ fn bounds_if_left(cells: &[Cell], used: usize, silent: u64, idle: u64, gone: u64
 // One walk, in which only an entry that changes is counted anew; no slot is written before one is dropped.
 fn drop_silent(
     cells: &mut [Cell],
+    slots: &mut [Slot],
     used: usize,
     counts: Counts,
     silent: u64,
     idle: u64,
     gone: u64,
 ) -> (usize, Counts, Bounds)
-    requires { IsCounted cells.old used counts }
-    ensures indexed { IsIndexed cells.new result.0 }
+    requires { IsCounted cells.old slots.old used counts }
+    ensures indexed { IsIndexed cells.new slots.new result.0 }
     ensures as_many { length cells.new ≡ length cells.old }
-    ensures items { in_order cells.new result.0 ≡ checked (horizons_at silent idle gone) (in_order cells.old used) }
-    ensures measured { IsMeasured result.1 result.2 (in_order cells.new result.0) }
+    ensures as_many_slots { length slots.new ≡ length slots.old }
+    ensures items { in_order cells.new slots.new result.0
+        ≡ checked (horizons_at silent idle gone) (in_order cells.old slots.old used) }
+    ensures measured { IsMeasured result.1 result.2 (in_order cells.new slots.new result.0) }
 {
     let mut counts = counts;
     let mut bounds = Bounds::none();
     let mut kept = 0;
     'ranks: for at in 0..used {
-        let slot = slot_at(cells, at);
-        let cell = &mut cells[slot.place as usize];
+        let place = slot_at(slots, at).place;
+        let cell = &mut cells[place as usize];
         if !cell.entry.stays(silent, gone) {
             counts.remove(&cell.entry);
             cell.entry.retire();
@@ -386,7 +453,7 @@ fn drop_silent(
         }
         counts.lapse(&mut cell.entry, idle);
         bounds.cover(&cell.entry);
-        exchange(cells, kept, at);
+        exchange(slots, kept, at);
         kept += 1;
     }
     (kept, counts, bounds)

@@ -7,7 +7,7 @@ ghost use Rattle.rtcp_members.specs.Traces.{horizons_at};
 ghost use Rattle.rtcp_members.specs.Told.{first_state};
 ghost use Rattle.rtcp_members.specs.Entries.{is_such};
 ghost use Rattle.rtcp_members.specs.ListViews.{state_value, rows_of, map_of, table_of, tally_of, IsRankOf};
-ghost use Rattle.rtcp_members.specs.storage.Shelves.{Joins, tallies_differ};
+ghost use Rattle.rtcp_members.specs.storage.Shelves.{Joins, LieAsBefore, tallies_differ};
 ghost use Rattle.rtcp_members.specs.storage.SortedViews.{CutsAbove, IsRising, IsSortedTable, IsGapFor, Locates};
 ghost use Rattle.rtcp_members.specs.declared.bounds.Bounds.{Bounds as BoundsOf};
 ghost use Rattle.rtcp_members.specs.storage.Standing.{AllStandBy, IsUpTo};
@@ -16,7 +16,7 @@ ghost use Rattle.rtcp_members.specs.Tables.{no_members, placed, after_fact, afte
 
 use crate::blocks::Blocks;
 use crate::bounds::Bounds;
-use crate::cells::Cell;
+use crate::cells::{Cell, Slot};
 use crate::shelf::Shelf;
 use crate::state::SourceState;
 use crate::table::{Applied, Dropped, Effect, InlineTable, MAX_CAPACITY, MemberTable, Place};
@@ -33,18 +33,18 @@ const SHORT_LIST: u64 = 64;
 /// and knows its counts without a walk. It keeps bounds of what a check goes by, so a check that they rule out
 /// reads no entry. No call allocates.
 #[derive(Drop)]
-pub struct Sorted<B: Blocks> {
+pub struct Sorted<C: Blocks<Cell>, S: Blocks<Slot>> {
     capacity: u16,
     /// Where the source of the last block or telling stands, or would.
     last_rank: u16,
-    entries: Shelf<B>,
+    entries: Shelf<C, S>,
     /// Whether walks to a source pay.
     walks: Walks,
     /// Up to which moments a check changes nothing.
     bounds: Bounds,
 }
 
-impl<B: Blocks> Model for Sorted<B> {
+impl<C: Blocks<Cell>, S: Blocks<Slot>> Model for Sorted<C, S> {
     ghost use Rattle.rtcp_members.specs.Tables.{TableValue};
     ghost use Rattle.rtcp_members.specs.Codes.{table_code};
     ghost use Rattle.rtcp_members.specs.ListViews.{table_of};
@@ -59,49 +59,52 @@ impl<B: Blocks> Model for Sorted<B> {
     ghost invariant = { λ t. IsKept t.capacity t.entries.room t.bounds t.entries.items };
 }
 
-/// A sorted table with room for 1,024 entries in itself, whatever its capacity: some 156 KB.
-pub type SortedTable = Sorted<ArrayVec<Cell, MAX_CAPACITY>>;
+/// A sorted table with room for 1,024 entries in itself, whatever its capacity: some 148 KB.
+pub type SortedTable = Sorted<ArrayVec<Cell, MAX_CAPACITY>, ArrayVec<Slot, MAX_CAPACITY>>;
 
-/// A sorted table whose entries lie in a block of memory of their own, with room for its capacity: 152 octets
-/// for each source, of which 16 are for an index of all of them, and 8 for hints. The block is taken when the table is
-/// made, and none later.
-pub type HeapTable = Sorted<Vec<Cell>>;
+/// A sorted table whose entries and index lie in two blocks of memory of their own, with room for its capacity: for
+/// each source 136 octets, of which 8 are for hints, and 8 octets. The blocks are taken when the table is made, and
+/// none later.
+pub type HeapTable = Sorted<Vec<Cell>, Vec<Slot>>;
 
-impl InlineTable for Sorted<ArrayVec<Cell, MAX_CAPACITY>> {
-    fn empty(capacity: u32) -> Sorted<ArrayVec<Cell, MAX_CAPACITY>> {
-        Sorted::over(ArrayVec::new(), capacity)
+impl InlineTable for SortedTable {
+    fn empty(capacity: u32) -> SortedTable {
+        Sorted::over(ArrayVec::new(), ArrayVec::new(), capacity)
     }
 }
 
-impl Sorted<Vec<Cell>> {
+impl Sorted<Vec<Cell>, Vec<Slot>> {
     /// A table without entries, for at most `capacity` of them, from 1 to 1,024. It takes the memory
     /// for all of them here, and none later.
     ///
     /// # Errors
     ///
     /// There is no memory.
-    pub fn with_room(alloc: Global, capacity: u32) -> Result<Sorted<Vec<Cell>>, AllocError>
+    pub fn with_room(alloc: Global, capacity: u32) -> Result<HeapTable, AllocError>
         requires some { 1 ≤ capacity }
         requires few { capacity ≤ 1024 }
         ensures { IfOk result (λ table. table ≡ no_members capacity) }
     {
         let cells = Vec::with_capacity(alloc, capacity as usize)?;
-        Ok(Sorted::over(cells, capacity))
+        let slots = Vec::with_capacity(alloc, capacity as usize)?;
+        Ok(Sorted::over(cells, slots, capacity))
     }
 }
 
-impl<B: Blocks> Sorted<B> {
+impl<C: Blocks<Cell>, S: Blocks<Slot>> Sorted<C, S> {
     /// A table without entries, over a block without cells.
-    fn over(cells: B, capacity: u32) -> Sorted<B>
-        requires few { B.room cells ≤ 1024 }
-        requires vacant { B.cells cells ≡ [] }
-        requires room { capacity ≤ B.room cells }
+    fn over(cells: C, slots: S, capacity: u32) -> Sorted<C, S>
+        requires few { C.room cells ≤ 1024 }
+        requires vacant { C.items cells ≡ [] }
+        requires vacant_index { S.items slots ≡ [] }
+        requires room { capacity ≤ C.room cells }
+        requires index_room { C.room cells ≤ S.room slots }
         ensures { result ≡ no_members capacity }
     {
         Sorted {
             capacity: capacity as u16,
             last_rank: 0,
-            entries: Shelf::over(cells),
+            entries: Shelf::over(cells, slots),
             walks: Walks::none(),
             bounds: Bounds::none(),
         }
@@ -132,7 +135,7 @@ impl<B: Blocks> Sorted<B> {
     }
 }
 
-impl<B: Blocks> MemberTable for Sorted<B> {
+impl<C: Blocks<Cell>, S: Blocks<Slot>> MemberTable for Sorted<C, S> {
     ghost content = { λ t. t };
 
     #[inline(always)]
@@ -239,8 +242,8 @@ impl<B: Blocks> MemberTable for Sorted<B> {
 /// and made to say the rank where it did not.
 // Inlined, with the rest apart: a source that was found before is not searched for.
 #[inline(always)]
-fn search_hinted<B: Blocks>(
-    entries: &mut Shelf<B>,
+fn search_hinted<C: Blocks<Cell>, S: Blocks<Slot>>(
+    entries: &mut Shelf<C, S>,
     walks: &mut Walks,
     ssrc: u32,
 ) -> Result<usize, usize>
@@ -259,8 +262,8 @@ fn search_hinted<B: Blocks>(
 
 /// The same without a look at the hint, by a walk first.
 #[inline(never)]
-fn walk_noting<B: Blocks>(
-    entries: &mut Shelf<B>,
+fn walk_noting<C: Blocks<Cell>, S: Blocks<Slot>>(
+    entries: &mut Shelf<C, S>,
     walks: &mut Walks,
     ssrc: u32,
 ) -> Result<usize, usize>
@@ -278,8 +281,8 @@ fn walk_noting<B: Blocks>(
 
 /// The same without a look at the hint, and without a walk.
 #[inline(never)]
-fn search_apart_noting<B: Blocks>(
-    entries: &mut Shelf<B>,
+fn search_apart_noting<C: Blocks<Cell>, S: Blocks<Slot>>(
+    entries: &mut Shelf<C, S>,
     walks: &mut Walks,
     ssrc: u32,
 ) -> Result<usize, usize>
@@ -293,7 +296,11 @@ fn search_apart_noting<B: Blocks>(
 
 /// Makes the hint at a source say where a search found it, if it did.
 #[inline(always)]
-fn note_found<B: Blocks>(entries: &mut Shelf<B>, ssrc: u32, found: Result<usize, usize>)
+fn note_found<C: Blocks<Cell>, S: Blocks<Slot>>(
+    entries: &mut Shelf<C, S>,
+    ssrc: u32,
+    found: Result<usize, usize>,
+)
     ensures { entries.new ≡ entries.old }
 {
     if let Ok(at) = found {
@@ -301,11 +308,11 @@ fn note_found<B: Blocks>(entries: &mut Shelf<B>, ssrc: u32, found: Result<usize,
     }
 }
 
-/// The same without hints. The ranks where the source likely stands are tried first: the last one, and those that a walk
-/// from the likely rank comes to, if walks pay.
+/// The same without hints. The ranks where the source likely stands are tried first: the last one, and those that a
+/// walk from the likely rank comes to, if walks pay.
 #[inline(always)]
-fn search<B: Blocks>(
-    entries: &Shelf<B>,
+fn search<C: Blocks<Cell>, S: Blocks<Slot>>(
+    entries: &Shelf<C, S>,
     walks: &mut Walks,
     last_rank: usize,
     ssrc: u32,
@@ -320,8 +327,8 @@ fn search<B: Blocks>(
 
 /// `search` without a look at the last rank.
 #[inline(never)]
-fn search_elsewhere<B: Blocks>(
-    entries: &Shelf<B>,
+fn search_elsewhere<C: Blocks<Cell>, S: Blocks<Slot>>(
+    entries: &Shelf<C, S>,
     walks: &mut Walks,
     ssrc: u32,
 ) -> Result<usize, usize>
@@ -342,7 +349,10 @@ fn search_elsewhere<B: Blocks>(
 /// What `search` returns, if a walk from the likely rank soon comes to where the source stands or would: an
 /// interpolation search that ends with a walk (Perl, Itai and Avni, 1978).
 #[inline(always)]
-fn search_near<B: Blocks>(entries: &Shelf<B>, ssrc: u32) -> Option<Result<usize, usize>>
+fn search_near<C: Blocks<Cell>, S: Blocks<Slot>>(
+    entries: &Shelf<C, S>,
+    ssrc: u32,
+) -> Option<Result<usize, usize>>
     ensures { IfSome result (Locates ssrc entries.now.items) }
 {
     entries.walk_to(ssrc, likely_rank(entries, ssrc)?)
@@ -352,7 +362,11 @@ fn search_near<B: Blocks>(entries: &Shelf<B>, ssrc: u32) -> Option<Result<usize,
 /// or in the gap where the last one was: these are looked at first.
 // Inlined, with the search by halves apart: it is seldom needed in a flood of sources without an entry.
 #[inline(always)]
-fn search_apart<B: Blocks>(entries: &Shelf<B>, walks: &mut Walks, ssrc: u32) -> Result<usize, usize>
+fn search_apart<C: Blocks<Cell>, S: Blocks<Slot>>(
+    entries: &Shelf<C, S>,
+    walks: &mut Walks,
+    ssrc: u32,
+) -> Result<usize, usize>
     ensures { Locates ssrc entries.now.items result }
 {
     let (count, gap) = (entries.len(), walks.last_gap());
@@ -370,8 +384,8 @@ fn search_apart<B: Blocks>(entries: &Shelf<B>, walks: &mut Walks, ssrc: u32) -> 
 
 /// `search` by halves. The gap is noted, if it finds that.
 #[inline(never)]
-fn search_by_halves<B: Blocks>(
-    entries: &Shelf<B>,
+fn search_by_halves<C: Blocks<Cell>, S: Blocks<Slot>>(
+    entries: &Shelf<C, S>,
     walks: &mut Walks,
     ssrc: u32,
 ) -> Result<usize, usize>
@@ -386,7 +400,11 @@ fn search_by_halves<B: Blocks>(
 
 /// `search` for a source that most likely has an entry, by a walk if these pay, and else by halves.
 #[inline(never)]
-fn search_again<B: Blocks>(entries: &Shelf<B>, walks: Walks, ssrc: u32) -> Result<usize, usize>
+fn search_again<C: Blocks<Cell>, S: Blocks<Slot>>(
+    entries: &Shelf<C, S>,
+    walks: Walks,
+    ssrc: u32,
+) -> Result<usize, usize>
     ensures { Locates ssrc entries.now.items result }
 {
     if walks.pay() {
@@ -399,7 +417,10 @@ fn search_again<B: Blocks>(entries: &Shelf<B>, walks: Walks, ssrc: u32) -> Resul
 
 /// Where the entry of a source stands if the SSRCs are spread evenly, as random ones are (RFC 3550, 8.1): by the
 /// whole list, and in a long one, where that is still far off, by what stands at that rank.
-fn likely_rank<B: Blocks>(entries: &Shelf<B>, ssrc: u32) -> Option<usize> {
+fn likely_rank<C: Blocks<Cell>, S: Blocks<Slot>>(
+    entries: &Shelf<C, S>,
+    ssrc: u32,
+) -> Option<usize> {
     let count = entries.len() as u64;
     let rank = (u64::from(ssrc).wrapping_mul(count) >> 32) as usize;
     if count <= SHORT_LIST {
@@ -415,8 +436,8 @@ fn likely_rank<B: Blocks>(entries: &Shelf<B>, ssrc: u32) -> Option<usize> {
 }
 
 /// As `search`, but the rank after the last one is tried first: the blocks of a report go by rising SSRC.
-fn search_behind<B: Blocks>(
-    entries: &Shelf<B>,
+fn search_behind<C: Blocks<Cell>, S: Blocks<Slot>>(
+    entries: &Shelf<C, S>,
     walks: &mut Walks,
     last_rank: usize,
     ssrc: u32,
@@ -433,13 +454,19 @@ fn search_behind<B: Blocks>(
 /// A fact comes whose source has no entry. Where it is added, its entry is put into the gap.
 // Inlined, with what adds it apart: nothing is made ready for a fact that a full table turns away.
 #[inline(always)]
-fn admit<B: Blocks>(entries: &mut Shelf<B>, capacity: u32, gap: usize, fact: Fact, t: u64) -> Effect
+fn admit<C: Blocks<Cell>, S: Blocks<Slot>>(
+    entries: &mut Shelf<C, S>,
+    capacity: u32,
+    gap: usize,
+    fact: Fact,
+    t: u64,
+) -> Effect
     requires sorted { IsSortedTable capacity entries.old.items }
     requires room { capacity ≤ entries.old.room }
     requires gap { IsGapFor (subject fact) entries.old.items gap }
     ensures sorted { IsSortedTable capacity entries.new.items }
     ensures room { capacity ≤ entries.new.room }
-    ensures in_place { entries.new.block ≡ entries.old.block }
+    ensures in_place { LieAsBefore entries.old entries.new }
     ensures place { result.applied.place ≡ placed (table_of capacity entries.old.items) fact }
     ensures counted { result.applied.counted ≡ false }
     ensures moved { result.moved ≡ tallies_differ entries.old.items entries.new.items }
@@ -484,12 +511,17 @@ fn without_an_entry(place: Place) -> Effect
 /// Puts an entry for the source of a fact into the gap for it. Returns whether that changed who is a member or who
 /// sends.
 #[inline(always)]
-fn add<B: Blocks>(entries: &mut Shelf<B>, gap: usize, fact: Fact, t: u64) -> bool
+fn add<C: Blocks<Cell>, S: Blocks<Slot>>(
+    entries: &mut Shelf<C, S>,
+    gap: usize,
+    fact: Fact,
+    t: u64,
+) -> bool
     requires gap { IsGapFor (subject fact) entries.old.items gap }
     requires room { length entries.old.items < entries.old.room }
     ensures joined { Joins fact t entries.old.items entries.new.items gap }
     ensures room { entries.new.room ≡ entries.old.room }
-    ensures in_place { entries.new.block ≡ entries.old.block }
+    ensures in_place { LieAsBefore entries.old entries.new }
     ensures moved { result ≡ tallies_differ entries.old.items entries.new.items }
 {
     let before = entries.counts();
@@ -499,7 +531,11 @@ fn add<B: Blocks>(entries: &mut Shelf<B>, gap: usize, fact: Fact, t: u64) -> boo
 }
 
 /// Drops the entry of a source, which stands at `at`, unless the source said goodbye. Returns whether it dropped it.
-fn forget_at<B: Blocks>(entries: &mut Shelf<B>, at: usize, ssrc: u32) -> bool
+fn forget_at<C: Blocks<Cell>, S: Blocks<Slot>>(
+    entries: &mut Shelf<C, S>,
+    at: usize,
+    ssrc: u32,
+) -> bool
     requires rank { IsRankOf ssrc entries.old.items at }
     requires rising { IsRising entries.old.items }
     ensures sorted { (capacity : ℕ) → IsSortedTable capacity entries.old.items →
@@ -507,7 +543,7 @@ fn forget_at<B: Blocks>(entries: &mut Shelf<B>, at: usize, ssrc: u32) -> bool
     ensures stand { (bounds : BoundsOf) → AllStandBy bounds entries.old.items →
         AllStandBy bounds entries.new.items }
     ensures room { entries.new.room ≡ entries.old.room }
-    ensures in_place { entries.new.block ≡ entries.old.block }
+    ensures in_place { LieAsBefore entries.old entries.new }
     ensures held { result ≡ is_such is_unmarked (finite.get (map_of entries.old.items) ssrc) }
     ensures table { (capacity : ℕ) →
         table_of capacity entries.new.items ≡ after_forgetting ssrc (table_of capacity entries.old.items) }
@@ -522,8 +558,8 @@ fn forget_at<B: Blocks>(entries: &mut Shelf<B>, at: usize, ssrc: u32) -> bool
 /// How many entries have no SSRC above `above`: where the others begin. That is after the entry of `above`, if it is
 /// there; in a report, and in a listing, it is, and most likely at the last rank.
 #[inline(always)]
-fn first_above<B: Blocks>(
-    entries: &Shelf<B>,
+fn first_above<C: Blocks<Cell>, S: Blocks<Slot>>(
+    entries: &Shelf<C, S>,
     walks: Walks,
     last_rank: usize,
     above: Option<u32>,
@@ -545,7 +581,10 @@ fn first_above<B: Blocks>(
 }
 
 /// What is told of the source whose entry stands at `at`, if one does.
-fn state_at<B: Blocks>(entries: &Shelf<B>, at: usize) -> Option<SourceState>
+fn state_at<C: Blocks<Cell>, S: Blocks<Slot>>(
+    entries: &Shelf<C, S>,
+    at: usize,
+) -> Option<SourceState>
     ensures { option_map state_value result ≡ first_state (rows_of (drop at entries.now.items)) }
 {
     if at >= entries.len() {
@@ -555,7 +594,11 @@ fn state_at<B: Blocks>(entries: &Shelf<B>, at: usize) -> Option<SourceState>
 }
 
 /// The first source of which a block is due, among those that stand from `from` on and before `until`.
-fn first_due<B: Blocks>(entries: &Shelf<B>, from: usize, until: usize) -> Option<u32>
+fn first_due<C: Blocks<Cell>, S: Blocks<Slot>>(
+    entries: &Shelf<C, S>,
+    from: usize,
+    until: usize,
+) -> Option<u32>
     requires ordered { from ≤ until }
     requires bound { until ≤ length entries.now.items }
     ensures { result ≡ first_ssrc (filter (λ row. is_due row.1)

@@ -8,6 +8,7 @@
 
 ghost use Rattle.std.specs.Prelude.{◌≡◌, ◌≤◌, ◌<◌, ◌*◌, ◌^◌, IfErr, IfOk};
 ghost use Rattle.rtcp_command.specs.Listening.{HasTurns};
+ghost use Rattle.rtcp_members.specs.Tables.{no_members};
 
 mod record_file;
 mod stop_file;
@@ -33,6 +34,7 @@ use rtcp_show::{Watcher, Wording, push_header};
 use rtcp_text::record::Recorder;
 pub use rtcp_text::{Counted, LineFault, ReplayFault, TextFault, check, replay};
 use rtcp_udp::{BindFault, UdpLink};
+use std::alloc::Global;
 use std::env;
 use std::fs::{self, File};
 use std::io::{BufWriter, Read, Write};
@@ -104,8 +106,7 @@ fn run_listen(rt: &HostRuntime, order: ListenOrder) -> Result<End, RunFault>
     if let Some(error) = order.config.error() {
         return Err(RunFault::Config(error));
     }
-    let capacity = order.config.capacity;
-    let table = HeapTable::with_room(alloc, capacity).map_err(|_| RunFault::Memory)?;
+    let table = table_of(alloc, order.config.capacity)?;
     let recorder = match &order.recording {
         Some(file) => Some(SessionRecorder {
             recorder: begin_record(rt, &order, word, file)?,
@@ -131,6 +132,22 @@ fn run_listen(rt: &HostRuntime, order: ListenOrder) -> Result<End, RunFault>
     let _ = rt.stderr().write_all(&closing);
     write_end(rt, &end)?;
     Ok(end)
+}
+
+/// A table for so many sources, from 1 to 1,024.
+///
+/// # Errors
+///
+/// There is no memory for it.
+fn table_of(alloc: Global, capacity: u32) -> Result<HeapTable, RunFault>
+    requires some { 1 ≤ capacity }
+    requires few { capacity ≤ 1024 }
+    ensures { IfOk result (λ table. table ≡ no_members capacity) }
+{
+    match HeapTable::with_room(alloc, capacity) {
+        Ok(table) => Ok(table),
+        Err(_) => Err(RunFault::Memory),
+    }
 }
 
 /// Writes the line before those of a session that is shown to standard error. A failed write is ignored.

@@ -1,6 +1,6 @@
 -- Entries that stay where they are, and an index of them by rising SSRC.
-use Rattle.std.specs.Prelude.{ℕ, ◌≡◌, ◌<◌, ◌≤◌, ◌==◌, ◌+◌, ◌-◌, ◌++◌, false, List, [], ◌∷◌, length, map, take, drop, All, slice_index_or}
-use Rattle.std.specs.List.{count_by}
+use Rattle.std.specs.Prelude.{ℕ, ◌≡◌, ◌<◌, ◌≤◌, ◌==◌, ◌+◌, ◌-◌, false, List, [], length, map, set, take, All, slice_index_or}
+use Rattle.std.specs.List.{count_by, remove}
 use Rattle.rtcp_members.specs.declared.entry.Entry.{Entry}
 use Rattle.rtcp_members.specs.declared.cells.Cell.{Cell}
 use Rattle.rtcp_members.specs.declared.cells.Slot.{Slot}
@@ -25,27 +25,10 @@ no_entry =
     }
 
 abbrev pub no_cell : Cell
-no_cell = record { entry = no_entry; even = no_slot; odd = no_slot; hints = [] }
+no_cell = record { entry = no_entry; hints = [] }
 
 abbrev pub entries_in : List Cell → List Entry
 entries_in cells = map (λ (cell : Cell). cell.entry) cells
-
--- the slots of cells, two in each
-abbrev pub pairs_in : List Cell → List Slot
-pairs_in [] = []
-pairs_in (cell ∷ cells) = cell.even ∷ cell.odd ∷ pairs_in cells
-
--- those of an index: as many as there are cells
-abbrev pub slots_in : List Cell → List Slot
-slots_in cells = take (length cells) (pairs_in cells)
-
--- the same without the last
-abbrev pub front_slots : List Cell → List Slot
-front_slots cells = take (length cells - 1) (pairs_in cells)
-
--- the same without the last before the rank `end`, or the last of all
-abbrev pub spared_slots : ℕ → List Cell → List Slot
-spared_slots end cells = take (end - 1) (front_slots cells) ++ drop end (slots_in cells)
 
 -- the entry of a slot
 abbrev pub entry_in : List Entry → Slot → Entry
@@ -55,8 +38,13 @@ abbrev pub picked : List Entry → List Slot → List Entry
 picked entries slots = map (entry_in entries) slots
 
 -- the entries of the first slots, by rank
-abbrev pub in_order : List Cell → ℕ → List Entry
-in_order cells used = picked (entries_in cells) (take used (slots_in cells))
+abbrev pub in_order : List Cell → List Slot → ℕ → List Entry
+in_order cells slots used = picked (entries_in cells) (take used slots)
+
+-- slots of which two have changed places
+abbrev pub exchanged : List Slot → (one other : ℕ) → List Slot
+exchanged slots one other =
+    set (set slots one (slice_index_or slots other no_slot)) other (slice_index_or slots one no_slot)
 
 abbrev pub place_at : List Slot → ℕ → ℕ
 place_at slots at = (slice_index_or slots at no_slot).place
@@ -64,13 +52,6 @@ place_at slots at = (slice_index_or slots at no_slot).place
 -- A slot has the SSRC of its entry.
 abbrev pub IsKeyed : List Entry → Slot → Type 0
 IsKeyed entries slot = slot.ssrc ≡ (entry_in entries slot).ssrc
-
--- Where a search by halves has come: the SSRCs of the ranks before `low` are lesser, and of none from `high` on.
-pub record IsHalved (entries : List Entry) (ssrc low high : ℕ) : Type 0 where
-  pub order : low ≤ high
-  pub until : high ≤ length entries
-  pub lesser : (k : ℕ) → k < low → (slice_index_or entries k no_entry).ssrc < ssrc
-  pub greater : (k : ℕ) → high ≤ k → k < length entries → ssrc ≤ (slice_index_or entries k no_entry).ssrc
 
 -- No two slots have the same place, and there is something at each.
 pub record ArePlaces (entries : List Entry) (slots : List Slot) : Type 0 where
@@ -86,10 +67,10 @@ pub record IsHeap (entries : List Entry) (slots : List Slot) (used : ℕ) : Type
   pub keyed : All (IsKeyed entries) (take used slots)
   pub few : length entries ≤ 1024
 
--- Cells of which the first slots are those in use, by rising SSRC.
-pub record IsIndexed (cells : List Cell) (used : ℕ) : Type 0 where
-  pub heap : IsHeap (entries_in cells) (slots_in cells) used
-  pub rising : IsRising (in_order cells used)
+-- Cells with an index, of which the first slots are those in use, by rising SSRC.
+pub record IsIndexed (cells : List Cell) (slots : List Slot) (used : ℕ) : Type 0 where
+  pub heap : IsHeap (entries_in cells) slots used
+  pub rising : IsRising (in_order cells slots used)
 
 -- An entry is laid at a place that no slot has, and what the slots have stays.
 pub record IsPut (entries next : List Entry) (slots new_slots : List Slot) (used place : ℕ) (entry : Entry) :
@@ -102,3 +83,9 @@ pub record IsPut (entries next : List Entry) (slots new_slots : List Slot) (used
   pub in_use : used ≤ length new_slots
   pub all : length new_slots + 1 ≡ length next
   pub taken : take used new_slots ≡ take used slots
+
+-- A slot has come behind the others in use. What lies by them is as before, but for that of its place.
+pub record IsMovedBehind (slots next : List Slot) (used at : ℕ) : Type 0 where
+  pub as_many : length next ≡ length slots
+  pub others : remove (take used slots) at ≡ take (used - 1) next
+  pub heap : (entries : List Entry) → IsHeap entries slots used → IsHeap entries next used

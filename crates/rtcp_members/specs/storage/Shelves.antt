@@ -8,34 +8,41 @@ use Rattle.rtcp_wire.specs.Values.{ReportBlock}
 use Rattle.rtcp_wire.specs.Writing.{IsWritableBlock}
 use Rattle.rtcp_source.specs.Blocks.{block_for}
 use Rattle.rtcp_members.specs.declared.cells.Cell.{Cell}
+use Rattle.rtcp_members.specs.declared.cells.Slot.{Slot}
 use Rattle.rtcp_members.specs.declared.entry.Entry.{Entry}
 use Rattle.rtcp_members.specs.declared.counts.Counts.{Counts}
 use Rattle.rtcp_members.specs.declared.table.Effect.{Effect}
 use Rattle.rtcp_members.specs.Pending.{reported_entry}
 use Rattle.rtcp_members.specs.storage.Standing.{AreCounts}
 use Rattle.rtcp_members.specs.Tables.{counted_of, entry_after, entry_with_fact, new_entry, place_of}
-use Rattle.rtcp_members.specs.contracts.cells.Cell.{the_row}
 use Rattle.rtcp_members.specs.Entries.{EntryValue, is_member, is_sender}
 use Rattle.rtcp_members.specs.ListViews.{entry_value, tally_of}
 use Rattle.rtcp_members.specs.storage.Heaps.{in_order, IsIndexed}
 use denote.RawPtr.{Ptr}
 
--- The entries in order, how many there is room for, and the block of memory that they lie in, where they lie in one
--- of their own.
+-- The entries in order, how many there is room for, and the blocks of memory that they and their index lie in, where
+-- these lie in some of their own.
 pub record ShelfValue : Type 0 where
   pub items : List Entry
   pub room : ℕ
   pub block : Option Ptr
+  pub index_block : Option Ptr
 
--- Cells of which the first slots are those in use, by rising SSRC, and whose entries are counted.
-pub record IsCounted (cells : List Cell) (used : ℕ) (counts : Counts) : Type 0 where
-  pub index : IsIndexed cells used
-  pub counted : AreCounts counts (in_order cells used)
+-- No block is another one.
+pub record LieAsBefore (old new : ShelfValue) : Type 0 where
+  pub block : new.block ≡ old.block
+  pub index : new.index_block ≡ old.index_block
 
--- What holds of a shelf.
-pub record IsShelf (cells : List Cell) (used room : ℕ) (counts : Counts) : Type 0 where
-  pub kept : IsCounted cells used counts
+-- Cells with an index, of which the first slots are those in use, by rising SSRC, and whose entries are counted.
+pub record IsCounted (cells : List Cell) (slots : List Slot) (used : ℕ) (counts : Counts) : Type 0 where
+  pub index : IsIndexed cells slots used
+  pub counted : AreCounts counts (in_order cells slots used)
+
+-- What holds of a shelf: there is room for a slot of each cell.
+pub record IsShelf (cells : List Cell) (slots : List Slot) (used room index_room : ℕ) (counts : Counts) : Type 0 where
+  pub kept : IsCounted cells slots used counts
   pub few : room ≤ 1024
+  pub indexed : room ≤ index_room
 
 -- The entry of a rank becomes another one of the same source, of which the value is changed so.
 pub record IsChanged (change : EntryValue → EntryValue) (entries next : List Entry) (at : ℕ) : Type 0 where
@@ -73,7 +80,7 @@ pub record MakesBlock (moment : ℕ) (entries next : List Entry) (at : ℕ) (val
       Some value ≡ block_for (slice_index_or entries at d).ssrc moment (slice_index_or entries at d).source
   pub writable : IsWritableBlock value
 
--- once the borrow r ends, s has the cells that r shows last
-abbrev pub LendsCells : (S : RattleType) → MutBor S.Denot → MutBor (List Cell) →
-    (S.Denot → List Cell → S.Denot) → Fml
-LendsCells S s r with_cells = Lends S (Array the_row 0) s r (with_cells s.now)
+-- once the borrow r ends, s has the values that r shows last
+abbrev pub LendsRow : (S T : RattleType) → MutBor S.Denot → MutBor (List T.Denot) →
+    (S.Denot → List T.Denot → S.Denot) → Fml
+LendsRow S T s r with_row = Lends S (Array T 0) s r (with_row s.now)

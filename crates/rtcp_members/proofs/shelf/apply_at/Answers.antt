@@ -11,9 +11,11 @@ use Rattle.rtcp_members.proofs.Ranked.{IsAtRank, at_rank, read_ranked, among_ran
 use Rattle.rtcp_members.proofs.shelf.apply_at.Goals as goal
 use Rattle.rtcp_members.proofs.shelf.apply_at.Goals.{After-index-cells-place}
 
-seen : (c : After-index-cells-place) → IsAtRank c.args.cells.now c.args.used c.args.at c.slot_at-place.result
+seen : (c : After-index-cells-place) →
+    IsAtRank c.args.cells.now c.args.slots.now c.args.used c.args.at c.slot_at-place.result
     (slice_index_or c.args.cells.now c.slot_at-place.result.place c.index-cells-place.result)
-seen c = at_rank c.args.cells.now c.args.used c.args.at c.slot_at-place.result c.index-cells-place.result
+seen c =
+    at_rank c.args.cells.now c.args.slots.now c.args.used c.args.at c.slot_at-place.result c.index-cells-place.result
     c.requires.kept.index.heap c.requires.stands c.slot_at-place.ensures
 
 pub apply-requires : goal.apply-requires

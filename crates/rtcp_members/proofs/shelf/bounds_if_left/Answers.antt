@@ -7,7 +7,7 @@ use Rattle.rtcp_members.specs.declared.cells.Slot.{Slot}
 use Rattle.rtcp_members.specs.declared.entry.Entry.{Entry}
 use Rattle.rtcp_members.specs.ListViews.{entry_value}
 use Rattle.rtcp_members.specs.storage.Standing.{AllStandBy, StandsBy}
-use Rattle.rtcp_members.specs.storage.Heaps.{entries_in, slots_in, no_cell, no_entry}
+use Rattle.rtcp_members.specs.storage.Heaps.{entries_in, no_cell, no_entry}
 use Rattle.rtcp_members.proofs.BoundLemmas.{all_covered, all_picked}
 use Rattle.rtcp_members.proofs.shelf.bounds_if_left.Goals as goal
 
@@ -34,8 +34,8 @@ returns c =
     let all : AllStandBy c.cells.bounds (entries_in cells) = subst (AllStandBy c.cells.bounds)
     (take_all c.cells.cell-index (entries_in cells) past) c.cells.invariant in
     record {
-      stand = all_picked c.cells.bounds (entries_in cells) (take c.args.used (slots_in cells))
-          (All-take (λ (slot : Slot). slot.place < length (entries_in cells)) c.args.used (slots_in cells)
+      stand = all_picked c.cells.bounds (entries_in cells) (take c.args.used c.args.slots.now)
+          (All-take (λ (slot : Slot). slot.place < length (entries_in cells)) c.args.used c.args.slots.now
           c.requires.heap.places.within) all;
       within = c.reach.ensures c.if-not-reach.false;
     }

@@ -1,41 +1,50 @@
 -- One rank after the other, and then it stands last.
-use Rattle.std.proofs.Common.{◌<◌, ◌≡◌, ◌+◌, ◌-◌, suc, List, length, arith, sym, ap, ◌∙◌}
+use Rattle.std.proofs.Common.{◌<◌, ◌≤◌, ◌≡◌, ◌+◌, ◌-◌, suc, List, length, take, arith, refl, sym, ap, subst, ◌∙◌}
 use Rattle.std.specs.List.{remove}
-use Rattle.rtcp_members.specs.declared.entry.Entry.{Entry}
-use Rattle.rtcp_members.specs.storage.Heaps.{in_order, no_entry}
+use Rattle.std.proofs.lemmas.List.{length-take-le, take-take}
+use Rattle.rtcp_members.specs.declared.cells.Slot.{Slot}
+use Rattle.rtcp_members.specs.storage.Heaps.{IsHeap, no_slot}
 use Rattle.rtcp_members.proofs.Leaving.{leaves_later, last_leaves}
-use Rattle.rtcp_members.proofs.Pairs.{as_many}
-use Rattle.rtcp_members.proofs.Ranked.{length_ranked, first_ranked, heap_first, exchanged_ranked, heap_exchanged}
+use Rattle.rtcp_members.proofs.Ranked.{length_exchanged, taken_exchanged, heap_exchanged}
 use Rattle.rtcp_members.proofs.shelf.move_behind.Goals as goal
+
+pub ranks-init : goal.ranks-init
+ranks-init c = record { heap = λ entries heap. heap; others = refl; as_many = refl }
 
 pub ranks-preserved : goal.ranks-preserved
 ranks-preserved c =
     let so = c.ranks.invariant in
-    let low : c.ranks.rank < c.args.used = omega (arith, c.ranks-test.true) in
-    let high : c.ranks.rank + 1 < c.args.used = omega (arith, c.ranks-test.true) in
+    let slots : List Slot = c.ranks.slots in
+    let used = c.args.used in
+    let low : c.ranks.rank < used = omega (arith, c.ranks-test.true) in
+    let high : c.ranks.rank + 1 < used = omega (arith, c.ranks-test.true) in
     let next : c.ranks.rank + 1 ≡ suc c.ranks.rank = omega arith in
-    let within : c.ranks.rank + 1 < length (in_order c.ranks.cells c.args.used) = omega
-    (arith, high, length_ranked c.ranks.cells c.args.used so.heap) in
+    let in_use : used ≤ length slots = omega (arith, c.requires.in_use, so.as_many) in
+    let within : c.ranks.rank + 1 < length (take used slots) = omega
+    (arith, high, length-take-le used slots in_use) in
     record {
-      heap = heap_exchanged c.ranks.cells c.exchange.new.cells c.args.used c.ranks.rank (c.ranks.rank + 1) so.heap low
-          high c.exchange.ensures.entries c.exchange.ensures.slots;
-      others = ap (λ (xs : List Entry). remove xs (c.ranks.rank + 1)) (exchanged_ranked c.ranks.cells
-          c.exchange.new.cells c.args.used c.ranks.rank (c.ranks.rank + 1) so.heap low high c.exchange.ensures.entries
-          c.exchange.ensures.slots no_entry)
-          ∙ leaves_later (in_order c.ranks.cells c.args.used) c.ranks.rank (c.ranks.rank + 1) no_entry next within
+      heap = λ entries heap. subst (λ xs. IsHeap entries xs used) (sym c.exchange.ensures)
+          (heap_exchanged entries slots used c.ranks.rank (c.ranks.rank + 1) (so.heap entries heap) low high);
+      others = ap (λ xs. remove (take used xs) (c.ranks.rank + 1)) c.exchange.ensures
+          ∙ ap (λ xs. remove xs (c.ranks.rank + 1)) (taken_exchanged slots used c.ranks.rank (c.ranks.rank + 1) in_use
+          low high)
+          ∙ leaves_later (take used slots) c.ranks.rank (c.ranks.rank + 1) no_slot next within
           ∙ so.others;
-      as_many = as_many c.ranks.cells c.exchange.new.cells c.exchange.ensures.entries ∙ so.as_many;
+      as_many = ap (λ (xs : List Slot). length xs) c.exchange.ensures
+          ∙ length_exchanged slots c.ranks.rank (c.ranks.rank + 1) ∙ so.as_many;
     }
 
-pub returns-clause-heap : goal.returns-clause-heap
-returns-clause-heap c = heap_first c.ranks.cells c.args.used (c.args.used - 1) c.ranks.invariant.heap (omega arith)
-
-pub returns-clause-items : goal.returns-clause-items
-returns-clause-items c =
+pub returns : goal.returns
+returns c =
     let so = c.ranks.invariant in
-    let items : List Entry = in_order c.ranks.cells c.args.used in
-    let last : c.args.used - 1 ≡ c.ranks.rank = omega (arith, c.ranks-test.false) in
-    sym (first_ranked c.ranks.cells c.args.used (c.args.used - 1) so.heap (omega arith))
-    ∙ sym (last_leaves items c.args.used (length_ranked c.ranks.cells c.args.used so.heap) (omega
-    (arith, c.requires.stands)))
-    ∙ ap (λ n. remove items n) last ∙ so.others
+    let slots : List Slot = c.ranks.slots in
+    let used = c.args.used in
+    let last : used - 1 ≡ c.ranks.rank = omega (arith, c.ranks-test.false) in
+    let in_use : used ≤ length slots = omega (arith, c.requires.in_use, so.as_many) in
+    record {
+      as_many = so.as_many;
+      others = sym so.others ∙ ap (λ n. remove (take used slots) n) (sym last)
+          ∙ last_leaves (take used slots) used (length-take-le used slots in_use) (omega (arith, c.requires.stands))
+          ∙ take-take (used - 1) used slots (omega arith);
+      heap = so.heap;
+    }
