@@ -91,7 +91,7 @@ pub extern "C" fn jalwedd_arrive_rtp(
         return empty(step);
     };
     if datagram.len() > LONGEST {
-        return handle.put_back_untold(session, TOO_LONG, step);
+        return handle.put_back_refused(session, TOO_LONG, step);
     }
     let Some(moment) = session.moment_of(now) else {
         return handle.put_back_early(session, step);
@@ -99,7 +99,7 @@ pub extern "C" fn jalwedd_arrive_rtp(
     let reply = session
         .participant
         .arrive_rtp_into(moment, peer, word, datagram, octets);
-    handle.put_back(session, &reply, step)
+    handle.put_back_of_packet(session, &reply, step)
 }
 
 /// The host sent an RTP packet when its clock showed `now`, in microseconds, with this RTP timestamp and so many octets

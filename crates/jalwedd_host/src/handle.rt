@@ -17,8 +17,8 @@ use crate::session::HostSession;
 use crate::source::{HostSource, before};
 use crate::status::{TAKEN, of_refusal};
 use crate::step::HostStep;
-use rtcp_engine::Reply;
 use rtcp_engine::laws::told_moments_have_passed;
+use rtcp_engine::{Refusal, Reply};
 use std::alloc::Global;
 use std::mem;
 
@@ -83,6 +83,35 @@ impl Handle {
         }
     }
 
+    /// `put_back` after an RTP packet, the most frequent call: rare refusals are told out of line.
+    // So the path of a packet that is taken has nothing of them to jump over. A peer may come with the own SSRC again
+    // and again, so that is told in line.
+    #[inline(always)]
+    pub fn put_back_of_packet(
+        &mut self,
+        session: Box<HostSession>,
+        reply: &Reply,
+        step: &mut HostStep,
+    ) -> u32
+        requires vacant { self.old.owned.held ≡ None }
+        requires written { size_written (out_told reply.now) ≤ 1472 }
+        requires standing { IfOk reply.now (λ told. SaysStanding told.standing session.value.participant) }
+        ensures held { self.new.owned.held ≡ Some session.value }
+        ensures status { (octets : List ℕ) → result ≡ status_of (reply_value octets reply.now) }
+        ensures handed { (was octets : List ℕ) → LeavesRest was octets (out_told reply.now) →
+            HandsOut step.new was octets (reply_value octets reply.now) }
+        ensures shown { (start : ℕ) (history : History) → Leads session.value start history →
+            Shows start step.new history }
+    {
+        match reply {
+            Ok(_) | Err(Refusal::OwnSsrc) => self.put_back(session, reply, step),
+            Err(refusal) => {
+                let number = of_refusal(refusal);
+                self.put_back_refused(session, number, step)
+            }
+        }
+    }
+
     /// Puts back a session that a call told nothing, says how its participant stands, and returns the status.
     pub fn put_back_untold(
         &mut self,
@@ -102,6 +131,25 @@ impl Handle {
         status
     }
 
+    /// `put_back_untold` out of line, for what is rare.
+    #[cold]
+    #[inline(never)]
+    pub fn put_back_refused(
+        &mut self,
+        session: Box<HostSession>,
+        status: u32,
+        step: &mut HostStep,
+    ) -> u32
+        requires { self.old.owned.held ≡ None }
+        ensures held { self.new.owned.held ≡ Some session.value }
+        ensures status { result ≡ status }
+        ensures nothing { HandsNothing step.new }
+        ensures shown { (start : ℕ) (history : History) → Leads session.value start history →
+            Shows start step.new history }
+    {
+        self.put_back_untold(session, status, step)
+    }
+
     /// Puts back a session to which a call came before the start, says how its participant stands, and returns the
     /// status.
     // Out of line, so that no call that is taken pays for it.
@@ -117,7 +165,7 @@ impl Handle {
             Shows start step.new history }
     {
         let status = of_refusal(&session.early_refusal());
-        self.put_back_untold(session, status, step)
+        self.put_back_refused(session, status, step)
     }
 
     /// How many entries the table holds: none where the handle is empty.

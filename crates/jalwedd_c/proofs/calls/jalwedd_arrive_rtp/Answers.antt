@@ -12,7 +12,7 @@ returns-in_default-moment_of-clause-early c fits =
 
 pub returns-clause-serves : goal.returns-clause-serves
 returns-clause-serves c start moment history reading fits leads told is =
-    let put = c.put_back.ensures in
+    let put = c.put_back_of_packet.ensures in
     let reply = c.arrive_rtp_into-reply.ensures in
     serves _ c.in-Some.ensures.gives leads c.deref.ensures c.in-Some-moment_of.ensures told c.deref_mut.ensures.value
     refl (λ m. rtp_came m c.args.peer c.args.word reading) (reply.takes reading is) put.held (put.status _)
@@ -20,7 +20,7 @@ returns-clause-serves c start moment history reading fits leads told is =
 
 pub returns-then-datagram-gt-LONGEST-clause-turns_away : goal.returns-then-datagram-gt-LONGEST-clause-turns_away
 returns-then-datagram-gt-LONGEST-clause-turns_away c long =
-    let put = c.put_back_untold.ensures in
+    let put = c.put_back_refused.ensures in
     record {
       too_long = λ session is. (put.status, put.nothing, refl);
       still_shows = λ start history leads.
