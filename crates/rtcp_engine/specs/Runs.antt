@@ -1,9 +1,11 @@
 -- What a run hands to its sink. Answers are in their order, the first one first; compounds are newest first.
-use Rattle.std.specs.Prelude.{◌≡◌, ◌++◌, ◌&&◌, not, Bool, true, false, List, [], ◌∷◌, length, drop, Option, Some, None, is_some, Ok, Err}
+use Rattle.std.specs.Prelude.{◌≡◌, ◌++◌, ◌&&◌, not, Bool, IsTrue, true, false, List, [], ◌∷◌, length, drop, Option, Some, None, is_some, Ok, Err}
 use Rattle.rtcp_engine.specs.declared.step.OutKind.TheVariants.{Report, Bye}
-use Rattle.rtcp_engine.specs.Acts.{Act, moment_of}
+use Rattle.rtcp_engine.specs.Acts.{Act, ticked, moment_of}
 use Rattle.rtcp_engine.specs.Answers.{followed_by, followed_by_all}
 use Rattle.rtcp_engine.specs.Histories.{History, session_at}
+use Rattle.rtcp_engine.specs.InTime.{IsOverdue}
+use Rattle.rtcp_engine.specs.Refusals.{refusal_after}
 use Rattle.rtcp_engine.specs.Sent.{Sent, deciding_interval, handed_out, sent_at}
 use Rattle.rtcp_engine.specs.Spacing.{AreBounded, first_leave}
 use Rattle.rtcp_engine.specs.Steps.{AnswerValue, OutValue}
@@ -41,12 +43,49 @@ abbrev pub EndAtGoodbye : List AnswerValue → Type 0
 EndAtGoodbye [] = Unit {0}
 EndAtGoodbye (answer ∷ later) = (says_goodbye answer ≡ true → AreRefusals later) × EndAtGoodbye later
 
+-- ---- In time
+
+abbrev pub HasCompound : AnswerValue → Type 0
+HasCompound (Ok step) = IsTrue (is_some step.out)
+HasCompound (Err refusal) = ⊥
+
+-- A tick that comes late, and is taken, has an answer with a compound: a report, or in a backoff the BYE.
+abbrev pub IsAnsweredInTime : History → Act → AnswerValue → Type 0
+IsAnsweredInTime history (ticked moment first_word second_word) answer =
+    IsOverdue history (ticked moment first_word second_word) →
+    refusal_after history (ticked moment first_word second_word) ≡ None → HasCompound answer
+IsAnsweredInTime history act answer = Unit {0}
+
+-- Each tick that has an answer has such a one.
+abbrev pub AnsweredInTime : History → List Act → List AnswerValue → Type 0
+AnsweredInTime history [] answers = Unit {0}
+AnsweredInTime history (act ∷ acts) [] = Unit {0}
+AnsweredInTime history (act ∷ acts) (answer ∷ answers) =
+    IsAnsweredInTime history act answer × AnsweredInTime (followed_by history act) acts answers
+
+-- ---- Refusals
+
+-- An act whose answer is a refusal changes nothing.
+abbrev pub IsRefusalForgotten : History → Act → AnswerValue → Type 0
+IsRefusalForgotten history act (Ok step) = Unit {0}
+IsRefusalForgotten history act (Err refusal) = followed_by history act ≡ history
+
+abbrev pub AreRefusalsForgotten : History → List Act → List AnswerValue → Type 0
+AreRefusalsForgotten history [] answers = Unit {0}
+AreRefusalsForgotten history (act ∷ acts) [] = Unit {0}
+AreRefusalsForgotten history (act ∷ acts) (answer ∷ answers) =
+    IsRefusalForgotten history act answer × AreRefusalsForgotten (followed_by history act) acts answers
+
 -- ---- All together
 
 -- What holds of the answers that are handed over to acts after a history. Their compounds, with all that was sent
 -- before, keep the bounds: reports lie apart, few lie in a window, the BYE of leaving comes last, and none passes the
--- limit.
+-- limit. A tick that comes late sends, and what is refused changes nothing.
 pub record HandsOver (history : History) (acts : List Act) (answers : List AnswerValue) : Type 0 where
+  -- A tick that comes late sends.
+  pub in_time : AnsweredInTime history acts answers
+  -- What is refused changes nothing.
+  pub refused : AreRefusalsForgotten history acts answers
   pub bounded : let after = followed_by_all history acts in
       AreBounded (first_leave after.acts) after.setup.limit (handed_over history acts answers ++ sent_at history)
   pub ends : EndAtGoodbye answers
