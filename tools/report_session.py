@@ -387,10 +387,13 @@ class Session:
             self.leave = moment
 
     def _configure(self, _: Answer, moment: int, *fields: bytes) -> None:
-        if self.leave is None:
-            self._pace = *self._paced(moment), moment + 5 * self._check_interval(moment)
+        given = int(fields[0]), int(fields[1])
+        if self.leave is None and given != self._bandwidths:
+            _, members, senders = self.counts[-1]  # before the call
+            end = moment + 5 * self._interval(members, senders, False, self._bandwidths)
+            self._pace = *self._paced(moment), max(self._pace[2], end)
         self._clocks = participant.NUMBERS["clocks"](fields[2])
-        self._bandwidths = int(fields[0]), int(fields[1])
+        self._bandwidths = given
         self.shares.append((moment, *self._bandwidths))
 
     def _forget(self, _: Answer, moment: int, source: bytes) -> None:

@@ -437,8 +437,9 @@ class Participant:
         fault = settings_fault(sender_bw, receiver_bw, clocks, items)
         if fault:
             raise Refusal("E8 Settings: " + fault)
-        if self.is_present():
-            self.pace = *self.paced(moment), moment + 5 * self.check_interval(moment)
+        if self.is_present() and self.bandwidths != (sender_bw, receiver_bw):
+            end = moment + 5 * self.interval(is_sender=False)
+            self.pace = *self.paced(moment), max(self.pace[2], end)
         self.bandwidths, self.clocks, self.items = (sender_bw, receiver_bw), clocks, items
         return self.end_call(moment)
 

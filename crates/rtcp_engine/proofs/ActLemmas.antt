@@ -174,7 +174,7 @@ set_still settings pace s o still = record {
 
 -- what one does that is given settings
 pub acts_configured : {p : ParticipantValue} (settings : SettingsValue) (pace : Option Pace) →
-    IsPaceOf p.presence pace →
+    IsPaceOf settings p.presence pace →
     Acts p (record p { presence = with_settings_in settings pace p.presence }) (configured p.presence.latest settings)
     None false
 acts_configured {p} settings pace paced = record {
@@ -225,7 +225,7 @@ acts_configured {p} settings pace paced = record {
 
 -- the same of one that another became
 pub acts_set : {phase : PhaseValue} {changes : List IdentifierChange} {old new : State} (settings : SettingsValue) →
-    new ≡ with_settings_in settings new.pace old → IsPaceOf old new.pace → let p : ParticipantValue = record {
+    new ≡ with_settings_in settings new.pace old → IsPaceOf settings old new.pace → let p : ParticipantValue = record {
       presence = old;
       phase = phase;
       changes = changes;

@@ -44,6 +44,11 @@ pub use Rattle.rtcp_engine.proofs.Pacing.{still_kept as settings_drop_nobody_soo
 pub use Rattle.rtcp_engine.proofs.Pacing.{heard_lately as settings_drop_nobody_sooner-heard}
 pub use Rattle.rtcp_engine.proofs.Pacing.{present_alone as settings_drop_nobody_sooner-afterwards}
 pub use Rattle.rtcp_engine.proofs.Pacing.{paces_are_usable as settings_drop_nobody_sooner-usable}
+pub use Rattle.rtcp_engine.proofs.PaceEnds.{same_pace as former_paces_end-same}
+pub use Rattle.rtcp_engine.proofs.PaceEnds.{end_stays as former_paces_end-stays}
+pub use Rattle.rtcp_engine.proofs.PaceEnds.{end_of_session as former_paces_end-end}
+pub use Rattle.rtcp_engine.proofs.PaceEnds.{alone_after as former_paces_end-alone}
+pub use Rattle.rtcp_engine.proofs.PaceEnds.{dropped_after as former_paces_end-dropped}
 
 -- ---- Readings
 
@@ -204,7 +209,7 @@ changes_bring_one_bye session act new is =
 -- ---- Settings
 
 settings_live : (setup : Setup) (moment : ℕ) (settings : SettingsValue) (life : Life) →
-    lived setup (configured moment settings) life ≡ with_pace_in setup moment life
+    lived setup (configured moment settings) life ≡ with_pace_in setup settings moment life
 settings_live setup moment settings (present outcome) = refl
 settings_live setup moment settings (backing_off outcome backoff) = refl
 settings_live setup moment settings (gone outcome) = refl
@@ -217,21 +222,21 @@ settings_send setup moment settings (gone outcome) = refl
 
 pub settings_touch_the_setup_alone-life : (history : History) (moment : ℕ) (settings : SettingsValue) →
     life_at (with_act history (configured moment settings))
-    ≡ with_pace_in (setup_at history) moment (life_at history)
+    ≡ with_pace_in (setup_at history) settings moment (life_at history)
 settings_touch_the_setup_alone-life history moment settings =
     settings_live (setup_at history) moment settings (life_at history)
 
-same_next : (setup : Setup) (moment : ℕ) (life : Life) →
-    next_in_life (with_pace_in setup moment life) ≡ next_in_life life
-same_next setup moment (present outcome) = refl
-same_next setup moment (backing_off outcome backoff) = refl
-same_next setup moment (gone outcome) = refl
+same_next : (setup : Setup) (settings : SettingsValue) (moment : ℕ) (life : Life) →
+    next_in_life (with_pace_in setup settings moment life) ≡ next_in_life life
+same_next setup settings moment (present outcome) = refl
+same_next setup settings moment (backing_off outcome backoff) = refl
+same_next setup settings moment (gone outcome) = refl
 
 pub settings_touch_the_setup_alone-next : (history : History) (moment : ℕ) (settings : SettingsValue) →
     next_in_life (life_at (with_act history (configured moment settings))) ≡ next_in_life (life_at history)
 settings_touch_the_setup_alone-next history moment settings =
     ap next_in_life (settings_touch_the_setup_alone-life history moment settings)
-    ∙ same_next (setup_at history) moment (life_at history)
+    ∙ same_next (setup_at history) settings moment (life_at history)
 
 pub settings_touch_the_setup_alone-sent : (history : History) (moment : ℕ) (settings : SettingsValue) →
     sent_at (with_act history (configured moment settings)) ≡ sent_at history

@@ -10,14 +10,14 @@ use Rattle.rtcp_timer.specs.declared.load.Load.{Load}
 use Rattle.rtcp_timer.specs.Loads.{interval_of}
 use Rattle.rtcp_timer.proofs.LawLemmas as timers
 use Rattle.rtcp_engine.specs.declared.pace.Pace.{Pace}
-use Rattle.rtcp_engine.specs.Setups.{Setup, SettingsValue, IsUsable, with_settings}
+use Rattle.rtcp_engine.specs.Setups.{Setup, SettingsValue, IsUsable, keeps_bandwidths, with_settings}
 use Rattle.rtcp_engine.specs.Acts.{Act, arrived, rtcp, rtp, rtp_sent, ticked, left, configured, forgotten}
 use Rattle.rtcp_engine.specs.OwnStreams.{we_sent}
-use Rattle.rtcp_engine.specs.Outcomes.{Outcome, member_count, sender_count, one_if, newest_pace, slowed_by, receiver_load, receiver_interval_at, check_load, check_interval, pace_at, IsPace}
+use Rattle.rtcp_engine.specs.Outcomes.{Outcome, member_count, sender_count, one_if, newest_pace, slowed_by, receiver_load, receiver_interval_at, check_load, check_interval, pace_at, with_pace, IsPace}
 use Rattle.rtcp_engine.specs.Ticks.{checked, horizons_of}
 use Rattle.rtcp_engine.specs.Changes.{NewIdentifier, Session, change_by, changed_by}
 use Rattle.rtcp_engine.specs.Histories.{History, life_at, session_of, setup_at}
-use Rattle.rtcp_engine.specs.Leaving.{Life, present, backing_off, gone}
+use Rattle.rtcp_engine.specs.Leaving.{Backoff, Life, present, backing_off, gone}
 use Rattle.rtcp_engine.specs.Lives.{lived, with_new_ssrc}
 use Rattle.rtcp_engine.specs.Pacing.{IsPaced, unpaced}
 use Rattle.rtcp_engine.specs.Taken.{AllTaken}
@@ -137,42 +137,71 @@ pace_usable setup t outcome usable paced =
           usable.for_others.0),
     )
 
-abbrev PacedIn : Life → Type 0
-PacedIn (present outcome) = IfSome (newest_pace outcome.paces) IsPace
-PacedIn (backing_off outcome backoff) = Unit {0}
-PacedIn (gone outcome) = Unit {0}
+-- what holds of the paces of one that takes part
+abbrev pub InPaces : (List Pace → Type 0) → Life → Type 0
+InPaces P (present outcome) = P outcome.paces
+InPaces P (backing_off outcome backoff) = Unit {0}
+InPaces P (gone outcome) = Unit {0}
 
-paced_on : (setup : Setup) (act : Act) (life : Life) → IsUsable setup → PacedIn life → PacedIn (lived setup act life)
-paced_on setup (arrived t peer word (rtcp size (Ok packets))) (present outcome) usable paced = paced
-paced_on setup (arrived t peer word (rtcp size (Err fault))) (present outcome) usable paced = paced
-paced_on setup (arrived t peer word (rtp (Ok head))) (present outcome) usable paced = paced
-paced_on setup (arrived t peer word (rtp (Err fault))) (present outcome) usable paced = paced
-paced_on setup (rtp_sent t timestamp octets) (present outcome) usable paced = paced
-paced_on setup (ticked t first_word second_word) (present outcome) usable paced =
-    of_check (λ (now : Outcome). IfSome (newest_pace now.paces) IsPace) setup t first_word second_word
-    (checked setup t outcome) paced paced paced
-paced_on setup (left t word) (present outcome) usable paced = of_leave PacedIn setup t word outcome tt tt
-paced_on setup (configured t settings) (present outcome) usable paced = pace_usable setup t outcome usable paced
-paced_on setup (forgotten t ssrc) (present outcome) usable paced = paced
-paced_on setup (arrived t peer word (rtcp size reading)) (backing_off outcome backoff) usable paced = tt
-paced_on setup (arrived t peer word (rtp reading)) (backing_off outcome backoff) usable paced = tt
-paced_on setup (rtp_sent t timestamp octets) (backing_off outcome backoff) usable paced = tt
-paced_on setup (ticked t first_word second_word) (backing_off outcome backoff) usable paced =
-    of_wait PacedIn setup t first_word outcome backoff tt tt
-paced_on setup (left t word) (backing_off outcome backoff) usable paced = tt
-paced_on setup (configured t settings) (backing_off outcome backoff) usable paced = tt
-paced_on setup (forgotten t ssrc) (backing_off outcome backoff) usable paced = tt
-paced_on setup act (gone outcome) usable paced = tt
+-- the paces after an act
+abbrev pub paces_by : Setup → Act → Outcome → List Pace
+paces_by setup (configured t settings) outcome = (with_pace setup settings t outcome).paces
+paces_by setup act outcome = outcome.paces
 
-renamed_paced : (setup : Setup) (life : Life) → PacedIn life → PacedIn (with_new_ssrc setup life)
-renamed_paced setup (present outcome) paced = paced
-renamed_paced setup (backing_off outcome backoff) paced = tt
-renamed_paced setup (gone outcome) paced = tt
+pub paces_on : (P : List Pace → Type 0) (setup : Setup) (act : Act) (outcome : Outcome) →
+    P (paces_by setup act outcome) → InPaces P (lived setup act (present outcome))
+paces_on P setup (arrived t peer word (rtcp size (Ok packets))) outcome h = h
+paces_on P setup (arrived t peer word (rtcp size (Err fault))) outcome h = h
+paces_on P setup (arrived t peer word (rtp (Ok head))) outcome h = h
+paces_on P setup (arrived t peer word (rtp (Err fault))) outcome h = h
+paces_on P setup (rtp_sent t timestamp octets) outcome h = h
+paces_on P setup (ticked t first_word second_word) outcome h =
+    of_check (λ (now : Outcome). P now.paces) setup t first_word second_word (checked setup t outcome) h h h
+paces_on P setup (left t word) outcome h = of_leave (InPaces P) setup t word outcome tt tt
+paces_on P setup (configured t settings) outcome h = h
+paces_on P setup (forgotten t ssrc) outcome h = h
 
-changed_paced : (session : Session) (change : Option NewIdentifier) → PacedIn session.life →
-    PacedIn (changed_by change session).life
-changed_paced session None paced = paced
-changed_paced session (Some new) paced = renamed_paced session.setup session.life paced
+paces_while_backing_off : (P : List Pace → Type 0) (setup : Setup) (act : Act) (outcome : Outcome)
+    (backoff : Backoff) → InPaces P (lived setup act (backing_off outcome backoff))
+paces_while_backing_off P setup (arrived t peer word (rtcp size reading)) outcome backoff = tt
+paces_while_backing_off P setup (arrived t peer word (rtp reading)) outcome backoff = tt
+paces_while_backing_off P setup (rtp_sent t timestamp octets) outcome backoff = tt
+paces_while_backing_off P setup (ticked t first_word second_word) outcome backoff =
+    of_wait (InPaces P) setup t first_word outcome backoff tt tt
+paces_while_backing_off P setup (left t word) outcome backoff = tt
+paces_while_backing_off P setup (configured t settings) outcome backoff = tt
+paces_while_backing_off P setup (forgotten t ssrc) outcome backoff = tt
+
+-- what holds after an act, if it does where the participant takes part
+pub in_paces_on : (P : List Pace → Type 0) (setup : Setup) (act : Act) (life : Life) →
+    ((outcome : Outcome) → life ≡ present outcome → P (paces_by setup act outcome)) → InPaces P (lived setup act life)
+in_paces_on P setup act (present outcome) h = paces_on P setup act outcome (h outcome refl)
+in_paces_on P setup act (backing_off outcome backoff) h = paces_while_backing_off P setup act outcome backoff
+in_paces_on P setup act (gone outcome) h = tt
+
+renamed_paces : (P : List Pace → Type 0) (setup : Setup) (life : Life) → InPaces P life →
+    InPaces P (with_new_ssrc setup life)
+renamed_paces P setup (present outcome) h = h
+renamed_paces P setup (backing_off outcome backoff) h = tt
+renamed_paces P setup (gone outcome) h = tt
+
+pub changed_paces : (P : List Pace → Type 0) (session : Session) (change : Option NewIdentifier) →
+    InPaces P session.life → InPaces P (changed_by change session).life
+changed_paces P session None h = h
+changed_paces P session (Some new) h = renamed_paces P session.setup session.life h
+
+abbrev UsablePaces : List Pace → Type 0
+UsablePaces paces = IfSome (newest_pace paces) IsPace
+
+paced_on : (setup : Setup) (act : Act) (outcome : Outcome) → IsUsable setup → UsablePaces outcome.paces →
+    UsablePaces (paces_by setup act outcome)
+paced_on setup (configured t settings) outcome usable paced =
+    elim (keeps_bandwidths settings setup)
+    as (λ b. UsablePaces (if b then outcome.paces else pace_at setup t outcome ∷ outcome.paces)) [
+      | true ↦ paced
+      | false ↦ pace_usable setup t outcome usable paced
+    ]
+paced_on setup act outcome usable paced = paced
 
 changed_usable : (session : Session) (change : Option NewIdentifier) → IsUsable session.setup →
     IsUsable (changed_by change session).setup
@@ -180,14 +209,16 @@ changed_usable session None usable = usable
 changed_usable session (Some new) usable = usable_with_ssrc new.ssrc session.setup usable
 
 session_paced : (setup : Setup) (word : ℕ) (acts : List Act) → IsUsable setup → AllTaken setup word acts →
-    PacedIn (session_of setup word acts).life
+    InPaces UsablePaces (session_of setup word acts).life
 session_paced setup word [] usable taken = tt
 session_paced setup word (act ∷ earlier) usable taken =
     let before = session_of setup word earlier in
     let change = change_by before act in
     let now = changed_by change before in
-    paced_on now.setup act now.life (changed_usable before change (usable_in setup word earlier usable taken.2))
-    (changed_paced before change (session_paced setup word earlier usable taken.2))
+    let paced = changed_paces UsablePaces before change (session_paced setup word earlier usable taken.2) in
+    in_paces_on UsablePaces now.setup act now.life (λ outcome is. paced_on now.setup act outcome
+    (changed_usable before change (usable_in setup word earlier usable taken.2))
+    (subst (InPaces UsablePaces) is paced))
 
 -- ---- Checks after a change
 
@@ -195,7 +226,7 @@ pub paces_are_usable : (history : History) (outcome : Outcome) →
     Rattle.rtcp_engine.specs.Taken.IsHistory history → life_at history ≡ present outcome →
     IfSome (newest_pace outcome.paces) IsPace
 paces_are_usable history outcome is life =
-    subst PacedIn life (session_paced history.setup history.word history.acts is.usable is.taken)
+    subst (InPaces UsablePaces) life (session_paced history.setup history.word history.acts is.usable is.taken)
 
 -- an interval with less bandwidth
 longer : (load : Load) (s r fewer fewer_more : ℕ) → load.we_sent ≡ false → load.senders ≤ load.members → 1 ≤ fewer →

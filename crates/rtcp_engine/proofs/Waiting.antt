@@ -255,7 +255,7 @@ while_present_waits setup fall greatest t (ticked moment first_word second_word)
 while_present_waits setup fall greatest t (left moment word) outcome order words h =
     leaves_by moment word _ words order h
 while_present_waits setup fall greatest t (configured moment settings) outcome order words h =
-    passes moment (is_fall setup (configured moment settings) (present outcome)) (with_pace setup moment outcome) refl
+    passes moment (is_fall setup (configured moment settings) (present outcome)) (with_pace setup settings moment outcome) refl
     (omega arith) order h
 while_present_waits setup fall greatest t (forgotten moment ssrc) outcome order words h = recounts moment _ refl order h
 

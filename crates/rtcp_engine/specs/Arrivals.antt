@@ -84,12 +84,12 @@ with_change setup outcome =
 
 -- (A leave ends the participation whose outcome this is, and adds nothing to it. Settings change the setup: members,
 -- average and schedule stay, each interval is computed with the setup of its act, and only the pace of checks is
--- noted.)
+-- noted, where bandwidths change.)
 abbrev pub after : Setup → Act → Outcome → Outcome
 after setup (arrived moment peer word datagram) outcome = with_datagram setup moment datagram outcome
 after setup (rtp_sent moment timestamp octets) outcome = with_packet moment timestamp octets outcome
 after setup (ticked moment first_word second_word) outcome =
     after_tick setup moment first_word second_word outcome
 after setup (left moment word) outcome = outcome
-after setup (configured moment settings) outcome = with_pace setup moment outcome
+after setup (configured moment settings) outcome = with_pace setup settings moment outcome
 after setup (forgotten moment ssrc) outcome = without_source setup moment ssrc outcome

@@ -9,7 +9,7 @@ use Rattle.rtcp_members.specs.Roles.{moved_within}
 use Rattle.rtcp_members.specs.Told.{StateValue, TellsAbove, IsWalk}
 use Rattle.rtcp_engine.specs.declared.step.Standing.{Standing}
 use Rattle.rtcp_engine.specs.declared.step.OutKind.TheVariants.{Report, Bye}
-use Rattle.rtcp_engine.specs.Setups.{Setup}
+use Rattle.rtcp_engine.specs.Setups.{Setup, SettingsValue}
 use Rattle.rtcp_engine.specs.Acts.{Act, rtcp, arrived, ticked, left}
 use Rattle.rtcp_engine.specs.OwnStreams.{has_sent}
 use Rattle.rtcp_engine.specs.Reporting.{bye_octets}
@@ -49,11 +49,11 @@ with_new_ssrc setup (backing_off outcome backoff) =
     backing_off (counted_anew outcome) (after_own_bye setup outcome backoff)
 with_new_ssrc setup (gone outcome) = gone outcome
 
--- Other settings note the pace of checks, as long as the participant takes part.
-abbrev pub with_pace_in : Setup → (t : ℕ) → Life → Life
-with_pace_in setup t (present outcome) = present (with_pace setup t outcome)
-with_pace_in setup t (backing_off outcome backoff) = backing_off outcome backoff
-with_pace_in setup t (gone outcome) = gone outcome
+-- Settings note the pace of checks where they change it, as long as the participant takes part.
+abbrev pub with_pace_in : Setup → SettingsValue → (t : ℕ) → Life → Life
+with_pace_in setup settings t (present outcome) = present (with_pace setup settings t outcome)
+with_pace_in setup settings t (backing_off outcome backoff) = backing_off outcome backoff
+with_pace_in setup settings t (gone outcome) = gone outcome
 
 -- ---- Counts, with the participant among them until it is gone
 

@@ -1,6 +1,6 @@
 -- What a session has come to: what happened to its members, its own stream, its compounds and its schedule.
 -- Lists are newest first.
-use Rattle.std.specs.Prelude.{ℕ, ◌+◌, ◌*◌, ◌≤◌, Bool, true, false, nat_lt, min, List, [], ◌∷◌, if◌then◌else◌, Option, Some, None}
+use Rattle.std.specs.Prelude.{ℕ, ◌+◌, ◌*◌, ◌≤◌, Bool, true, false, nat_lt, min, max, List, [], ◌∷◌, if◌then◌else◌, Option, Some, None}
 use Rattle.rtcp_clock.specs.Intervals.{drawn_interval}
 use Rattle.rtcp_members.specs.Traces.{TraceStep}
 use Rattle.rtcp_members.specs.Entries.{members_at, senders_at}
@@ -12,7 +12,7 @@ use Rattle.rtcp_timer.specs.Averages.{average_of}
 use Rattle.rtcp_timer.specs.Loads.{interval_of}
 use Rattle.rtcp_timer.specs.Schedules.{Happening, transmitted, Timing, schedule_at}
 use Rattle.rtcp_engine.specs.declared.pace.Pace.{Pace}
-use Rattle.rtcp_engine.specs.Setups.{Setup}
+use Rattle.rtcp_engine.specs.Setups.{Setup, SettingsValue, keeps_bandwidths}
 use Rattle.rtcp_engine.specs.OwnStreams.{OwnStep, we_sent}
 
 -- a report that was sent, and the deterministic interval at that moment
@@ -30,7 +30,7 @@ pub record Outcome : Type 0 where
   -- what happened to the schedule
   pub happenings : List Happening
   pub reports : List Report
-  -- the bandwidths before each change of settings, and until when checks go by them too
+  -- the bandwidths before each change of these, and until when checks go by them too
   pub paces : List Pace
 
 -- ---- Counts
@@ -110,16 +110,34 @@ check_load setup t outcome = slowed_by t (newest_pace outcome.paces) (receiver_l
 abbrev pub check_interval : Setup → (t : ℕ) → Outcome → ℕ
 check_interval setup t outcome = interval_of (check_load setup t outcome)
 
--- The bandwidths that checks went by up to the moment `t`, at which they change. Five of their intervals later each
--- source that is still there has reported at the new pace.
+-- until when checks go by a former pace
+abbrev pub end_of : Option Pace → ℕ
+end_of None = 0
+end_of (Some pace) = pace.until
+
+-- Five intervals by the bandwidths of the setup after the moment `t`, at which they change, each source that is still
+-- there has reported at the new pace.
+abbrev pub end_at : Setup → (t : ℕ) → Outcome → ℕ
+end_at setup t outcome = t + 5 * receiver_interval_at setup outcome
+
+-- The bandwidths that checks went by up to the moment `t`, at which those of the setup change. Where an older pace
+-- still counts, they are the least, and count until the later end of the two.
 abbrev pub pace_at : Setup → (t : ℕ) → Outcome → Pace
 pace_at setup t outcome =
     let load = check_load setup t outcome in
-    record { sender_bw = load.sender_bw; receiver_bw = load.receiver_bw; until = t + 5 * interval_of load }
+    record {
+      sender_bw = load.sender_bw;
+      receiver_bw = load.receiver_bw;
+      until = max (end_of (newest_pace outcome.paces)) (end_at setup t outcome);
+    }
 
--- the bandwidths of the setup change
-abbrev pub with_pace : Setup → (t : ℕ) → Outcome → Outcome
-with_pace setup t outcome = record outcome { paces = pace_at setup t outcome ∷ outcome.paces }
+-- Settings are given. Where they have other bandwidths than the setup, the former ones are noted.
+abbrev pub with_pace : Setup → SettingsValue → (t : ℕ) → Outcome → Outcome
+with_pace setup settings t outcome =
+    record outcome {
+      paces =
+          if keeps_bandwidths settings setup then outcome.paces else pace_at setup t outcome ∷ outcome.paces;
+    }
 
 -- Bandwidths that an interval can be computed with.
 abbrev pub IsPace : Pace → Type 0

@@ -1,10 +1,11 @@
 -- A change of settings, and what a session has come to some time later.
-use Rattle.std.specs.Prelude.{ℕ, ◌≡◌, ◌≤◌, ◌<◌, Some, None}
-use Rattle.rtcp_engine.specs.Setups.{SettingsValue}
+use Rattle.std.specs.Prelude.{ℕ, ◌≡◌, ◌≤◌, ◌<◌, max, List, [], ◌∷◌, if◌then◌else◌, Some, None}
+use Rattle.rtcp_engine.specs.Setups.{Setup, SettingsValue, keeps_bandwidths}
 use Rattle.rtcp_engine.specs.Refused.{settings_error}
-use Rattle.rtcp_engine.specs.Outcomes.{Outcome, newest_pace, pace_at}
-use Rattle.rtcp_engine.specs.Histories.{History, life_at, setup_at}
-use Rattle.rtcp_engine.specs.Leaving.{present}
+use Rattle.rtcp_engine.specs.Acts.{Act, configured}
+use Rattle.rtcp_engine.specs.Outcomes.{Outcome, end_at, newest_pace, pace_at}
+use Rattle.rtcp_engine.specs.Histories.{History, life_at, session_for, session_of, setup_at}
+use Rattle.rtcp_engine.specs.Leaving.{Life, present, backing_off, gone}
 use Rattle.rtcp_engine.specs.Taken.{IsHistory}
 
 -- Settings are taken at a moment, of a participant that takes part. Later, at the moment `t`, they are the newest
@@ -20,3 +21,24 @@ pub record IsPaced (history : History) (moment t : ℕ) (settings : SettingsValu
 -- what it would have come to without the change, as far as the pace of checks goes
 abbrev pub unpaced : (before later : Outcome) → Outcome
 unpaced before later = record later { paces = before.paces }
+
+-- ---- How long former paces count
+
+abbrev pub end_while_present : Setup → Act → Outcome → (before : ℕ) → ℕ
+end_while_present setup (configured moment settings) outcome before =
+    if keeps_bandwidths settings setup then before else max before (end_at setup moment outcome)
+end_while_present setup act outcome before = before
+
+-- one act more
+abbrev pub end_by : Setup → Act → Life → (before : ℕ) → ℕ
+end_by setup act (present outcome) before = end_while_present setup act outcome before
+end_by setup act (backing_off outcome backoff) before = before
+end_by setup act (gone outcome) before = before
+
+-- The latest end of all former paces, 0 if bandwidths never changed: that of a change comes five intervals after it, by
+-- the bandwidths that it gave up. So it moves with a change of bandwidths alone.
+abbrev pub last_end : Setup → (word : ℕ) → List Act → ℕ
+last_end setup word [] = 0
+last_end setup word (act ∷ earlier) =
+    let now = session_for (session_of setup word earlier) act in
+    end_by now.setup act now.life (last_end setup word earlier)

@@ -61,6 +61,11 @@ with_settings settings setup =
       extras = settings.extras;
     }
 
+-- whether settings have the bandwidths of a setup
+abbrev pub keeps_bandwidths : SettingsValue → Setup → Bool
+keeps_bandwidths settings setup =
+    settings.sender_bw == setup.sender_bw && settings.receiver_bw == setup.receiver_bw
+
 abbrev pub is_within : (least most number : ℕ) → Bool
 is_within least most number = nat_le least number && nat_le number most
 

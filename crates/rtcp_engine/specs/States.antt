@@ -12,7 +12,7 @@ use Rattle.rtcp_engine.specs.Setups.{Setup, SettingsValue, IsUsable, with_settin
 use Rattle.rtcp_engine.specs.Identities.{with_ssrc}
 use Rattle.rtcp_engine.specs.OwnStreams.{OwnValue, own_of}
 use Rattle.rtcp_engine.specs.OwnValues.{own_anew}
-use Rattle.rtcp_engine.specs.Outcomes.{Outcome, average_size, newest_pace, pace_at, timing_of, IsPace}
+use Rattle.rtcp_engine.specs.Outcomes.{Outcome, average_size, newest_pace, timing_of, with_pace, IsPace}
 use Rattle.rtcp_engine.specs.Reporting.{bye_octets, last_reported_in}
 use Rattle.rtcp_engine.specs.Changes.{Session}
 use Rattle.rtcp_engine.specs.Histories.{History, last_moment, session_at, setup_after}
@@ -32,7 +32,7 @@ pub record State : Type 0 where
   pub own : OwnValue
   -- the source that was reported last
   pub cursor : Option ℕ
-  -- the bandwidths before the newest change of settings, and until when checks go by them too
+  -- the bandwidths before the newest change of these, and until when checks go by them too
   pub pace : Option Pace
   -- how many reports were sent
   pub reports : ℕ
@@ -145,10 +145,10 @@ after_change ssrc state = record (with_own_bye state) { setup = with_ssrc ssrc s
 abbrev pub with_settings_in : SettingsValue → Option Pace → State → State
 with_settings_in settings pace state = record state { setup = with_settings settings state.setup; pace = pace }
 
--- the pace is that of the outcome once the settings change
-abbrev pub IsPaceOf : State → Option Pace → Type 0
-IsPaceOf state pace =
-    (outcome : Outcome) → Agrees state outcome → pace ≡ Some (pace_at state.setup state.latest outcome)
+-- the pace is that of the outcome once these settings are given
+abbrev pub IsPaceOf : SettingsValue → State → Option Pace → Type 0
+IsPaceOf settings state pace = (outcome : Outcome) → Agrees state outcome →
+    pace ≡ newest_pace (with_pace state.setup settings state.latest outcome).paces
 
 -- ---- Soundness
 

@@ -1,7 +1,7 @@
 //! Laws of the definitions of a participant's answers. Each is an empty function whose postcondition is the
 //! law; `proofs/LawLemmas` has a lemma of its name, or one for each clause.
 
-ghost use Rattle.std.specs.Prelude.{◌≡◌, ◌↔◌, ◌≤◌, ◌^◌, ◌<◌, ℕ, ◌+◌, ◌*◌, ◌%◌, map, List, [], ◌++◌, length, slice_get, All, IfSome, Option, Some, None, false};
+ghost use Rattle.std.specs.Prelude.{◌≡◌, ◌↔◌, ◌≤◌, ◌^◌, ◌<◌, ℕ, ◌+◌, ◌*◌, ◌%◌, map, List, [], ◌++◌, length, slice_get, All, IfSome, Option, Some, None, true, false};
 ghost use Rattle.rtcp_wire.specs.Values.{ItemValue};
 ghost use Rattle.rtcp_members.specs.Clocks.{HasOneClock};
 ghost use Rattle.rtcp_members.specs.Traces.{TraceStep};
@@ -9,19 +9,19 @@ ghost use Rattle.rtcp_members.specs.Past.{IsToldBy};
 ghost use Rattle.rtcp_members.specs.Pending.{EntryRow, last_reported};
 ghost use Rattle.rtcp_members.specs.Told.{StateValue};
 ghost use Rattle.rtcp_report.specs.Traced.{with_blocks};
-ghost use Rattle.rtcp_engine.specs.Setups.{Setup, SettingsValue, IsUsable, settings_of, with_settings};
+ghost use Rattle.rtcp_engine.specs.Setups.{Setup, SettingsValue, IsUsable, keeps_bandwidths, settings_of, with_settings};
 ghost use Rattle.rtcp_engine.specs.Refused.{error_in, settings_error};
 ghost use Rattle.rtcp_engine.specs.Acts.{Datagram, Act, configured, IsReading, IsRtpReading, IsTotal, IsUnique, moment_of};
 ghost use Rattle.rtcp_engine.specs.OwnStreams.{OwnStep, sending_since};
 ghost use Rattle.rtcp_engine.specs.OwnSending.{IsSendingSince};
 ghost use Rattle.rtcp_engine.specs.Reporting.{extra_item, last_reported_in};
-ghost use Rattle.rtcp_engine.specs.Outcomes.{Outcome, check_interval, newest_pace, receiver_interval_at, timing_of, IsPace};
-ghost use Rattle.rtcp_engine.specs.Pacing.{IsPaced, unpaced};
+ghost use Rattle.rtcp_engine.specs.Outcomes.{Outcome, check_interval, end_of, newest_pace, receiver_interval_at, timing_of, with_pace, IsPace};
+ghost use Rattle.rtcp_engine.specs.Pacing.{IsPaced, end_by, last_end, unpaced};
 ghost use Rattle.rtcp_engine.specs.Ticks.{horizons_of};
 ghost use Rattle.rtcp_engine.specs.declared.pace.Pace.{Pace};
 ghost use Rattle.rtcp_members.specs.Stays.{is_removed};
 ghost use Rattle.rtcp_engine.specs.Histories.{History, brought_by, last_moment, life_at, session_at, session_of, setup_at, with_act};
-ghost use Rattle.rtcp_engine.specs.Leaving.{Backoff, present, backing_off, leaving_timing};
+ghost use Rattle.rtcp_engine.specs.Leaving.{Backoff, Life, present, backing_off, leaving_timing};
 ghost use Rattle.rtcp_engine.specs.Refusals.{refusal_after};
 ghost use Rattle.rtcp_engine.specs.Answers.{answer_of, followed_by};
 ghost use Rattle.rtcp_engine.specs.Lives.{TellsInLife, WalksInLife, next_in_life, own_bye, with_pace_in};
@@ -85,12 +85,12 @@ pub fn setups_keep_the_rest()
         IsUsable (session_of setup word acts).setup }
 {}
 
-/// Other settings change the setup, and note the pace of checks: members, average and schedule stay, nothing is sent,
-/// and the next moment to ask is the same (RFC 3550, 6.3).
+/// Other settings change the setup, and note the pace of checks where bandwidths change: members, average and schedule
+/// stay, nothing is sent, and the next moment to ask is the same (RFC 3550, 6.3).
 pub fn settings_touch_the_setup_alone()
     ensures life { (history : History) (moment : ℕ) (settings : SettingsValue) →
         life_at (with_act history (configured moment settings))
-        ≡ with_pace_in (setup_at history) moment (life_at history) }
+        ≡ with_pace_in (setup_at history) settings moment (life_at history) }
     ensures next { (history : History) (moment : ℕ) (settings : SettingsValue) →
         next_in_life (life_at (with_act history (configured moment settings))) ≡ next_in_life (life_at history) }
     ensures sent { (history : History) (moment : ℕ) (settings : SettingsValue) →
@@ -123,6 +123,26 @@ pub fn settings_drop_nobody_sooner()
         check_interval setup t outcome ≡ receiver_interval_at setup outcome }
     ensures usable { (history : History) (outcome : Outcome) → IsHistory history →
         life_at history ≡ present outcome → IfSome (newest_pace outcome.paces) IsPace }
+{}
+
+/// Former paces end (RFC 3550, 6.3.5). Settings with the bandwidths of the setup leave the pace of checks as it was. A
+/// former pace counts until the latest end of all changes of bandwidths, which is five intervals after a change, by the
+/// bandwidths that it gave up. From then on a check goes by the present settings alone, and drops each source that was
+/// silent for more than five intervals by these. So it does however often settings come that change no bandwidth.
+pub fn former_paces_end()
+    ensures same { (setup : Setup) (settings : SettingsValue) (t : ℕ) (outcome : Outcome) →
+        keeps_bandwidths settings setup ≡ true → with_pace setup settings t outcome ≡ outcome }
+    ensures stays { (setup : Setup) (settings : SettingsValue) (t before : ℕ) (life : Life) →
+        keeps_bandwidths settings setup ≡ true → end_by setup (configured t settings) life before ≡ before }
+    ensures end { (history : History) (outcome : Outcome) → life_at history ≡ present outcome →
+        end_of (newest_pace outcome.paces) ≡ last_end history.setup history.word history.acts }
+    ensures alone { (history : History) (outcome : Outcome) (t : ℕ) → life_at history ≡ present outcome →
+        last_end history.setup history.word history.acts ≤ t →
+        check_interval (setup_at history) t outcome ≡ receiver_interval_at (setup_at history) outcome }
+    ensures dropped { (history : History) (outcome : Outcome) (t sighting : ℕ) (mark : Option ℕ) →
+        life_at history ≡ present outcome → last_end history.setup history.word history.acts ≤ t →
+        sighting + 5 * receiver_interval_at (setup_at history) outcome < t →
+        is_removed (horizons_of t (check_interval (setup_at history) t outcome)) sighting mark ≡ true }
 {}
 
 /// A change of identifier hands out nothing but the BYE of the old one (RFC 3550, 8.2).

@@ -1,12 +1,12 @@
 //! The bandwidths that checks go by after a change of settings.
 
 ghost use Rattle.std.specs.Prelude.{◌≡◌, ◌≤◌, IfSome};
-ghost use Rattle.rtcp_engine.specs.Outcomes.{slowed_by, IsPace};
+ghost use Rattle.rtcp_engine.specs.Outcomes.{end_of as end_of_pace, slowed_by, IsPace};
 
 use rtcp_timer::Load;
 
-/// The bandwidths of a session before its settings changed, and until when checks go by them too: as long as others may
-/// still report at the former pace, nobody is to be dropped by a shorter interval (RFC 3550, 6.3.5).
+/// The bandwidths of a session before they changed, and until when checks go by them too: as long as others may still
+/// report at the former pace, nobody is to be dropped by a shorter interval (RFC 3550, 6.3.5).
 #[derive(Clone, Copy)]
 pub(crate) struct Pace {
     /// For the RTCP of senders, in octets a second.
@@ -36,5 +36,15 @@ pub(crate) fn slowed(pace: Option<Pace>, now: u64, load: Load) -> Load
             ..load
         },
         _ => load,
+    }
+}
+
+/// Until when a former pace counts, 0 where there is none.
+pub(crate) fn end_of(pace: Option<Pace>) -> u64
+    ensures { result ≡ end_of_pace pace }
+{
+    match pace {
+        Some(pace) => pace.until,
+        None => 0,
     }
 }

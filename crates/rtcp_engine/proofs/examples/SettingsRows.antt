@@ -73,3 +73,19 @@ set_twice : answers_to slow_start (named_came 0 9 ∷ configured 20000000 fast �
     ∷ ticked 20000000 0 0 ∷ [])
     ≡ moved (ok 2 0 1 1231245) ∷ ok 2 0 1 1231245 ∷ ok 2 0 1 1231245 ∷ sends 2 0 1 22052074 empty_report ∷ []
 set_twice = refl
+
+-- Settings that leave the bandwidths as they are do not prolong it.
+described_meanwhile : answers_to slow_start (named_came 0 9 ∷ configured 20000000 fast ∷ ticked 20000000 0 0
+    ∷ named_came 20000001 9 ∷ configured 40000000 fast ∷ ticked 49999999 0 0 ∷ configured 49999999 fast
+    ∷ ticked 50000000 0 0 ∷ [])
+    ≡ moved (ok 2 0 1 1231245) ∷ ok 2 0 1 1231245 ∷ sends 2 0 1 22052074 empty_report ∷ ok 2 0 1 22052074
+    ∷ ok 2 0 1 22052074 ∷ sends 2 0 1 52052073 empty_report ∷ ok 2 0 1 52052073 ∷ moved (ok 1 0 0 51026036) ∷ []
+described_meanwhile = refl
+
+-- Other bandwidths at 45 seconds let the least of all count for five of the intervals that they end, 25 seconds.
+changed_meanwhile : answers_to slow_start (named_came 0 9 ∷ configured 20000000 fast ∷ ticked 20000000 0 0
+    ∷ named_came 40000000 9 ∷ configured 45000000 (record fast { receiver_bw = 170 }) ∷ ticked 69999999 0 0
+    ∷ ticked 70000000 0 0 ∷ [])
+    ≡ moved (ok 2 0 1 1231245) ∷ ok 2 0 1 1231245 ∷ sends 2 0 1 22052074 empty_report ∷ ok 2 0 1 22052074
+    ∷ ok 2 0 1 22052074 ∷ sends 2 0 1 72052073 empty_report ∷ moved (ok 1 0 0 71026036) ∷ []
+changed_meanwhile = refl

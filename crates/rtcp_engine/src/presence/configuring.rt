@@ -1,13 +1,13 @@
 //! What a participant does as its host gives it other settings (RFC 3550, 6.2, 6.3.1).
 
-ghost use Rattle.std.specs.Prelude.{◌≡◌, None};
+ghost use Rattle.std.specs.Prelude.{◌≡◌, None, IfSome};
 ghost use Rattle.rtcp_engine.specs.Outcomes.{Outcome, pace_at, IsPace};
 ghost use Rattle.rtcp_engine.specs.Refused.{settings_error};
 ghost use Rattle.rtcp_engine.specs.States.{Agrees, IsPaceOf, KeepsCapacity, with_settings_in};
 ghost use Rattle.rtcp_engine.specs.Views.{settings_value};
 
 use super::Presence;
-use crate::pace::Pace;
+use crate::pace::{Pace, end_of, slowed};
 use crate::settings::{Settings, copied, copied_clocks};
 use rtcp_members::MemberTable;
 use rtcp_timer::interval;
@@ -19,14 +19,26 @@ impl<T: MemberTable> Presence<T> {
     pub(crate) fn configure(&mut self, settings: &Settings)
         requires { settings_error (settings_value settings.now) ≡ None }
         ensures new { self.new ≡ with_settings_in (settings_value settings.now) self.new.pace self.old }
-        ensures pace { IsPaceOf self.old self.new.pace }
+        ensures pace { IsPaceOf (settings_value settings.now) self.old self.new.pace }
         ensures within { KeepsCapacity self.new }
     {
-        self.pace = Some(self.pace_now());
+        self.pace = self.pace_under(settings);
         self.config.sender_bw = settings.sender_bw;
         self.config.receiver_bw = settings.receiver_bw;
         self.config.clocks = copied_clocks(&settings.clocks);
         self.config.extras = copied(&settings.extras);
+    }
+
+    /// The former pace that counts once these settings are given: another one only where bandwidths change.
+    fn pace_under(&self, settings: &Settings) -> Option<Pace>
+        ensures exact { IsPaceOf (settings_value settings.now) self.now result }
+        ensures usable { IfSome result IsPace }
+    {
+        let config = &self.config;
+        if settings.sender_bw == config.sender_bw && settings.receiver_bw == config.receiver_bw {
+            return self.pace;
+        }
+        Some(self.pace_now())
     }
 
     /// The bandwidths that checks go by now, for as long as a source may be silent.
@@ -35,11 +47,13 @@ impl<T: MemberTable> Presence<T> {
             result ≡ pace_at self.now.setup self.now.latest outcome }
         ensures usable { IsPace result }
     {
-        let load = self.check_load();
+        let receiver = self.receiver_load();
+        let end = self.latest + 5 * interval(&receiver);
+        let load = slowed(self.pace, self.latest, receiver);
         Pace {
             sender_bw: load.sender_bw,
             receiver_bw: load.receiver_bw,
-            until: self.latest + 5 * interval(&load),
+            until: end_of(self.pace).max(end),
         }
     }
 }

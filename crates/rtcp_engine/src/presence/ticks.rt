@@ -8,7 +8,7 @@ ghost use Rattle.rtcp_engine.specs.Setups.{IsUsable};
 ghost use Rattle.rtcp_engine.specs.Lives.{report_out};
 ghost use Rattle.rtcp_engine.specs.Views.{LeavesRest, out_in, reporter_of, setup_of};
 ghost use Rattle.rtcp_engine.specs.States.{Agrees, Does, MovesOthers};
-ghost use Rattle.rtcp_engine.specs.Outcomes.{Outcome, check_interval, check_load};
+ghost use Rattle.rtcp_engine.specs.Outcomes.{Outcome, check_interval, check_load, receiver_load};
 ghost use Rattle.rtcp_engine.specs.Reporting.{report_octets};
 ghost use Rattle.rtcp_engine.specs.Ticks.{with_recount, without_silent, checked, is_report_due, report_due, with_report, drawn_anew, reported, tried_at, after_check, after_tick};
 
@@ -98,7 +98,7 @@ impl<T: MemberTable> Presence<T> {
     }
 
     /// What that interval depends on: it is one of a participant that is no sender.
-    pub(super) fn check_load(&self) -> Load
+    fn check_load(&self) -> Load
         ensures exact { (outcome : Outcome) → Agrees self.now outcome →
             result ≡ check_load self.now.setup self.now.latest outcome }
         ensures members { result.members ≤ 65535 }
@@ -106,11 +106,22 @@ impl<T: MemberTable> Presence<T> {
         ensures some_for_senders { 16 ≤ result.sender_bw }
         ensures some_for_others { 16 ≤ result.receiver_bw }
     {
-        let receiver = Load {
+        slowed(self.pace, self.latest, self.receiver_load())
+    }
+
+    /// What the interval of a participant depends on that is no sender.
+    pub(super) fn receiver_load(&self) -> Load
+        ensures exact { (outcome : Outcome) → Agrees self.now outcome →
+            result ≡ receiver_load self.now.setup outcome }
+        ensures members { result.members ≤ 65535 }
+        ensures average { result.avg ≤ 256 * 65563 }
+        ensures some_for_senders { 16 ≤ result.sender_bw }
+        ensures some_for_others { 16 ≤ result.receiver_bw }
+    {
+        Load {
             we_sent: false,
             ..self.load()
-        };
-        slowed(self.pace, self.latest, receiver)
+        }
     }
 
     /// Writes a report if one is due, and draws the next interval; else puts it off, if its moment has come.

@@ -18,7 +18,7 @@ const WITH_TOOL: &[u8] = &[
 ];
 
 /// Settings that change, and sources that are gone.
-pub(crate) static TELLING: [Script; 9] = [
+pub(crate) static TELLING: [Script; 10] = [
     Script {
         name: "less bandwidth puts the report off",
         setup: USUAL,
@@ -77,6 +77,20 @@ pub(crate) static TELLING: [Script; 9] = [
             (Tick(20_000_000, 0, 0), Sends(2, 0, 22_052_074, &REPORT)),
             (Named(20_000_001, 9), OthersChanged(false)),
             (Tick(49_999_999, 0, 0), Sends(2, 0, 52_052_073, &REPORT)),
+            (Tick(50_000_000, 0, 0), Is(1, 0, 51_026_036)),
+        ],
+    },
+    Script {
+        name: "settings without other bandwidths do not prolong the former pace",
+        setup: SLOW,
+        rows: &[
+            (Named(0, 9), Is(2, 0, 1_231_245)),
+            (Configure(20_000_000, 160, 160, false), Is(2, 0, 1_231_245)),
+            (Tick(20_000_000, 0, 0), Sends(2, 0, 22_052_074, &REPORT)),
+            (Named(20_000_001, 9), OthersChanged(false)),
+            (Configure(45_000_000, 160, 160, true), OthersChanged(false)),
+            (Tick(49_999_999, 0, 0), Sends(2, 0, 52_052_073, &REPORT)),
+            (Configure(49_999_999, 160, 160, true), OthersChanged(false)),
             (Tick(50_000_000, 0, 0), Is(1, 0, 51_026_036)),
         ],
     },
