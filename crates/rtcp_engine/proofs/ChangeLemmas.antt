@@ -20,6 +20,7 @@ use Rattle.rtcp_engine.specs.Lives.{bye_if_heard, bye_out, own_bye, with_new_ssr
 use Rattle.rtcp_engine.specs.Changes.{NewIdentifier, Session, changed_to, is_in_table}
 use Rattle.rtcp_engine.specs.States.{State, Agrees, StandsStill, Waits, ParticipantValue, IsAt, IsIn, leaving, over, own_bye_in, after_change}
 use Rattle.rtcp_engine.proofs.Agreeing.{with_own}
+use Rattle.rtcp_engine.proofs.ChangeRest.{bye_keeps_count, bye_keeps_timing, with_bye}
 
 -- ---- Sizes
 
@@ -77,20 +78,6 @@ changed_agrees s o ssrc a = record {
 }
 
 -- ---- Backoffs
-
-abbrev with_bye : (heard : Bool) (size : ℕ) → Backoff → Backoff
-with_bye heard size backoff = if heard then record
-    backoff { farewells = record { byes = 0; size = size } ∷ backoff.farewells } else backoff
-
-bye_keeps_count : (heard : Bool) (size : ℕ) (backoff : Backoff) →
-    leaving_count (with_bye heard size backoff) ≡ leaving_count backoff
-bye_keeps_count true size backoff = refl
-bye_keeps_count false size backoff = refl
-
-bye_keeps_timing : (heard : Bool) (size : ℕ) (backoff : Backoff) →
-    leaving_timing (with_bye heard size backoff) ≡ leaving_timing backoff
-bye_keeps_timing true size backoff = refl
-bye_keeps_timing false size backoff = refl
 
 bye_moves_average : (heard : Bool) (size : ℕ) (setup : Setup) (backoff : Backoff)
     → (if heard then moved_average (leaving_average setup backoff.farewells) size else leaving_average setup

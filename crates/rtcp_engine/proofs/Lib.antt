@@ -1,9 +1,9 @@
 -- `StepLemmas` has a lemma for each kind of step, by what the layers below say of their parts. `Agreeing` has lemmas on
 -- `Agrees`, and `RolesChanged` on what changes the roles of others; `Soundness` shows that a state stays sound.
 -- `ActLemmas` leads from `Does` to `Acts`, by phase, and from `Acts` to `Takes`, with `AnswerLemmas` and `LifeLemmas`.
--- `Changing` and `ChangeLemmas` cover a change of SSRC, in a session and in a participant, `Arriving` datagrams, and
--- `Hearing` and `Sighting` who is a member since a datagram named it. `Pacing` and `PaceEnds` cover what checks go by
--- after a change of bandwidths.
+-- `Changing`, `ChangeRest` and `ChangeLemmas` cover a change of SSRC, in a session and in a participant, `Arriving`
+-- datagrams, and `Hearing` and `Sighting` who is a member since a datagram named it. `Pacing` and `PaceEnds` cover what
+-- checks go by after a change of bandwidths.
 -- That the search for a new SSRC ends with a free one is proved by counting those in its way (`NewIdentifiers`,
 -- `IdentifierSearch`).
 --
@@ -33,6 +33,7 @@ pub mod Hearing
 mod Sighting
 mod OneClock
 mod ChangeLemmas
+mod ChangeRest
 mod Saying
 mod Sending
 mod Soundness

@@ -12,6 +12,7 @@ pub mod Steps
 pub mod Leaving
 pub mod Lives
 pub mod Changes
+pub mod Changed
 pub mod Histories
 pub mod Hearing
 pub mod Refusals

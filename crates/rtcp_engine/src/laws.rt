@@ -25,7 +25,8 @@ ghost use Rattle.rtcp_engine.specs.Leaving.{Backoff, Life, present, backing_off,
 ghost use Rattle.rtcp_engine.specs.Refusals.{refusal_after};
 ghost use Rattle.rtcp_engine.specs.Answers.{answer_of, followed_by};
 ghost use Rattle.rtcp_engine.specs.Lives.{TellsInLife, WalksInLife, next_in_life, own_bye, with_pace_in};
-ghost use Rattle.rtcp_engine.specs.Changes.{NewIdentifier, Session, change_by, changing_peers, is_taken, new_identifier};
+ghost use Rattle.rtcp_engine.specs.Changes.{NewIdentifier, Session, change_by, changed_by, changing_peers, is_taken, new_identifier};
+ghost use Rattle.rtcp_engine.specs.Changed.{KeepsRest};
 ghost use Rattle.rtcp_engine.specs.Identities.{AreApart, IsFirstFree, with_ssrc};
 ghost use Rattle.std.specs.List.{AllByRecursion};
 ghost use Rattle.rtcp_engine.specs.Taken.{AllTaken, GivesNoClocks, IsHistory, NamesFew};
@@ -143,6 +144,15 @@ pub fn former_paces_end()
         life_at history ≡ present outcome → last_end history.setup history.word history.acts ≤ t →
         sighting + 5 * receiver_interval_at (setup_at history) outcome < t →
         is_removed (horizons_of t (check_interval (setup_at history) t outcome)) sighting mark ≡ true }
+{}
+
+/// A change of identifier leaves the rest of the setup, the settings among it, the table, the counts and the schedule
+/// as they were (RFC 3550, 8.2). Without one, a session stays as it was.
+pub fn changes_touch_the_identifier_alone()
+    ensures setup { (session : Session) (act : Act) (new : NewIdentifier) → change_by session act ≡ Some new →
+        (changed_by (change_by session act) session).setup ≡ with_ssrc new.ssrc session.setup }
+    ensures rest { (session : Session) (act : Act) →
+        KeepsRest session (changed_by (change_by session act) session) }
 {}
 
 /// A change of identifier hands out nothing but the BYE of the old one (RFC 3550, 8.2).
