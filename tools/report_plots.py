@@ -58,7 +58,7 @@ def loss_panel(plot: Plot, title: str, fractions: list[Point], start: int) -> No
     moments = [start, *(moment for moment, _, _ in fractions)]
     steps = [(begins, value) for begins, (_, value, _) in zip(moments, fractions)]
     panel.area(steps, moments[-1], RED)
-    line(panel, panel.steps(steps, moments[-1]), RED, 'stroke-opacity="0.45"')
+    line(panel, panel.steps(steps, moments[-1]), RED)
     panel.marks(fractions, "dot", RED, " %")
 
 
