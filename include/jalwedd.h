@@ -55,7 +55,8 @@
  * members (RFC 3550, 6.2). But do not pass its own datagrams to a participant: if a multicast group brings them back,
  * it would take another SSRC (8.2).
  *
- * A structure of this header never grows or changes its layout under one SONAME of the shared object.
+ * A structure of this header never grows or changes its layout under one SONAME of the shared object, and
+ * JALWEDD_MEMORY never changes under one: a host that was compiled with an earlier header goes on with a later object.
  */
 #ifndef JALWEDD_H
 #define JALWEDD_H
@@ -72,9 +73,9 @@ extern "C" {
 
 #define JALWEDD_VERSION_MAJOR 0
 #define JALWEDD_VERSION_MINOR 5
-#define JALWEDD_VERSION_PATCH 0
+#define JALWEDD_VERSION_PATCH 3
 
-/* The version of the linked library: 0x000500 for 0.5.0. */
+/* The version of the linked library: 0x000503 for 0.5.3. */
 uint32_t jalwedd_version(void);
 
 /* ---- Statuses. Two of them have two names, of which a switch can use only one: NO_BLOCK or NO_PART, and NO_SOURCE or
@@ -346,17 +347,23 @@ typedef struct jalwedd_role_change {
 
 /* ---- A participant */
 
-/* The memory, in octets, that a participant of this capacity takes: a block of 2,744 octets, and blocks of 136 and of 8
- * octets for each source of the capacity. */
-#define JALWEDD_MEMORY(capacity) (2744 + 144 * (size_t)(capacity))
+/* The memory, in octets, that suffices for a participant of this capacity with any library of this SONAME, even if each
+ * block is rounded up to a multiple of 16, as for its alignment. The library takes less: today a block of 2,744 octets,
+ * and blocks of 136 and of 8 octets for each source of the capacity. */
+#ifdef __cplusplus
+#define JALWEDD_MEMORY(capacity) (sizeof(char[4096]) + sizeof(char[192]) * (capacity)) /* no cast in C's style */
+#else
+#define JALWEDD_MEMORY(capacity) (4096 + 192 * (size_t)(capacity))
+#endif
 
 /* Makes the library use `allocate` and `release` in place of malloc and free. `allocate` returns a block of `size`
  * octets, aligned as by malloc, or NULL. Call this at most once, before the first jalwedd_new. */
 void jalwedd_memory(void *(*allocate)(size_t size), void (*release)(void *at));
 
 /* Makes a participant in an empty handle; its session starts at the moment config->start, which is now. `word` is for
- * the draw of the first interval. Allocates JALWEDD_MEMORY(config->capacity) octets in three blocks; no other call
- * allocates.
+ * the draw of the first interval. Allocates at most JALWEDD_MEMORY(config->capacity) octets, in three blocks; no other
+ * call allocates. step->next is later than config->start: if it is not later than `now` of the host's clock, the start
+ * was not now, and each report tells a time of day that is ahead.
  * Statuses: TAKEN; IS_LIVE, and the step is that of the participant already there; CNAME to START; NO_MEMORY. */
 uint32_t jalwedd_new(jalwedd_handle *handle, const jalwedd_config *config, const uint8_t *cname, size_t cname_size,
                      const jalwedd_item *items, size_t item_count, uint32_t word, jalwedd_step *step);

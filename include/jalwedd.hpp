@@ -202,8 +202,9 @@ public:
     ~participant() { jalwedd_free(&handle_); }
 
     /// Begins to take part in a session, at the moment config.start of the host's clock, which is now. `cname` has 1 to
-    /// 255 octets, and there are at most 7 items. Allocates JALWEDD_MEMORY(config.capacity) octets, and no other call
-    /// allocates.
+    /// 255 octets, and there are at most 7 items. Allocates at most JALWEDD_MEMORY(config.capacity) octets, and no
+    /// other call allocates. If step.next is not later than `now`, the start was not now: reports tell a time of day
+    /// that is ahead (jalwedd_new).
     /// Statuses: TAKEN; IS_LIVE, and the participant that is there goes on; CNAME to START; NO_MEMORY.
     [[nodiscard]] std::uint32_t join(const jalwedd_config& config, std::string_view cname, const jalwedd_item* items,
                                      std::size_t item_count, std::uint32_t word, jalwedd_step& step) noexcept

@@ -9,7 +9,7 @@ use core::ptr::null_mut;
 
 pub const JALWEDD_VERSION_MAJOR: u32 = 0;
 pub const JALWEDD_VERSION_MINOR: u32 = 5;
-pub const JALWEDD_VERSION_PATCH: u32 = 0;
+pub const JALWEDD_VERSION_PATCH: u32 = 3;
 
 // ---- Statuses
 
