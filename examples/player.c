@@ -10,7 +10,7 @@
  */
 #define JALWEDD_RECORD_STDIO
 #include "jalwedd_record.h"
-#include "report_before.h"
+#include "jalwedd_report_before.h"
 
 #include <arpa/inet.h>
 #include <ctype.h>
@@ -228,13 +228,13 @@ static void print_sources(struct player *player, uint64_t now)
 
 static void receive(struct player *player, int from, uint64_t now, uint8_t *octets)
 {
-    static uint8_t datagram[MOST_OCTETS + REPORT_BEFORE];
+    static uint8_t datagram[MOST_OCTETS + JALWEDD_REPORT_BEFORE];
     struct sockaddr_in peer;
     socklen_t length = sizeof peer;
     const ssize_t came = recvfrom(from, datagram, MOST_OCTETS, 0, (struct sockaddr *)&peer, &length);
     if (came < 0 || (from == player->rtcp && came > LARGEST_RTCP))
         return;
-    const size_t size = from == player->rtp ? (size_t)came : put_report_before(datagram, (size_t)came);
+    const size_t size = from == player->rtp ? (size_t)came : jalwedd_put_report_before(datagram, (size_t)came);
     const uint64_t number = (uint64_t)ntohl(peer.sin_addr.s_addr) << 16 | ntohs(peer.sin_port);
     const uint32_t word = random_word();
     if (from == player->rtp) {

@@ -6,7 +6,7 @@
  *     streams SEED RTP-PORT PEER-RTP-PORT      on 127.0.0.1, with RTCP at the ports one above
  */
 #include "jalwedd.h"
-#include "report_before.h"
+#include "jalwedd_report_before.h"
 
 #include <arpa/inet.h>
 #include <netinet/in.h>
@@ -160,14 +160,14 @@ static void leave(struct host *host, int own)
 
 static void receive(struct host *host, int from)
 {
-    static uint8_t datagram[MOST_OCTETS + REPORT_BEFORE];
+    static uint8_t datagram[MOST_OCTETS + JALWEDD_REPORT_BEFORE];
     struct sockaddr_in peer;
     socklen_t length = sizeof peer;
     const ssize_t came = recvfrom(from, datagram, MOST_OCTETS, 0, (struct sockaddr *)&peer, &length);
     const bool is_rtp = from == host->rtp;
     if (came < 0 || (!is_rtp && came > LARGEST_RTCP))
         return;
-    const size_t size = is_rtp ? (size_t)came : put_report_before(datagram, (size_t)came);
+    const size_t size = is_rtp ? (size_t)came : jalwedd_put_report_before(datagram, (size_t)came);
     const uint64_t number = (uint64_t)ntohl(peer.sin_addr.s_addr) << 16 | ntohs(peer.sin_port);
     pass_on(host, &(struct arrival){datagram, size, number, STREAMS, is_rtp});
 }

@@ -1,7 +1,7 @@
-/* examples/report_before.h: BYE, APP and feedback packets that come with no report before them are taken with one, and
+/* jalwedd_report_before.h: BYE, APP and feedback packets that come with no report before them are taken with one, and
  * all other datagrams are left as they are. Ends with 0, or prints the line of the test that fails.
  * (compare/library/embedding) */
-#include "../../examples/report_before.h"
+#include "jalwedd_report_before.h"
 
 #include <stdio.h>
 
@@ -43,9 +43,9 @@ static int alone(void)
     static const uint8_t report[] = {RR};
     for (size_t number = 0; number < sizeof ALONE / sizeof *ALONE; number++) {
         const struct given *given = &ALONE[number];
-        uint8_t datagram[40 + REPORT_BEFORE] = {0};
+        uint8_t datagram[40 + JALWEDD_REPORT_BEFORE] = {0};
         memcpy(datagram, given->octets, given->size);
-        HOLDS(put_report_before(datagram, given->size) == given->size + 8);
+        HOLDS(jalwedd_put_report_before(datagram, given->size) == given->size + 8);
         HOLDS(memcmp(datagram, report, 8) == 0 && memcmp(datagram + 8, given->octets, given->size) == 0);
     }
     return 0;
@@ -55,9 +55,9 @@ static int others(void)
 {
     for (size_t number = 0; number < sizeof OTHERS / sizeof *OTHERS; number++) {
         const struct given *given = &OTHERS[number];
-        uint8_t datagram[40 + REPORT_BEFORE] = {0};
+        uint8_t datagram[40 + JALWEDD_REPORT_BEFORE] = {0};
         memcpy(datagram, given->octets, given->size);
-        HOLDS(put_report_before(datagram, given->size) == given->size);
+        HOLDS(jalwedd_put_report_before(datagram, given->size) == given->size);
         HOLDS(memcmp(datagram, given->octets, given->size) == 0);
     }
     return 0;
@@ -68,7 +68,7 @@ static int left(void)
 {
     static const uint8_t named[] = {RR, SDES}, cname[] = {0x61};
     static uint8_t octets[JALWEDD_OCTETS];
-    uint8_t bye[20 + REPORT_BEFORE] = {BYE, SDES};
+    uint8_t bye[20 + JALWEDD_REPORT_BEFORE] = {BYE, SDES};
     const jalwedd_item no_item = {0, 0, ""};
     jalwedd_handle handle = JALWEDD_EMPTY;
     jalwedd_source_state source;
@@ -77,7 +77,7 @@ static int left(void)
     HOLDS(jalwedd_arrive_rtcp(&handle, 10, 1, 0, named, sizeof named, &step, octets) == JALWEDD_TAKEN);
     HOLDS(step.members == 2);
     HOLDS(jalwedd_arrive_rtcp(&handle, 20, 1, 0, bye, 20, &step, octets) == JALWEDD_NO_COMPOUND);
-    const size_t size = put_report_before(bye, 20);
+    const size_t size = jalwedd_put_report_before(bye, 20);
     HOLDS(jalwedd_arrive_rtcp(&handle, 30, 1, 0, bye, size, &step, octets) == JALWEDD_TAKEN);
     HOLDS(step.members == 1);
     HOLDS(jalwedd_source(&handle, 0, &source) == JALWEDD_TAKEN && source.ssrc == 7 && source.left == 30);
