@@ -91,7 +91,7 @@ enum {
     JALWEDD_TOO_FAR = 3,        /* E3: the moment lies more than 2^50 after the start */
     JALWEDD_TOO_MANY = 4,       /* E4: a session has fewer than 2^40 calls, and 2^40 - 1 were taken */
     JALWEDD_NO_COMPOUND = 5,    /* E5: the RTCP datagram is not a compound (6.1): jalwedd_check says why */
-    JALWEDD_NO_RTP = 6,         /* E6: the RTP datagram has no valid head (5.1) */
+    JALWEDD_NO_RTP = 6,         /* E6: the RTP datagram has no valid head (5.1): jalwedd_rtp_fault says why */
     JALWEDD_OWN_SSRC = 7,       /* E7: the datagram uses our SSRC, and its peer may not change it (again) (8.2) */
 
     JALWEDD_NO_BLOCK = 8,       /* jalwedd_about: there is no such block */
@@ -109,14 +109,16 @@ enum {
     JALWEDD_LIMIT = 13,         /* C3: the limit is out of range 576 to 1,472, or not a multiple of 4 */
     JALWEDD_BANDWIDTH = 14,     /* C4: one of the bandwidths is out of range 16 to 2^30 */
     JALWEDD_RATE = 15,          /* C5: the rate, or that of a clock, is out of range 1 to 2^20; or there are more than
-                                   16 clocks, or the payload type of one is above 255 */
+                                   16 clocks, or the payload type of one is above 255: jalwedd_clocks_text says
+                                   which */
     JALWEDD_ITEM = 16,          /* C6: the type of an item is out of range 2 to 8, or there are more than 7 items */
     JALWEDD_START = 17,         /* C7: the start is 2^63 or later */
 
     JALWEDD_IS_EMPTY = 20,      /* the handle holds no participant */
     JALWEDD_IS_LIVE = 21,       /* jalwedd_new: the handle holds a participant already */
     JALWEDD_NO_MEMORY = 22,     /* jalwedd_new: there is no memory */
-    JALWEDD_TOO_LONG = 23       /* jalwedd_arrive_rtp, _rtp_head: no UDP datagram has more than 65,535 octets */
+    JALWEDD_TOO_LONG = 23       /* jalwedd_arrive_rtp, _rtp_head, _rtp_fault: no UDP datagram has more than 65,535
+                                   octets */
 };
 
 /* A short text for each status, and for any other number. Two statuses with the same number share a text. */
@@ -138,7 +140,7 @@ static inline const char *jalwedd_text(uint32_t status)
     case JALWEDD_CAPACITY:    return "the capacity is out of range";
     case JALWEDD_LIMIT:       return "the limit is out of range";
     case JALWEDD_BANDWIDTH:   return "a bandwidth is out of range";
-    case JALWEDD_RATE:        return "the clock rate is out of range";
+    case JALWEDD_RATE:        return "a clock is out of range, or there are more than 16";
     case JALWEDD_ITEM:        return "an item cannot be sent, or there are too many";
     case JALWEDD_START:       return "the start is out of range";
     case JALWEDD_IS_EMPTY:    return "the handle holds no participant";
@@ -146,6 +148,30 @@ static inline const char *jalwedd_text(uint32_t status)
     case JALWEDD_NO_MEMORY:   return "there is no memory";
     case JALWEDD_TOO_LONG:    return "the datagram is longer than UDP carries";
     default:                  return "no status of this version";
+    }
+}
+
+/* A text for each reason of a jalwedd_fault, and for any other number: the rule as `rtcp check` and `rtcp replay` name
+ * it, and what the datagram does. */
+static inline const char *jalwedd_fault_text(uint32_t reason)
+{
+    switch (reason) {
+    case 1:  return "F1 Short: fewer than 4 octets are left for a header";
+    case 2:  return "F2 Version: the version is not 2";
+    case 3:  return "F3 FirstType: the first packet is not a report";
+    case 4:  return "F4 FirstPadding: the first packet is padded";
+    case 5:  return "F5 Length: the packet runs past the end of the datagram";
+    case 6:  return "F6 Padding: the padding is 0 octets, no multiple of 4, or too large";
+    case 7:  return "F7 Body: the body does not have the size of its type and count";
+    case 8:  return "F8 Item: an SDES item runs past its packet";
+    case 9:  return "F9 Reason: the BYE reason does not end in the packet's last word";
+    case 10: return "F10 TooLong: the datagram has more than 65,535 octets";
+    case 11: return "G1 Short: fewer octets than the fixed part and its CSRCs";
+    case 12: return "G2 Version: the version is not 2";
+    case 13: return "G3 PayloadType: the payload type is reserved, 72 to 76";
+    case 14: return "G4 Extension: the header extension runs past the datagram";
+    case 15: return "G5 Padding: the number of padding octets is missing, 0 or too large";
+    default: return "no reason of this version";
     }
 }
 
@@ -192,6 +218,35 @@ typedef struct jalwedd_settings {
     jalwedd_clock clocks[16];
 } jalwedd_settings;
 
+/* What an SDES item is (6.5): the kinds of a jalwedd_item, from NAME on, and of a jalwedd_item_place. JALWEDD_CNAME and
+ * JALWEDD_ITEM are statuses, and equal none of these. */
+enum {
+    JALWEDD_SDES_CNAME = 1,     /* the name that stands for a participant in all of its streams (6.5.1) */
+    JALWEDD_SDES_NAME = 2,      /* the user's name */
+    JALWEDD_SDES_EMAIL = 3,     /* an address for electronic mail */
+    JALWEDD_SDES_PHONE = 4,     /* a phone number */
+    JALWEDD_SDES_LOC = 5,       /* where the user is */
+    JALWEDD_SDES_TOOL = 6,      /* the name of the application */
+    JALWEDD_SDES_NOTE = 7,      /* a message about the state of the source */
+    JALWEDD_SDES_PRIV = 8       /* a prefix, with its length before it, and a value (6.5.8) */
+};
+
+/* A text for why clocks or a rate were refused as JALWEDD_RATE: by the clocks of the configuration or the settings that
+ * were passed. If none of them is at fault, it is the rate beside them. */
+static inline const char *jalwedd_clocks_text(uint32_t clock_count, const jalwedd_clock *clocks)
+{
+    uint32_t at;
+    if (clock_count > 16)
+        return "there are more than 16 clocks";
+    for (at = 0; at < clock_count; at++)
+        if (clocks[at].payload_type > 255)
+            return "a clock is of no payload type";
+    for (at = 0; at < clock_count; at++)
+        if (clocks[at].rate < 1 || clocks[at].rate > 1 << 20)
+            return "the rate of a clock is out of range 1 to 2^20";
+    return "the rate is out of range 1 to 2^20";
+}
+
 /* What a participant says about itself besides its CNAME, one in every third report (RFC 3550, 6.5.2 to 6.5.8). */
 typedef struct jalwedd_item {
     uint8_t kind;           /* NAME 2, EMAIL 3, PHONE 4, LOC 5, TOOL 6, NOTE 7, PRIV 8 */
@@ -225,12 +280,13 @@ typedef struct jalwedd_step {
                                for a moment: list them again with jalwedd_source. 0 if each has the role it had */
 } jalwedd_step;
 
-/* Why a datagram is not a compound. */
+/* Why a datagram is not a compound, or has no valid RTP head. */
 typedef struct jalwedd_fault {
-    uint64_t offset;        /* the offset of the packet at fault, in octets */
-    uint32_t reason;        /* the rule broken: 1 header cut short, 2 version, 3 first packet not a report, 4 first
-                               packet padded, 5 length, 6 padding, 7 body, 8 SDES item, 9 BYE reason, 10 more than
-                               65,535 octets */
+    uint64_t offset;        /* the offset of the packet at fault, in octets: 0 for an RTP datagram */
+    uint32_t reason;        /* the rule broken, which jalwedd_fault_text tells. Of a compound 1 header cut short, 2
+                               version, 3 first packet not a report, 4 first packet padded, 5 length, 6 padding, 7 body,
+                               8 SDES item, 9 BYE reason, 10 more than 65,535 octets; of an RTP head 11 cut short, 12
+                               version, 13 payload type, 14 header extension, 15 padding */
 } jalwedd_fault;
 
 /* What a report says about one source (6.4.1). */
@@ -419,7 +475,7 @@ uint32_t jalwedd_tick(jalwedd_handle *handle, uint64_t now, uint32_t first_word,
  * silent for too long by the lesser of the former and the new bandwidths, as others may not know of the change yet.
  * Hands out nothing, and leaves `octets` as they are; but they have to be there.
  * Statuses: TAKEN; IS_EMPTY; ITEM for more than 7 items; RATE for clocks that are too many or of no payload type; LEFT
- * to TOO_MANY; BANDWIDTH to ITEM. */
+ * to TOO_MANY; BANDWIDTH to ITEM. Of a RATE jalwedd_clocks_text says more. */
 uint32_t jalwedd_configure(jalwedd_handle *handle, uint64_t now, const jalwedd_settings *settings,
                            const jalwedd_item *items, size_t item_count, jalwedd_step *step,
                            uint8_t octets[JALWEDD_OCTETS]);
@@ -527,11 +583,20 @@ uint32_t jalwedd_about(const uint8_t *datagram, size_t size, uint32_t ssrc, uint
  * parts takes a time that grows with the square of the size: up to 2 milliseconds for 1,472 octets, and 4 seconds for
  * 65,504 (as measured). Walk with a cursor instead, and ask by index only for the first part or two.
  * Statuses: TAKEN; NO_COMPOUND; NO_PART. */
-uint32_t jalwedd_sender(const uint8_t *datagram, size_t size, uint32_t index, jalwedd_sender_info *sender);
-uint32_t jalwedd_block(const uint8_t *datagram, size_t size, uint32_t index, jalwedd_report *report);
-uint32_t jalwedd_sdes_item(const uint8_t *datagram, size_t size, uint32_t index, jalwedd_item_place *item);
-uint32_t jalwedd_goodbye(const uint8_t *datagram, size_t size, uint32_t index, jalwedd_goodbye_place *goodbye);
-uint32_t jalwedd_app(const uint8_t *datagram, size_t size, uint32_t index, jalwedd_app_place *app);
+uint32_t jalwedd_sender(const uint8_t *datagram, size_t size, uint32_t index, jalwedd_sender_info *sender)
+    JALWEDD_NOT_NULL;
+uint32_t jalwedd_block(const uint8_t *datagram, size_t size, uint32_t index, jalwedd_report *report) JALWEDD_NOT_NULL;
+uint32_t jalwedd_sdes_item(const uint8_t *datagram, size_t size, uint32_t index, jalwedd_item_place *item)
+    JALWEDD_NOT_NULL;
+uint32_t jalwedd_goodbye(const uint8_t *datagram, size_t size, uint32_t index, jalwedd_goodbye_place *goodbye)
+    JALWEDD_NOT_NULL;
+uint32_t jalwedd_app(const uint8_t *datagram, size_t size, uint32_t index, jalwedd_app_place *app) JALWEDD_NOT_NULL;
+
+/* Accepts a datagram with a valid RTP head (5.1), leaving `fault` as it is, or gives the first rule that it breaks: why
+ * jalwedd_arrive_rtp and jalwedd_rtp_head refuse it as JALWEDD_NO_RTP. Of a datagram of more than 65,535 octets nothing
+ * is read.
+ * Statuses: TAKEN; TOO_LONG; NO_RTP. */
+uint32_t jalwedd_rtp_fault(const uint8_t *datagram, size_t size, jalwedd_fault *fault) JALWEDD_NOT_NULL;
 
 /* Gives what the head of an RTP datagram says, and where its CSRCs and its payload are (5.1, 5.3.1): what
  * jalwedd_arrive_rtp reads, which need not be called for it. `head` is left as it is if the status is not TAKEN. Of a

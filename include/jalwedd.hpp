@@ -14,8 +14,11 @@
  *
  * A member function of a participant makes the call of its name in jalwedd.h, which says more about it, such as what
  * each word is for; only jalwedd_new is `join` here. A range has the plural of its call's name, except for `about`.
- * Structures, constants and statuses are those of jalwedd.h, and so are the calls that are not here: jalwedd_text,
- * jalwedd_version, jalwedd_memory, jalwedd_round_trip, jalwedd_ntp_of and jalwedd_rtp_head.
+ * Structures, constants and statuses are those of jalwedd.h, and so are the calls that are not here: jalwedd_text and
+ * the other texts, jalwedd_version, jalwedd_memory, jalwedd_round_trip, jalwedd_ntp_of and jalwedd_rtp_head.
+ *
+ * A datagram is a pointer and a size, or an array, std::array, std::vector or std::span of octets (std::uint8_t). What
+ * a call hands out goes into an array, a std::array or, in C++20, a std::span of JALWEDD_OCTETS octets.
  *
  * WHAT THE HOST MUST ENSURE, as nothing tests it, is what jalwedd.h says, except for this:
  * - A pointer may be null if its size or count is 0, such as that of an empty std::vector.
@@ -477,6 +480,29 @@ struct about : blocks {
 [[nodiscard]] inline std::uint32_t check(const std::uint8_t* datagram, std::size_t size, jalwedd_fault& fault) noexcept
 {
     return jalwedd_check(inside::address(datagram, size), size, &fault);
+}
+
+/// The same of an array, std::array, std::vector or std::span of octets.
+template <typename Datagram, typename = inside::if_has<std::uint8_t, Datagram>>
+[[nodiscard]] std::uint32_t check(const Datagram& datagram, jalwedd_fault& fault) noexcept
+{
+    return check(std::data(datagram), std::size(datagram), fault);
+}
+
+/// Accepts a datagram with a valid RTP head (RFC 3550, 5.1), leaving `fault` as it is, or gives the first rule that it
+/// breaks. Of either fault jalwedd_fault_text tells the reason.
+/// Statuses: TAKEN; TOO_LONG; NO_RTP.
+[[nodiscard]] inline std::uint32_t rtp_fault(const std::uint8_t* datagram, std::size_t size,
+                                             jalwedd_fault& fault) noexcept
+{
+    return jalwedd_rtp_fault(inside::address(datagram, size), size, &fault);
+}
+
+/// The same of an array, std::array, std::vector or std::span of octets.
+template <typename Datagram, typename = inside::if_has<std::uint8_t, Datagram>>
+[[nodiscard]] std::uint32_t rtp_fault(const Datagram& datagram, jalwedd_fault& fault) noexcept
+{
+    return rtp_fault(std::data(datagram), std::size(datagram), fault);
 }
 
 /// What the reports of a datagram say about the source `ssrc` (jalwedd_report): the blocks about it, in their order.

@@ -1,6 +1,6 @@
 /* A host in C that acts as `rtcp replay`: it takes the options, reads events, one per line, and writes the answers of
  * the library. It expects well-formed options and lines, and does not look for faults of text; if the configuration is
- * refused it writes the status. For a refused RTP datagram the library does not give the fault.
+ * refused it writes the status.
  * With `sources` each answer, refused or not, also says whether others changed and how many entries there are, and is
  * followed by a line for each source that the library lists. With `record` it records its calls in the file CALLS, and
  * the command that plays them again in COMMAND.
@@ -27,9 +27,6 @@ static uint64_t start;
 
 /* Nothing is recorded unless main says where to. */
 static jalwedd_record calls, command;
-
-static const char *const REASONS[] = {"",       "Short",   "Version", "FirstType", "FirstPadding", "Length",
-                                      "Padding", "Body",    "Item",    "Reason",    "TooLong"};
 
 static const char *const REFUSALS[] = {"", "Left", "Backwards", "TooFar", "TooMany", "Wire", "Rtp", "OwnSsrc"};
 
@@ -132,9 +129,12 @@ static void write_answer(uint32_t status, const jalwedd_step *step, const uint8_
         return;
     }
     if (status != JALWEDD_TAKEN) {
+        const char *const text = jalwedd_fault_text(fault->reason);
         printf("refused E%" PRIu32 " %s", status, REFUSALS[status]);
+        if (status == JALWEDD_NO_COMPOUND || status == JALWEDD_NO_RTP)
+            printf(": %.*s", (int)strcspn(text, ":"), text); /* the rule as it is named */
         if (status == JALWEDD_NO_COMPOUND)
-            printf(": F%" PRIu32 " %s at %" PRIu64, fault->reason, REASONS[fault->reason], fault->offset);
+            printf(" at %" PRIu64, fault->offset);
         return;
     }
     write_counts("ok", step);
@@ -251,6 +251,8 @@ static void tell(jalwedd_handle *session, char **fields)
         } else {
             jalwedd_record_arrive_rtp(&calls, now, peer, word, datagram, size);
             status = jalwedd_arrive_rtp(session, now, peer, word, datagram, size, &step, octets);
+            if (status == JALWEDD_NO_RTP && (jalwedd_rtp_fault(datagram, size, &fault) != status || fault.offset != 0))
+                printf("an RTP datagram has no fault\n");
         }
         free(datagram);
         free(room);

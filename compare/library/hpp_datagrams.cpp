@@ -333,6 +333,50 @@ static int as_written(const written& given)
     return 0;
 }
 
+/* A datagram in an array, a std::array, a std::vector and a std::span: each gives what a pointer and a size do. */
+static int arrays()
+{
+    const std::uint8_t plain[] = {0x80, 0xc9, 0, 1, 0, 0, 0, 7, 0x81, 0xca, 0, 2, 0, 0, 0, 7, 1, 1, 'a', 0};
+    std::array<std::uint8_t, sizeof plain> array{};
+    std::copy(std::begin(plain), std::end(plain), array.begin());
+    const octets many(array.begin(), array.end());
+    const auto only = [](const auto& items) {
+        return listed(items).size() == 1 && (*items.begin()).kind == JALWEDD_SDES_CNAME && (*items.begin()).text == "a";
+    };
+    jalwedd_fault fault{};
+    HOLDS(only(jalwedd::sdes_items(plain)) && only(jalwedd::sdes_items(array)) && only(jalwedd::sdes_items(many)));
+    HOLDS(only(jalwedd::sdes_items(plain, sizeof plain)) && listed(jalwedd::sdes_items(octets())).empty());
+    HOLDS(listed(jalwedd::senders(plain)).empty() && jalwedd::senders(array).status() == JALWEDD_NO_PART);
+    HOLDS(listed(jalwedd::goodbyes(many)).empty() && jalwedd::blocks(octets()).status() == JALWEDD_NO_COMPOUND);
+    HOLDS(listed(jalwedd::apps(array)).empty() && jalwedd::about(plain, 7).status() == JALWEDD_NO_BLOCK);
+    HOLDS(jalwedd::check(array, fault) == JALWEDD_TAKEN && fault.reason == 0);
+    HOLDS(jalwedd::check(octets(), fault) == JALWEDD_NO_COMPOUND && fault.reason == 1 && fault.offset == 0);
+#ifdef __cpp_lib_span
+    HOLDS(only(jalwedd::sdes_items(std::span(array))) && only(jalwedd::sdes_items(std::span(many))));
+#endif
+    return 0;
+}
+
+/* Each rule of an RTP head has a reason with a text. */
+static int faults_of_heads()
+{
+    const octets valid = {0x80, 0, 0, 1, 0, 0, 0, 0, 0, 0, 0, 7};
+    const std::vector<std::pair<octets, std::string_view>> wrong = {
+        {{}, "G1 Short"}, {{0x40, 0, 0, 1, 0, 0, 0, 0, 0, 0, 0, 7}, "G2 Version"},
+        {{0x80, 72, 0, 1, 0, 0, 0, 0, 0, 0, 0, 7}, "G3 PayloadType"},
+        {{0x90, 0, 0, 1, 0, 0, 0, 0, 0, 0, 0, 7}, "G4 Extension"},
+        {{0xa0, 0, 0, 1, 0, 0, 0, 0, 0, 0, 0, 7}, "G5 Padding"}};
+    jalwedd_fault fault{99, 99};
+    HOLDS(jalwedd::rtp_fault(valid, fault) == JALWEDD_TAKEN && fault.offset == 99 && fault.reason == 99);
+    HOLDS(jalwedd::rtp_fault(octets(65536, 0x80), fault) == JALWEDD_TOO_LONG && fault.reason == 99);
+    for (const auto& [datagram, rule] : wrong) {
+        HOLDS(jalwedd::rtp_fault(datagram.data(), datagram.size(), fault) == JALWEDD_NO_RTP && fault.offset == 0);
+        const std::string_view text = jalwedd_fault_text(fault.reason);
+        HOLDS(text.substr(0, text.find(':')) == rule);
+    }
+    return 0;
+}
+
 /* One to three octets are changed, or the end is missing, or both. */
 static octets damage(octets datagram)
 {
@@ -372,7 +416,7 @@ int main(int count, char** words)
 {
     HOLDS(count == 2);
     const std::string samples = words[1];
-    PASSES(written_out() || nowhere() || iterated() || random_ones(2000));
+    PASSES(written_out() || nowhere() || iterated() || arrays() || faults_of_heads() || random_ones(2000));
     PASSES(of_lines(lines_of(samples + "/conference.hex")) || of_lines(lines_of(samples + "/departures.hex")));
     HOLDS(senders > 1000 && blocks > 1000 && sdes_items > 1000 && goodbyes > 1000 && apps > 1000);
     HOLDS(abouts > 1000 && reasons > 1000 && damaged > 1000);

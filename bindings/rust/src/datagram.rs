@@ -1,6 +1,6 @@
 //! What a datagram says, and the clock of its reports.
 
-use crate::errors::{Fault, FaultReason};
+use crate::errors::{Fault, FaultReason, RtpFault};
 use crate::moment::Moment;
 use crate::parts::{blocks, Parts};
 use crate::{raw, sys};
@@ -15,6 +15,25 @@ use core::time::Duration;
 pub fn check(datagram: &[u8]) -> Result<(), Fault> {
     raw::check(datagram)
         .map_err(|fault| Fault { offset: fault.offset as usize, reason: FaultReason::of(fault.reason) })
+}
+
+/// Accepts a datagram that is an RTP packet (RFC 3550, 5.1).
+///
+/// ```
+/// use jalwedd::{check_rtp, RtpFault};
+///
+/// let of_a_reserved_type = [0x80, 72, 0, 1, 0, 0, 0, 0, 0, 0, 0, 7];
+/// assert_eq!(check_rtp(&of_a_reserved_type), Err(RtpFault::PayloadType));
+/// ```
+///
+/// # Errors
+///
+/// The first rule that the datagram breaks, a [`RtpFault`].
+pub fn check_rtp(datagram: &[u8]) -> Result<(), RtpFault> {
+    raw::rtp_fault(datagram).map_err(|(status, reason)| match status {
+        sys::JALWEDD_TOO_LONG => RtpFault::TooLong,
+        _ => RtpFault::of(reason),
+    })
 }
 
 /// What the reports of an RTCP datagram say about the source `ssrc`: the blocks about it, in their order

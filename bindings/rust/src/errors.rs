@@ -81,7 +81,7 @@ error! {
         /// E5: the RTCP datagram is not a compound (RFC 3550, 6.1): [`check`](crate::check) says why.
         NoCompound = sys::JALWEDD_NO_COMPOUND, "the datagram is not an RTCP compound";
         /// E6: the RTP datagram is not a packet (RFC 3550, 5.1): it is cut short, or its version, payload
-        /// type, extension or padding is wrong.
+        /// type, extension or padding is wrong. [`check_rtp`](crate::check_rtp) says which.
         NoRtp = sys::JALWEDD_NO_RTP, "the datagram is not an RTP packet";
         /// E7: the datagram names the participant's own SSRC, and may not change it (again) (RFC 3550, 8.2),
         /// as in a loop.
@@ -120,6 +120,25 @@ error! {
         /// F9: the reason of a BYE does not end in the packet's last word.
         Reason = 9, "the BYE reason does not end in the packet's last word";
         /// F10: the datagram has more than 65,535 octets.
+        TooLong = 10, "the datagram has more than 65,535 octets";
+    }
+}
+
+error! {
+    /// The first rule of an RTP head that a datagram breaks (RFC 3550, 5.1): why
+    /// [`Participant::arrive_rtp`](crate::Participant::arrive_rtp) refuses it as [`Refusal::NoRtp`].
+    RtpFault, "reason" {
+        /// G1: there are fewer octets than the fixed part and the CSRCs that it counts.
+        Short = 11, "fewer octets than the fixed part and its CSRCs";
+        /// G2: the version is not 2.
+        Version = 12, "the version is not 2";
+        /// G3: the payload type is one of 72 to 76, which are reserved (RFC 3551, 6).
+        PayloadType = 13, "the payload type is reserved, 72 to 76";
+        /// G4: the header extension runs past the datagram (5.3.1).
+        Extension = 14, "the header extension runs past the datagram";
+        /// G5: the number of padding octets is missing, 0, or more than follow the header.
+        Padding = 15, "the number of padding octets is missing, 0 or too large";
+        /// The datagram has more than 65,535 octets, and is not read.
         TooLong = 10, "the datagram has more than 65,535 octets";
     }
 }
@@ -193,6 +212,7 @@ mod tests {
         assert_eq!(named(Refusal::of, Refusal::Unknown), [1, 2, 3, 4, 5, 6, 7, 14, 15, 16, 23]);
         assert_eq!(named(NewError::of, NewError::Unknown), [11, 12, 13, 14, 15, 16, 17, 22]);
         assert_eq!(named(FaultReason::of, FaultReason::Unknown), [1, 2, 3, 4, 5, 6, 7, 8, 9, 10]);
+        assert_eq!(named(RtpFault::of, RtpFault::Unknown), [10, 11, 12, 13, 14, 15]);
         assert_eq!(Refusal::of(u32::MAX), Refusal::Unknown(u32::MAX));
         assert_eq!(NewError::of(99).to_string(), "unknown status 99");
     }
@@ -202,7 +222,8 @@ mod tests {
         let refusals = (0..=23).map(|number| Refusal::of(number).to_string());
         let new_errors = (0..=23).map(|number| NewError::of(number).to_string());
         let reasons = (0..=10).map(|number| FaultReason::of(number).to_string());
-        for text in refusals.chain(new_errors).chain(reasons) {
+        let of_heads = (10..=15).map(|number| RtpFault::of(number).to_string());
+        for text in refusals.chain(new_errors).chain(reasons).chain(of_heads) {
             assert!(
                 text.len() <= 60 && text.starts_with(char::is_lowercase) && !text.ends_with('.'),
                 "{text}"

@@ -20,7 +20,7 @@ use crate::raw;
 /// # Errors
 ///
 /// [`Refusal::TooLong`] if the datagram has more than 65,535 octets, or [`Refusal::NoRtp`] if it has no valid
-/// head.
+/// head: [`check_rtp`](crate::check_rtp) says why.
 pub fn rtp_head(datagram: &[u8]) -> Result<RtpHead<'_>, Refusal> {
     let told = raw::rtp_head(datagram).map_err(Refusal::of)?;
     Ok(RtpHead {

@@ -137,8 +137,8 @@ pub use changes::{changes, Change, Changes, Role};
 #[cfg(feature = "std")]
 pub use clock::Clock;
 pub use config::{Config, Item, ItemKind, RtpClock, RtpClocks, Settings};
-pub use datagram::{about, check, ntp_of, round_trip, Report, Reports};
-pub use errors::{Fault, FaultReason, NewError, NotRising, Refusal, TextTooLong, TooManyClocks};
+pub use datagram::{about, check, check_rtp, ntp_of, round_trip, Report, Reports};
+pub use errors::{Fault, FaultReason, NewError, NotRising, Refusal, RtpFault, TextTooLong, TooManyClocks};
 pub use head::{rtp_head, RtpHead};
 pub use moment::Moment;
 pub use participant::Participant;

@@ -207,6 +207,17 @@ fn next_part<T: Default>(
     .ok()
 }
 
+/// The reason for which an RTP datagram is refused, if it is, and the status.
+pub(crate) fn rtp_fault(datagram: &[u8]) -> Result<(), (u32, u32)> {
+    let mut fault = sys::jalwedd_fault::default();
+    // SAFETY: VALID, APART
+    let status = unsafe { sys::jalwedd_rtp_fault(datagram.as_ptr(), datagram.len(), &mut fault) };
+    match status {
+        sys::JALWEDD_TAKEN => Ok(()),
+        refused => Err((refused, fault.reason)),
+    }
+}
+
 /// The head of an RTP datagram, or the status that refuses it.
 pub(crate) fn rtp_head(datagram: &[u8]) -> Result<sys::jalwedd_head_place, u32> {
     taken(|head| {

@@ -413,6 +413,8 @@ unsafe extern "C" {
 
     pub fn jalwedd_app(datagram: *const u8, size: usize, index: u32, app: *mut jalwedd_app_place) -> u32;
 
+    pub fn jalwedd_rtp_fault(datagram: *const u8, size: usize, fault: *mut jalwedd_fault) -> u32;
+
     pub fn jalwedd_rtp_head(datagram: *const u8, size: usize, head: *mut jalwedd_head_place) -> u32;
 
     // these two take numbers alone, so that any call of them is safe

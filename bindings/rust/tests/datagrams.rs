@@ -1,8 +1,8 @@
 //! What datagrams say, and the formulas of times.
 
 use jalwedd::{
-    about, apps, blocks, check, goodbyes, items, ntp_of, round_trip, rtp_head, senders, App, Fault,
-    FaultReason, Goodbye, Moment, Refusal, Report, SdesItem, SenderReport,
+    about, apps, blocks, check, check_rtp, goodbyes, items, ntp_of, round_trip, rtp_head, senders, App,
+    Fault, FaultReason, Goodbye, Moment, Refusal, Report, RtpFault, SdesItem, SenderReport,
 };
 use std::time::Duration;
 
@@ -156,6 +156,16 @@ fn a_head_tells_its_fields_and_borrows_its_payload() {
 
 #[test]
 fn a_head_that_is_refused_tells_nothing() {
+    assert_eq!((check_rtp(&RTP), check_rtp(&RTP[..11])), (Ok(()), Err(RtpFault::Short)));
+    for (first, second, fault) in [
+        (0x40, 0, RtpFault::Version),
+        (0x80, 72, RtpFault::PayloadType),
+        (0x90, 0, RtpFault::Extension),
+        (0xa0, 0, RtpFault::Padding),
+    ] {
+        assert_eq!(check_rtp(&[first, second, 0, 0, 0, 0, 0, 0, 0, 0, 0, 1]), Err(fault));
+    }
+    assert_eq!(check_rtp(&[0x80; 65_536]), Err(RtpFault::TooLong));
     assert_eq!(rtp_head(&RTP[..11]), Err(Refusal::NoRtp));
     assert_eq!(rtp_head(&[]), Err(Refusal::NoRtp));
     assert_eq!(rtp_head(&[0x80; 65_536]), Err(Refusal::TooLong));

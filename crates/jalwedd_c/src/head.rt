@@ -1,12 +1,13 @@
-//! The head of an RTP datagram.
+//! The head of an RTP datagram, and why a datagram has none.
 
 ghost use Rattle.std.specs.Prelude.{◌≡◌, ◌<◌, ◌≤◌, length};
 ghost use Rattle.rtcp_wire.specs.declared.rtp.fault.RtpFault.{RtpFault as HeadFault};
 ghost use Rattle.rtcp_wire.specs.RtpHeads.{RtpValue, IsRtpFault, IsRtpHead};
-ghost use Rattle.jalwedd_host.specs.Heads.{ShowsHead};
+ghost use Rattle.jalwedd_host.specs.Heads.{ShowsHead, ShowsHeadFault};
 
 use crate::calls::LONGEST;
-use jalwedd_host::head::{HeadPlace, head_place};
+use jalwedd_host::head::{HeadPlace, head_place, head_reason_number};
+use jalwedd_host::reading::Fault;
 use jalwedd_host::status::{NO_RTP, TAKEN, TOO_LONG};
 use rtcp_wire::RtpHead;
 
@@ -31,5 +32,32 @@ pub extern "C" fn jalwedd_rtp_head(datagram: &[u8], head: &mut HeadPlace) -> u32
             TAKEN
         }
         Err(_) => NO_RTP,
+    }
+}
+
+/// Tells whether a datagram has a valid RTP head (RFC 3550, 5.1). Where it has, `fault` is left as it is; else that
+/// tells the first rule that the datagram breaks. Of one of more than 65,535 octets nothing is read.
+///
+/// Statuses: 0; 23 where the datagram has more than 65,535 octets; else 6 where it has no valid head.
+#[unsafe(no_mangle)]
+pub extern "C" fn jalwedd_rtp_fault(datagram: &[u8], fault: &mut Fault) -> u32
+    ensures accepted { (value : RtpValue) → IsRtpHead datagram.now value → length datagram.now ≤ 65535 →
+        (result ≡ 0) × (fault.new ≡ fault.old) }
+    ensures refused { (first : HeadFault) → IsRtpFault datagram.now first → length datagram.now ≤ 65535 →
+        (result ≡ 6) × ShowsHeadFault fault.new first }
+    ensures too_long { 65535 < length datagram.now → (result ≡ 23) × (fault.new ≡ fault.old) }
+{
+    if datagram.len() > LONGEST {
+        return TOO_LONG;
+    }
+    match RtpHead::read(datagram) {
+        Ok(_) => TAKEN,
+        Err(first) => {
+            *fault = Fault {
+                offset: 0,
+                reason: head_reason_number(first),
+            };
+            NO_RTP
+        }
     }
 }

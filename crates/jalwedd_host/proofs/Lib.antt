@@ -10,3 +10,5 @@ mod Turns
 mod Held
 mod WholeWalks
 mod OwnWalks
+mod Reasons
+mod HeadReasons

@@ -1,9 +1,10 @@
-//! How a host is told of the head of an RTP datagram.
+//! How a host is told of the head of an RTP datagram, and why a datagram has none.
 
+ghost use Rattle.std.specs.Prelude.{◌≡◌};
 ghost use Rattle.rtcp_wire.specs.RtpHeads.{IsRtpHead};
-ghost use Rattle.jalwedd_host.specs.Heads.{ShowsHead};
+ghost use Rattle.jalwedd_host.specs.Heads.{ShowsHead, number_of_head_fault};
 
-use rtcp_wire::RtpHead;
+use rtcp_wire::{RtpFault, RtpHead};
 
 /// The octets of a head before its CSRCs (RFC 3550, 5.1).
 const FIXED_SIZE: u64 = 12;
@@ -47,5 +48,18 @@ pub fn head_place(datagram: &[u8], head: &RtpHead<'_>) -> HeadPlace
         payload_type: u32::from(head.payload_type()),
         marker: u32::from(head.marker()),
         csrcs: head.csrcs().count() as u32,
+    }
+}
+
+/// 11 to 15, for G1 to G5: no fault of a compound has these numbers.
+pub fn head_reason_number(fault: RtpFault) -> u32
+    ensures { result ≡ number_of_head_fault fault }
+{
+    match fault {
+        RtpFault::Short => 11,
+        RtpFault::Version => 12,
+        RtpFault::PayloadType => 13,
+        RtpFault::Extension => 14,
+        RtpFault::Padding => 15,
     }
 }

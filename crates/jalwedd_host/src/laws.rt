@@ -5,6 +5,8 @@ ghost use Rattle.rtcp_wire.specs.Contents.{all_apps, all_blocks, all_goodbyes, a
 ghost use Rattle.rtcp_wire.specs.Contents.{packet_apps, packet_blocks, packet_goodbyes, packet_items, packet_senders};
 ghost use Rattle.rtcp_wire.specs.Grammar.{AreOctets, IsAccepted};
 ghost use Rattle.rtcp_wire.specs.RtpHeads.{RtpValue, IsReserved, IsRtpHead};
+ghost use Rattle.rtcp_wire.specs.declared.fault.FaultReason.{FaultReason as Rule};
+ghost use Rattle.rtcp_wire.specs.declared.rtp.fault.RtpFault.{RtpFault as HeadRule};
 ghost use Rattle.rtcp_wire.specs.Values.{AppValue, ItemValue, ReportBlock, RtcpPacket};
 ghost use Rattle.rtcp_members.specs.Told.{StateValue};
 ghost use Rattle.rtcp_listing.specs.Differences.{listed_of};
@@ -27,9 +29,9 @@ ghost use Rattle.jalwedd_host.specs.declared.parts.ItemPlace.{ItemPlace};
 ghost use Rattle.jalwedd_host.specs.declared.reading.Report.{Report};
 ghost use Rattle.rtcp_parts.specs.Cursors.{IsBoundary, LeavesBlocks, LeavesGoodbyes, LeavesItems, LeavesNone};
 ghost use Rattle.jalwedd_host.specs.Apps.{ShowsApp, TellsOwnApps};
-ghost use Rattle.jalwedd_host.specs.Heads.{ShowsHead};
+ghost use Rattle.jalwedd_host.specs.Heads.{ShowsHead, number_of_head_fault};
 ghost use Rattle.jalwedd_host.specs.Parts.{ShowsGoodbye, ShowsItem, ShowsSender};
-ghost use Rattle.jalwedd_host.specs.Readings.{ShowsBlock};
+ghost use Rattle.jalwedd_host.specs.Readings.{ShowsBlock, number_of};
 ghost use Rattle.jalwedd_host.specs.Walks.{TellsAll, begins};
 
 use rtcp_engine::difference_laws::changes_tell_each_once;
@@ -79,6 +81,13 @@ pub fn walks_tell_of_each_part()
     ensures boundary { (datagram : List ℕ) (packets : List RtcpPacket) → IsAccepted datagram packets →
         IsBoundary datagram begins.next }
     ensures own_apps { TellsOwnApps }
+{}
+
+/// The number of a reason says which rule a datagram breaks: no two rules of compounds or of RTP heads have the same.
+pub fn reasons_tell_the_rule()
+    ensures compounds { (one other : Rule) → number_of one ≡ number_of other → one ≡ other }
+    ensures heads { (one other : HeadRule) → number_of_head_fault one ≡ number_of_head_fault other → one ≡ other }
+    ensures apart { (reason : Rule) (fault : HeadRule) → number_of reason ≡ number_of_head_fault fault → ⊥ }
 {}
 
 /// What a host is told of the parts of a datagram is in the ranges that the header states: items have a type from 1 to

@@ -6,13 +6,13 @@ ghost use Rattle.jalwedd_host.specs.Readings.{ShowsBlock, number_of};
 
 use rtcp_wire::{Block, FaultReason};
 
-/// Why a datagram is not a compound: its first fault.
+/// Why a datagram is not a compound, or has no valid RTP head: its first fault.
 #[repr(C)]
 #[derive(Clone, Copy, Debug, PartialEq, Eq)]
 pub struct Fault {
-    /// Where the packet at fault begins, in octets.
+    /// Where the packet at fault begins, in octets: 0 for an RTP datagram.
     pub offset: u64,
-    /// 1 to 10, for F1 to F10.
+    /// 1 to 10, for F1 to F10; 11 to 15, for G1 to G5.
     pub reason: u32,
 }
 

@@ -1,7 +1,7 @@
 //! The heads of RTP datagrams, made by hand by RFC 3550, 5.1 and 5.3.1.
 
 use super::*;
-use crate::head::jalwedd_rtp_head;
+use crate::head::{jalwedd_rtp_fault, jalwedd_rtp_head};
 
 /// What no call wrote.
 const UNTOLD: HeadPlace = HeadPlace {
@@ -82,5 +82,71 @@ fn heads(rt: HostRuntime) {
         let found = jalwedd_rtp_head(datagram, &mut head);
         assert_eq!(rt; found, *status, "row {number}");
         assert!(rt; head == *wanted, "row {number}");
+    }
+}
+
+/// What no call wrote.
+const NO_FAULT: Fault = Fault {
+    offset: 99,
+    reason: 99,
+};
+
+/// A datagram, the status, and the fault as it is then: of two with a head, and then of one for each rule in turn. The
+/// sixth has an extension bit and no word for it, and the seventh a padding bit and nothing after its head. The last is
+/// an octet too long for UDP.
+static FAULTS: [(&[u8], u32, Fault); 8] = [
+    (&WHOLE, 0, NO_FAULT),
+    (&BARE, 0, NO_FAULT),
+    (
+        &SHORT,
+        6,
+        Fault {
+            offset: 0,
+            reason: 11,
+        },
+    ),
+    (
+        &[0x40; 12],
+        6,
+        Fault {
+            offset: 0,
+            reason: 12,
+        },
+    ),
+    (
+        &[0x80, 0xc8, 0, 0, 0, 0, 0, 0, 0, 0, 0, 0],
+        6,
+        Fault {
+            offset: 0,
+            reason: 13,
+        },
+    ),
+    (
+        &[0x90, 0, 0, 0, 0, 0, 0, 0, 0, 0, 0, 0],
+        6,
+        Fault {
+            offset: 0,
+            reason: 14,
+        },
+    ),
+    (
+        &[0xa0, 0, 0, 0, 0, 0, 0, 0, 0, 0, 0, 0],
+        6,
+        Fault {
+            offset: 0,
+            reason: 15,
+        },
+    ),
+    (&TOO_LONG, 23, NO_FAULT),
+];
+
+/// Each datagram has the fault of its row.
+#[test]
+fn faults_of_heads(rt: HostRuntime) {
+    for (number, (datagram, status, wanted)) in FAULTS.iter().enumerate() {
+        let mut fault = NO_FAULT;
+        let found = jalwedd_rtp_fault(datagram, &mut fault);
+        assert_eq!(rt; found, *status, "row {number}");
+        assert!(rt; fault == *wanted, "row {number}");
     }
 }
