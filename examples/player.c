@@ -32,7 +32,6 @@ enum {
     LEAVE_TIME = 5 * SECOND,            /* others can delay the BYE for longer than a player is willing to wait */
     MOST_OCTETS = 65535,
     LARGEST_RTCP = 1500,                /* a larger datagram is dropped: one could name 8,057 sources */
-    CNAME = 1,
     NOTES = 32
 };
 
@@ -162,7 +161,7 @@ static void take_cnames(struct player *player, const uint8_t *datagram, size_t s
     jalwedd_cursor cursor = JALWEDD_BEGIN;
     jalwedd_item_place item;
     while (jalwedd_next_sdes_item(datagram, size, &cursor, &item) == JALWEDD_TAKEN)
-        if (item.kind == CNAME)
+        if (item.kind == JALWEDD_SDES_CNAME)
             note_cname(note_of(player, item.ssrc), datagram + item.offset, item.size);
 }
 
@@ -336,7 +335,7 @@ static bool end_record(jalwedd_record *record)
 /* Begins the session. With a name of a record, that is begun too, and its command is written. */
 static bool begin(struct player *player, const char *record)
 {
-    const jalwedd_item tool = {.kind = 6, .size = 7, .text = "jalwedd"};
+    const jalwedd_item tool = {.kind = JALWEDD_SDES_TOOL, .size = 7, .text = "jalwedd"};
     const uint8_t cname[] = "player@example.com";
     const uint32_t word = random_word();
     if (jalwedd_new(&player->session, &player->config, cname, sizeof cname - 1, &tool, 1, word, &player->step)

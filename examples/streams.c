@@ -239,7 +239,7 @@ static int bound(int port)
 
 static bool begin(struct host *host)
 {
-    const jalwedd_item tool = {.kind = 6, .size = 7, .text = "jalwedd"};
+    const jalwedd_item tool = {.kind = JALWEDD_SDES_TOOL, .size = 7, .text = "jalwedd"};
     const uint8_t cname[] = "streams@example.com";
     const uint64_t start = microseconds(), ntp_base = ntp_now(); /* read together */
     bool is_begun = true;

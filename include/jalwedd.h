@@ -249,7 +249,7 @@ static inline const char *jalwedd_clocks_text(uint32_t clock_count, const jalwed
 
 /* What a participant says about itself besides its CNAME, one in every third report (RFC 3550, 6.5.2 to 6.5.8). */
 typedef struct jalwedd_item {
-    uint8_t kind;           /* NAME 2, EMAIL 3, PHONE 4, LOC 5, TOOL 6, NOTE 7, PRIV 8 */
+    uint8_t kind;           /* JALWEDD_SDES_NAME to JALWEDD_SDES_PRIV */
     uint8_t size;           /* the octets of the text */
     uint8_t text[255];      /* the text in UTF-8, which nothing tests, and anything after it */
 } jalwedd_item;
@@ -316,7 +316,7 @@ typedef struct jalwedd_item_place {
     uint64_t offset;        /* the offset of the text, in octets */
     uint64_t size;          /* the octets of the text, 0 to 255: no zero octet follows it */
     uint32_t ssrc;          /* the SSRC of the source that it describes */
-    uint32_t kind;          /* CNAME 1, NAME 2, EMAIL 3, PHONE 4, LOC 5, TOOL 6, NOTE 7, PRIV 8, or another */
+    uint32_t kind;          /* JALWEDD_SDES_CNAME to JALWEDD_SDES_PRIV, or another number */
 } jalwedd_item_place;
 
 /* A source that leaves (6.6), and where the reason is in the datagram. */
@@ -553,7 +553,8 @@ uint32_t jalwedd_check(const uint8_t *datagram, size_t size, jalwedd_fault *faul
  *
  *     jalwedd_cursor cursor = JALWEDD_BEGIN;
  *     while (jalwedd_next_sdes_item(datagram, size, &cursor, &item) == JALWEDD_TAKEN)
- *         name(item.ssrc, item.kind, datagram + item.offset, item.size);
+ *         if (item.kind == JALWEDD_SDES_CNAME)
+ *             name(item.ssrc, datagram + item.offset, item.size);
  *
  * For the blocks about one source, walk over all blocks and compare report.ssrc with it. The first call of a walk
  * checks the datagram, as jalwedd_check does, and no other checks it again. So a walk takes a time that grows with the

@@ -9,8 +9,9 @@
  *     session.tick(now, random_word(), random_word(), step, octets);    at step.next, and at least once a second
  *     for (const jalwedd_source_state& source : session.sources())
  *         show(source.ssrc, source.received, source.lost);
- *     for (const jalwedd::sdes_item& item : jalwedd::sdes_items(datagram, size))
- *         name(item.ssrc, item.kind, item.text);
+ *     for (const jalwedd::sdes_item& item : jalwedd::sdes_items(datagram))
+ *         if (item.kind == JALWEDD_SDES_CNAME)
+ *             name(item.ssrc, item.text);
  *
  * A member function of a participant makes the call of its name in jalwedd.h, which says more about it, such as what
  * each word is for; only jalwedd_new is `join` here. A range has the plural of its call's name, except for `about`.
@@ -345,7 +346,8 @@ private:
     jalwedd_handle handle_ = JALWEDD_EMPTY;
 };
 
-/// An item for join and configure, of a kind from 2 to 8 (jalwedd_item), or none if the text has more than 255 octets.
+/// An item for join and configure, of a kind from JALWEDD_SDES_NAME to JALWEDD_SDES_PRIV, or none if the text has more
+/// than 255 octets.
 [[nodiscard]] inline std::optional<jalwedd_item> item(std::uint8_t kind, std::string_view text) noexcept
 {
     jalwedd_item made{};
@@ -397,7 +399,7 @@ struct changes {
 /// An SDES item (RFC 3550, 6.5).
 struct sdes_item {
     std::uint32_t ssrc = 0;  ///< the SSRC of the source that it describes
-    std::uint32_t kind = 0;  ///< CNAME 1, NAME 2, EMAIL 3, PHONE 4, LOC 5, TOOL 6, NOTE 7, PRIV 8, or another
+    std::uint32_t kind = 0;  ///< JALWEDD_SDES_CNAME to JALWEDD_SDES_PRIV, or another number
     std::string_view text{}; ///< 0 to 255 octets of the datagram: they need not be UTF-8, and no zero octet follows
 };
 

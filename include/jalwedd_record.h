@@ -355,9 +355,11 @@ static inline int jalwedd_record_are_options(const jalwedd_item *items, size_t c
     if (count > 7)
         return 0;
     for (at = 0; at < count; at++) {
-        if (items[at].kind < 2 || items[at].kind > 8 || (at > 0 && items[at].kind <= items[at - 1].kind))
+        if (items[at].kind < JALWEDD_SDES_NAME || items[at].kind > JALWEDD_SDES_PRIV)
             return 0;
-        if (items[at].kind != 8 && !jalwedd_record_is_value(items[at].text, items[at].size))
+        if (at > 0 && items[at].kind <= items[at - 1].kind)
+            return 0;
+        if (items[at].kind != JALWEDD_SDES_PRIV && !jalwedd_record_is_value(items[at].text, items[at].size))
             return 0;
     }
     return 1;
@@ -380,8 +382,8 @@ static inline void jalwedd_record_quoted(jalwedd_record_line *line, const uint8_
 static inline void jalwedd_record_item(jalwedd_record_line *line, const jalwedd_item *item)
 {
     static const char *const options[] = {" --name", " --email", " --phone", " --loc", " --tool", " --note", " --priv"};
-    jalwedd_record_text(line, options[item->kind - 2]);
-    if (item->kind != 8) {
+    jalwedd_record_text(line, options[item->kind - JALWEDD_SDES_NAME]);
+    if (item->kind != JALWEDD_SDES_PRIV) {
         jalwedd_record_quoted(line, item->text, item->size);
         return;
     }

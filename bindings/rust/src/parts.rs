@@ -136,10 +136,30 @@ pub struct SenderReport {
 pub struct SdesItem<'a> {
     /// The SSRC of the source.
     pub ssrc: u32,
-    /// What the text is: CNAME 1, NAME 2, EMAIL 3, PHONE 4, LOC 5, TOOL 6, NOTE 7, PRIV 8, or another.
+    /// What the text is: [`SdesItem::CNAME`] to [`SdesItem::PRIV`], or another number.
     pub kind: u32,
     /// The text, at most 255 octets. It need not be UTF-8.
     pub text: &'a [u8],
+}
+
+/// What an SDES item is, by the number that it has in a datagram.
+impl SdesItem<'_> {
+    /// CNAME: the name that stands for a participant in all of its streams (6.5.1).
+    pub const CNAME: u32 = sys::JALWEDD_SDES_CNAME;
+    /// NAME: the user's name (6.5.2).
+    pub const NAME: u32 = sys::JALWEDD_SDES_NAME;
+    /// EMAIL: an address for electronic mail (6.5.3).
+    pub const EMAIL: u32 = sys::JALWEDD_SDES_EMAIL;
+    /// PHONE: a phone number (6.5.4).
+    pub const PHONE: u32 = sys::JALWEDD_SDES_PHONE;
+    /// LOC: where the user is (6.5.5).
+    pub const LOC: u32 = sys::JALWEDD_SDES_LOC;
+    /// TOOL: the name of the application (6.5.6).
+    pub const TOOL: u32 = sys::JALWEDD_SDES_TOOL;
+    /// NOTE: a message about the state of the source (6.5.7).
+    pub const NOTE: u32 = sys::JALWEDD_SDES_NOTE;
+    /// PRIV: a prefix, with its length before it, and a value (6.5.8).
+    pub const PRIV: u32 = sys::JALWEDD_SDES_PRIV;
 }
 
 /// A source that leaves (RFC 3550, 6.6).

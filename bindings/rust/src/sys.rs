@@ -80,6 +80,15 @@ pub struct jalwedd_settings {
     pub clocks: [jalwedd_clock; 16],
 }
 
+pub const JALWEDD_SDES_CNAME: u32 = 1;
+pub const JALWEDD_SDES_NAME: u32 = 2;
+pub const JALWEDD_SDES_EMAIL: u32 = 3;
+pub const JALWEDD_SDES_PHONE: u32 = 4;
+pub const JALWEDD_SDES_LOC: u32 = 5;
+pub const JALWEDD_SDES_TOOL: u32 = 6;
+pub const JALWEDD_SDES_NOTE: u32 = 7;
+pub const JALWEDD_SDES_PRIV: u32 = 8;
+
 #[repr(C)]
 #[derive(Clone, Copy, Debug)]
 pub struct jalwedd_item {

@@ -106,8 +106,8 @@ fn senders_and_blocks_are_told_each_once() {
 #[test]
 fn items_borrow_their_texts() {
     let datagram = parts();
-    let cname = SdesItem { ssrc: 9, kind: 1, text: b"ab" };
-    let note = SdesItem { ssrc: 9, kind: 7, text: b"" };
+    let cname = SdesItem { ssrc: 9, kind: SdesItem::CNAME, text: b"ab" };
+    let note = SdesItem { ssrc: 9, kind: SdesItem::NOTE, text: b"" };
     assert_eq!(items(&datagram).unwrap().collect::<Vec<_>>(), [cname, note]);
 }
 

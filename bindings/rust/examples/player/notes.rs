@@ -1,10 +1,7 @@
 //! What sources say and the participant does not keep.
 
-use jalwedd::{about, items, Fault, Report};
+use jalwedd::{about, items, Fault, Report, SdesItem};
 use std::time::Duration;
-
-/// The type of an SDES item that is a CNAME (RFC 3550, 6.5.1).
-const CNAME: u32 = 1;
 
 const MOST: usize = 32;
 
@@ -27,7 +24,7 @@ impl Notes {
     /// Takes down what a datagram says that came at the NTP timestamp `arrival`: CNAMEs, and how the stream
     /// `own` comes to others.
     pub fn take(&mut self, own: u32, arrival: u64, datagram: &[u8]) -> Result<(), Fault> {
-        for item in items(datagram)?.filter(|item| item.kind == CNAME) {
+        for item in items(datagram)?.filter(|item| item.kind == SdesItem::CNAME) {
             self.note_of(item.ssrc).cname = item.text.escape_ascii().to_string();
         }
         for report in about(datagram, own)? {
