@@ -1,9 +1,10 @@
 /* A conference server: 200 sessions of 5 to 20 members on a virtual clock, with a participant in each. They start one
  * after the other by the server's clock. The server keeps no table of its own. When a step has `others_changed`, it
  * lists the sources again, and the role changes between the two listings say who joined, left, timed out, began to send
- * or stopped. It ticks each session at step.next and at each full second, as only a tick drops those who left or fell
- * silent. The members lose packets, fall silent, and take the server's SSRC; in some sessions a flood of invented SSRCs
- * fills the table.
+ * or stopped, until the participant leaves: from then on it lists nobody, and nobody times out. The server dismisses
+ * nobody (jalwedd_forget), so whoever goes without a BYE was silent for too long. It ticks each session at step.next
+ * and at each full second, as only a tick drops those who left or fell silent. The members lose packets, fall silent,
+ * and take the server's SSRC; in some sessions a flood of invented SSRCs fills the table.
  *
  * Each second of each session, the server's listing and counts are compared with what docs/PROTOCOL.md requires
  * (server_rules.c), given the datagrams that came (server_members.c). The first difference ends the program with
@@ -45,7 +46,7 @@ struct session {
     uint64_t start;                     /* when it starts by the server's clock */
     uint64_t now, random;               /* the time since then, by which its members act */
     uint32_t number;
-    bool is_shown, is_full;
+    bool is_shown, is_full, has_left;   /* the last: the participant, with jalwedd_leave */
     struct roles roles;                 /* from here on for the comparison alone */
     struct members members;
     struct known known;
@@ -159,12 +160,13 @@ static void take_changes(struct session *session)
     }
 }
 
-/* Acts on the step of a call. A compound that it hands out would go to all members here. */
+/* Acts on the step of a call. A compound that it hands out would go to all members here. A leave has others_changed
+ * too, but then nobody is listed, and listings are not compared. */
 static void take_step(struct session *session)
 {
     const bool was_full = session->is_full;
     session->is_full = session->step.entries == ROOM;
-    if (session->step.others_changed)
+    if (session->step.others_changed && !session->has_left)
         take_changes(session);
     if (session->is_full && !was_full)
         happened(session, FULL, session->step.ssrc);
@@ -349,7 +351,8 @@ static void time_walks(void)
     jalwedd_step step;
     jalwedd_source_state source;
     uint64_t from = 0, count = 0;
-    jalwedd_new(&participant, &config, (const uint8_t *)"a", 1, &none, 0, 0, &step);
+    if (jalwedd_new(&participant, &config, (const uint8_t *)"a", 1, &none, 0, 0, &step) != JALWEDD_TAKEN)
+        stop("no participant for the walks");
     fill(&participant, &step);
     const clock_t begin = clock();
     while (count < (uint64_t)WALKS * LONG_TABLE) {
@@ -376,16 +379,22 @@ static struct session *begin_all(uint64_t seed, uint32_t shown)
     return all;
 }
 
-/* The participants leave. From then on they list nobody. With so few members a BYE is handed out at once; a server of
- * larger sessions would tick for some seconds more, and then free the participants whose BYE is not yet due. */
+/* The participants leave. From then on they list nobody, and nobody is told to have timed out. With so few members a
+ * BYE is handed out at once; a server of larger sessions would tick for some seconds more, and then free the
+ * participants whose BYE is not yet due. */
 static void end_all(struct session *all)
 {
     static uint8_t octets[JALWEDD_OCTETS];
     struct listing listing;
     for (uint32_t at = 0; at < SESSIONS; at++) {
         struct session *session = &all[at];
+        const uint32_t timed_out = session->tally[TIMED_OUT];
+        session->has_left = true;
         jalwedd_leave(&session->participant, by_clock(session, session->now), random_word(&session->random),
                       &session->step, octets);
+        compare(session, "others changed by a leave", session->step.others_changed, session->roles.count > 0);
+        take_step(session);
+        compare(session, "time-outs by a leave", session->tally[TIMED_OUT], timed_out);
         list(&session->participant, &listing);
         compare(session, "sources after a leave", listing.count + session->step.entries, 0);
         jalwedd_free(&session->participant);

@@ -277,7 +277,9 @@ typedef struct jalwedd_step {
     uint32_t size;          /* its size in octets */
     uint32_t entries;       /* as jalwedd_entries: the table is full if this is config.capacity */
     uint32_t others_changed; /* 1 if the call changed which other sources are members or which of them send, if only
-                               for a moment: list them again with jalwedd_source. 0 if each has the role it had */
+                               for a moment: list them again with jalwedd_source. 0 if each has the role it had. It is
+                               also 1 for a leave, if others were members: then nobody is listed any more, and nothing
+                               is to be compared. Whoever was listed did not fall silent */
 } jalwedd_step;
 
 /* Why a datagram is not a compound, or has no valid RTP head. */
@@ -398,7 +400,8 @@ typedef struct jalwedd_role_change {
     uint32_t ssrc;
     uint32_t was;           /* its role before */
     uint32_t is;            /* its role now */
-    uint32_t left;          /* 1 if it said goodbye, by the later listing, otherwise 0 */
+    uint32_t left;          /* 1 if it said goodbye, by the later listing. If it is 0, a source that is away now was
+                               silent for too long, or the host dismissed it (jalwedd_forget): the host knows whom */
 } jalwedd_role_change;
 
 /* ---- A participant */
@@ -452,12 +455,12 @@ uint32_t jalwedd_sent_rtp(jalwedd_handle *handle, uint64_t now, uint32_t timesta
                           jalwedd_step *step, uint8_t octets[JALWEDD_OCTETS]);
 
 /* Hands out what is due at the moment `now`, and drops sources that were silent for too long, and those that said
- * goodbye 5 seconds ago or more (6.3.5 to 6.3.7). Call it at step.next, and at least once a second: no other call drops
- * anyone, and the time to step.next grows with the members and with the sizes of compounds that come. Then a source
- * that said goodbye and comes back is ignored for at most 6 seconds, and one that fell silent gives up its entry once
- * it may. With ticks at step.next alone this may take minutes, or hours under attack, in which a full table admits
- * nobody. A host that sends nothing, such as a recorder, ticks too, as otherwise nobody is ever dropped; it need not
- * send the reports.
+ * goodbye 5 seconds ago or more (6.3.5 to 6.3.7). Call it at step.next, and at least once a second: but for
+ * jalwedd_forget no other call drops anyone, and the time to step.next grows with the members and with the sizes of
+ * compounds that come. Then a source that said goodbye and comes back is ignored for at most 6 seconds, and one that
+ * fell silent gives up its entry once it may. With ticks at step.next alone this may take minutes, or hours under
+ * attack, in which a full table admits nobody. A host that sends nothing, such as a recorder, ticks too, as otherwise
+ * nobody falls silent; it need not send the reports.
  * `first_word` is for the draw that decides whether a report or BYE goes out now or is put off (6.3.6, 6.3.7), and
  * `second_word` for the draw of the interval after a report.
  * Hands out nothing, a report, or, after a leave, the BYE. Before step.next it hands out nothing, and takes less than a
@@ -483,7 +486,8 @@ uint32_t jalwedd_configure(jalwedd_handle *handle, uint64_t now, const jalwedd_s
 /* At the moment `now` another source is gone, as the host knows by other means, such as signalling, or so decides. Its
  * entry goes as if it had been silent for too long (6.3.5): it is no member any more, what was counted of it is
  * dropped, and there is room for another source. Named again, it comes as a new one. Nothing changes if the source has
- * no entry or said goodbye, nor for the participant's own SSRC, nor in the backoff after a leave.
+ * no entry or said goodbye, nor for the participant's own SSRC, nor in the backoff after a leave. Listings do not tell
+ * it from a source that fell silent: a host that tells them apart keeps whom it dismissed.
  * Hands out nothing, and leaves `octets` as they are; but they have to be there.
  * Statuses: TAKEN; LEFT to TOO_MANY; IS_EMPTY. */
 uint32_t jalwedd_forget(jalwedd_handle *handle, uint64_t now, uint32_t ssrc, jalwedd_step *step,
@@ -497,6 +501,8 @@ uint32_t jalwedd_forget(jalwedd_handle *handle, uint64_t now, uint32_t ssrc, jal
  * as one more who is leaving, even if it names nobody, and the formula spaces the BYEs of so many. One datagram of such
  * packets can hold this BYE back for days. A host need not wait: 6.3.7 lets a participant leave without a BYE, and the
  * others drop it once it was silent for too long.
+ * From this call on nobody is listed. step->others_changed is 1 if others were members, but nobody fell silent or left:
+ * do not compare listings from here on (jalwedd_change), which would give all of them as away.
  * Hands out nothing, or the BYE.
  * Statuses: TAKEN; LEFT to TOO_MANY; IS_EMPTY. */
 uint32_t jalwedd_leave(jalwedd_handle *handle, uint64_t now, uint32_t word, jalwedd_step *step,
@@ -530,12 +536,16 @@ uint32_t jalwedd_source(jalwedd_handle *handle, uint64_t from, jalwedd_source_st
  *     for (from = 0; jalwedd_change(before, before_count, after, after_count, from, &change) == JALWEDD_TAKEN;
  *          from = (uint64_t)change.ssrc + 1)
  *         if (change.was == JALWEDD_AWAY)      joined(change.ssrc);
- *         else if (change.is == JALWEDD_AWAY)  gone(change.ssrc, change.left ? "by a BYE" : "silent for too long");
+ *         else if (change.is == JALWEDD_AWAY)  gone(change.ssrc, change.left ? "by a BYE" : "silent, or dismissed");
  *
  * A source that said goodbye is listed until a tick 5 seconds or more after that, or until an earlier tick finds it
  * silent for too long: so a host that lists after each call whose step.others_changed is 1 sees that it left by a BYE,
- * and one that lists less often may take it for silent. A source that came and went between two listings is not given.
- * Once the participant leaves, its listing is empty, and says nothing about the others.
+ * and one that lists less often may take it for silent. One that the host dismissed (jalwedd_forget) is given as if it
+ * had been silent. A source that came and went between two listings is not given.
+ * From jalwedd_leave on the participant's listing is empty, and says nothing about the others: compare none of then
+ * with one before, as it gives all who were listed as away, and nobody of them fell silent.
+ * Each call reads both listings, which takes 7 microseconds if they have 1,024 sources (as measured): so 7 milliseconds
+ * if each of these changed.
  * Statuses: TAKEN; NO_CHANGE; NOT_RISING. */
 uint32_t jalwedd_change(const jalwedd_source_state *before, size_t before_count, const jalwedd_source_state *after,
                         size_t after_count, uint64_t from, jalwedd_role_change *change);

@@ -258,8 +258,8 @@ public:
     }
 
     /// Hands out what is due at the moment `now`: nothing, a report, or, after a leave, the BYE; and drops sources that
-    /// were silent for too long or left. Call it at step.next, and at least once a second: no other call drops anyone,
-    /// and step.next may be minutes away.
+    /// were silent for too long or left. Call it at step.next, and at least once a second: but for forget no other call
+    /// drops anyone, and step.next may be minutes away.
     /// Statuses: TAKEN; LEFT to TOO_MANY; IS_EMPTY.
     std::uint32_t tick(std::uint64_t now, std::uint32_t first_word, std::uint32_t second_word, jalwedd_step& step,
                        std::uint8_t (&octets)[JALWEDD_OCTETS]) noexcept
@@ -286,8 +286,8 @@ public:
     }
 
     /// Another source is gone at the moment `now`, as the host knows by other means, or so decides: its entry goes as
-    /// if it had been silent for too long. Nothing changes if it has no entry, or said goodbye. Hands out nothing, and
-    /// leaves `octets` as they are.
+    /// if it had been silent for too long, and `changes` gives it as such a one: a host knows whom it dismissed.
+    /// Nothing changes if it has no entry, or said goodbye. Hands out nothing, and leaves `octets` as they are.
     /// Statuses: TAKEN; LEFT to TOO_MANY; IS_EMPTY.
     std::uint32_t forget(std::uint64_t now, std::uint32_t ssrc, jalwedd_step& step,
                          std::uint8_t (&octets)[JALWEDD_OCTETS]) noexcept
@@ -297,6 +297,8 @@ public:
 
     /// Leaves the session at the moment `now`. Hands out nothing, or the BYE: go on until step.next is JALWEDD_NEVER,
     /// but for some seconds at most, since BYE packets of others can delay this one for days. Then call free.
+    /// From here on nobody is listed. step.others_changed is 1 if others were members, but nobody fell silent: do not
+    /// compare listings any more (changes), which would give all of them as away.
     /// Statuses: TAKEN; LEFT to TOO_MANY; IS_EMPTY.
     std::uint32_t leave(std::uint64_t now, std::uint32_t word, jalwedd_step& step,
                         std::uint8_t (&octets)[JALWEDD_OCTETS]) noexcept
@@ -385,7 +387,9 @@ struct changes {
 } // namespace inside
 
 /// The sources whose roles differ between two listings (jalwedd_role_change), by rising SSRC. A listing is what
-/// participant::sources gave, one after the other.
+/// participant::sources gave, one after the other. One that is away now, with `left` 0, was silent for too long, or the
+/// host dismissed it (participant::forget). From participant::leave on the listing is empty, and is not to be compared.
+/// Each step reads both listings, so 1,000 changes among 1,000 sources take some milliseconds (jalwedd_change).
 /// Its status: TAKEN; NO_CHANGE; NOT_RISING.
 [[nodiscard]] inline range<inside::changes> changes(const jalwedd_source_state* before, std::size_t before_count,
                                                     const jalwedd_source_state* after,

