@@ -6,8 +6,9 @@
  * A host keeps two sockets, a monotonic clock, and a source of random words. `now` is what its clock says, as it is:
  *
  *     jalwedd_handle session = JALWEDD_EMPTY;
- *     config.start = now, config.ntp_base = the time of day as an NTP timestamp;
- *     jalwedd_new(&session, &config, cname, cname_size, items, item_count, random_word(), &step);
+ *     config.start = now, config.ntp_base = the time of day as an NTP timestamp;    both of this moment, read together
+ *     status = jalwedd_new(&session, &config, cname, cname_size, items, item_count, random_word(), &step);
+ *     assert(status == JALWEDD_TAKEN && step.next > now);    or else the start is not `now`, as below
  *     for (;;) {
  *         wait until step.next, or a second after the latest tick, or until a datagram comes
  *         jalwedd_arrive_rtcp(&session, now, peer, random_word(), datagram, size, &step, octets);    a datagram, or
@@ -17,6 +18,11 @@
  *
  * Tick at step.next, and at least once a second: only a tick drops those who left or fell silent, and step.next may be
  * minutes away. jalwedd_tick says what follows from ticks that come less often.
+ *
+ * config.start and config.ntp_base are the same moment by two clocks. With a start of 0 and a clock that counts from
+ * the boot, say, each report has an NTP timestamp that is ahead by all that the clock says. Others play in sync by it.
+ * No call can tell, as each is passed only `now`. But a host can: the first step.next is more than a second later than
+ * the start, so a start of 0 leaves it before `now`.
  *
  * WHAT THE HOST MUST ENSURE, as nothing tests it:
  * - Each pointer is valid, aligned, and not NULL, even if its size is 0: then any aligned address will do, such as that

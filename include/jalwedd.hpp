@@ -2,7 +2,7 @@
  * the sources of a session, what changed between two listings, and the parts of a datagram.
  *
  *     jalwedd::participant session;
- *     config.start = now;                                                             of the host's clock, as below
+ *     config.start = now, config.ntp_base = the time of day;                    of one moment, as in jalwedd.h
  *     if (session.join(config, "player@example.com", random_word(), step) != JALWEDD_TAKEN)
  *         return refused();
  *     session.arrive_rtcp(now, peer, random_word(), datagram, size, step, octets);    as the calls of jalwedd.h

@@ -79,7 +79,8 @@
 //! # Arguments
 //!
 //! - A [`Moment`] is one of the host's clock, in microseconds, and [`Config::start`] the one at which the
-//!   participant begins. Moments never go back.
+//!   participant begins. Moments never go back. `start` and [`Config::ntp_base`] are the same moment by two clocks:
+//!   with a start of 0 and a clock that counts from elsewhere, each report is ahead by what the clock says.
 //! - A `word` is 32 random bits, used once. Random words spread the reports of many participants.
 //! - A `peer` is a number for the address and port that a datagram came from, different for each: a hash of
 //!   both with a random key, as above, or, for IPv4, the address and the port themselves. (A list of peers

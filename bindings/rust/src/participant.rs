@@ -79,6 +79,9 @@ impl Participant {
     /// The library allocates three blocks here, of 2,744 octets and of 136 and 8 for each source of
     /// [`Config::capacity`], and none in any other call.
     ///
+    /// The first [`next_tick`](Participant::next_tick) is more than a second later than [`Config::start`]. If it is
+    /// not later than the present moment, the start was not now, and reports tell a time of day that is ahead.
+    ///
     /// # Errors
     ///
     /// A [`NewError`] says which of the arguments is out of its range, or that there is no memory.
