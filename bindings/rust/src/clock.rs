@@ -16,7 +16,7 @@ const NTP_TO_UNIX: u64 = 2_208_988_800;
 /// let clock = Clock::start();
 /// let now = clock.now();
 /// let time_of_day = ntp_of(clock.ntp_base(), now); // as an NTP timestamp
-/// // `Config { start: now, ntp_base: time_of_day, .. }` is for a participant that begins now
+/// let config = jalwedd::Config::new(0xaa, now, time_of_day); // of a participant that begins now
 /// ```
 #[derive(Clone, Copy, Debug)]
 pub struct Clock {

@@ -6,16 +6,26 @@ use crate::sys;
 use core::fmt;
 use core::hash::{Hash, Hasher};
 
-/// The session and the participant, as the host configures them.
+/// The session and the participant, as the host configures them: made by [`Config::new`], and changed by the
+/// functions that begin with `with_`, or in its fields.
 /// [`Participant::new`](crate::Participant::new) refuses a value that is out of its range.
+///
+/// ```
+/// # use jalwedd::{Config, Moment};
+/// # let (ssrc, now, time_of_day) = (0xaa, Moment::from_micros(600_000_000), 0);
+/// let config = Config::new(ssrc, now, time_of_day).with_session_bps(64_000).with_capacity(20);
+/// assert_eq!((config.sender_bw, config.receiver_bw, config.capacity), (100, 300, 20));
+/// ```
 #[derive(Clone, Copy, Debug, PartialEq, Eq, Hash)]
+#[non_exhaustive]
 pub struct Config {
     /// The NTP timestamp of the start (RFC 3550, section 4): seconds since 1900 in the upper 32 bits, their
     /// fraction in the lower.
     pub ntp_base: u64,
     /// The moment by the host's clock at which the participant begins, up to 2^63 - 1 microseconds:
     /// [`Moment::ZERO`], the default of a moment, for a clock that begins with the session. Read it together with
-    /// the time of day of `ntp_base`.
+    /// the time of day of `ntp_base`: with a start of 0 and a clock that counts from elsewhere, the NTP timestamps of
+    /// all reports are ahead by what the clock says.
     pub start: Moment,
     /// The participant's SSRC, chosen at random (RFC 3550, 8.1). The host's RTP packets go out under it.
     pub ssrc: u32,
@@ -38,6 +48,60 @@ pub struct Config {
 }
 
 impl Config {
+    /// A participant with this SSRC that begins at the moment `start` of the host's clock, which is `ntp_base` by the
+    /// time of day: read both clocks together. All else is as for a session of 64,000 bits a second, PCMU at 8,000
+    /// units a second and no other clock: a capacity of 1,024 sources, and compounds of at most 1,472 octets.
+    pub const fn new(ssrc: u32, start: Moment, ntp_base: u64) -> Config {
+        Config {
+            ntp_base,
+            start,
+            ssrc,
+            capacity: 1024,
+            limit: 1472,
+            sender_bw: 100,
+            receiver_bw: 300,
+            rate: 8000,
+            clocks: RtpClocks::NONE,
+        }
+    }
+
+    /// The same in a session of so many bits a second: 5 per cent of them are for RTCP, and a quarter of that for
+    /// senders (RFC 3550, 6.2).
+    pub const fn with_session_bps(self, bits: u64) -> Config {
+        let (all, senders) = (bits / 160, bits / 160 / 4);
+        self.with_bandwidths(at_most_32_bits(senders), at_most_32_bits(all - senders))
+    }
+
+    /// The same with these bandwidths for the RTCP of senders and of the others, in octets a second (RFC 3556).
+    pub const fn with_bandwidths(mut self, sender_bw: u32, receiver_bw: u32) -> Config {
+        (self.sender_bw, self.receiver_bw) = (sender_bw, receiver_bw);
+        self
+    }
+
+    /// The same with another [`capacity`](Config::capacity).
+    pub const fn with_capacity(mut self, capacity: u32) -> Config {
+        self.capacity = capacity;
+        self
+    }
+
+    /// The same with another [`limit`](Config::limit).
+    pub const fn with_limit(mut self, limit: u32) -> Config {
+        self.limit = limit;
+        self
+    }
+
+    /// The same with another [`rate`](Config::rate).
+    pub const fn with_rate(mut self, rate: u32) -> Config {
+        self.rate = rate;
+        self
+    }
+
+    /// The same with these [`clocks`](Config::clocks).
+    pub const fn with_clocks(mut self, clocks: RtpClocks) -> Config {
+        self.clocks = clocks;
+        self
+    }
+
     pub(crate) fn declared(&self) -> sys::jalwedd_config {
         let Config { ntp_base, start, ssrc, capacity, limit, sender_bw, receiver_bw, rate, clocks } = *self;
         let (start, (clock_count, clocks)) = (start.as_micros(), clocks.declared());
@@ -55,6 +119,14 @@ impl Config {
             reserved: 0,
         }
     }
+}
+
+/// A bandwidth, or the greatest number if it does not fit 32 bits: `Participant::new` refuses that.
+const fn at_most_32_bits(bandwidth: u64) -> u32 {
+    if bandwidth > u32::MAX as u64 {
+        return u32::MAX;
+    }
+    bandwidth as u32
 }
 
 /// What a host may change in a running session, besides the items:

@@ -9,7 +9,7 @@
 //!
 #![cfg_attr(feature = "std", doc = "```no_run")]
 #![cfg_attr(not(feature = "std"), doc = "```ignore")]
-//! use jalwedd::{Answer, Clock, Config, Moment, Participant, Refusal, RtpClocks};
+//! use jalwedd::{Answer, Clock, Config, Moment, Participant, Refusal};
 //! use std::hash::{BuildHasher, RandomState};
 //! use std::net::UdpSocket;
 //! use std::time::Duration;
@@ -22,23 +22,16 @@
 //!         _ => Ok(()),
 //!     };
 //!     let clock = Clock::start();
-//!     let config = Config {
-//!         ntp_base: clock.ntp_base(),
-//!         start: Moment::ZERO, // where this clock counts from
-//!         ssrc: word(),
-//!         capacity: 1024,   // how many other sources to keep track of
-//!         limit: 1472,      // maximum octets of a compound
-//!         sender_bw: 100,   // octets a second, in a session of 64,000 bits a second:
-//!         receiver_bw: 300, // 5 per cent is for RTCP, a quarter of that for senders
-//!         rate: 8000,       // units a second of the RTP timestamps
-//!         clocks: RtpClocks::NONE, // of other payload types
-//!     };
+//!     let config = Config::new(word(), Moment::ZERO, clock.ntp_base()) // this clock counts from the start
+//!         .with_session_bps(64_000) // bits a second: 5 per cent of them are for RTCP
+//!         .with_capacity(1024) // how many other sources to keep track of
+//!         .with_rate(8000); // units a second of the RTP timestamps
 //!     let mut session = Participant::new(&config, b"player@example.com", &[], word())?;
 //!     let (mut ticked, mut leave) = (clock.now(), Some(Moment::from(Duration::from_secs(60))));
 //!     let end = Moment::from(Duration::from_secs(65));
 //!     let (peers, mut datagram) = (RandomState::new(), [0; 1_501]);
 //!     while let Some(next) = session.next_tick() {
-//!         let next = next.min(ticked.saturating_add(Duration::from_secs(1))); // at least once a second
+//!         let next = next.min(ticked + Duration::from_secs(1)); // at least once a second
 //!         let wait = next.saturating_duration_since(clock.now());
 //!         rtcp.set_read_timeout(Some(wait.max(Duration::from_millis(1))))?;
 //!         let came = rtcp.recv_from(&mut datagram);

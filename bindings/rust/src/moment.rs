@@ -1,6 +1,7 @@
 //! Moments of the host's clock.
 
 use crate::sys;
+use core::ops::Add;
 use core::time::Duration;
 
 /// A moment of the host's clock, in whole microseconds. The clock may count from anywhere, and does not go back.
@@ -58,6 +59,22 @@ impl Moment {
     }
 }
 
+/// The moment that much later, as [`Moment::saturating_add`] gives it: the farthest one if there is none so late.
+///
+/// ```
+/// use jalwedd::Moment;
+/// use core::time::Duration;
+///
+/// assert_eq!(Moment::ZERO + Duration::from_millis(3), Moment::from_micros(3_000));
+/// ```
+impl Add<Duration> for Moment {
+    type Output = Moment;
+
+    fn add(self, time: Duration) -> Moment {
+        self.saturating_add(time)
+    }
+}
+
 impl From<Duration> for Moment {
     /// The moment that long after moment 0, rounded down to whole microseconds: 2^64 - 1 of them if that does not
     /// fit 64 bits.
@@ -103,6 +120,10 @@ mod tests {
         assert_eq!(Moment::from(Duration::MAX), FARTHEST);
         assert_eq!(Moment(1).saturating_add(Duration::MAX), FARTHEST);
         assert_eq!(FARTHEST.saturating_add(Duration::from_micros(1)), FARTHEST);
+        assert_eq!(
+            (FARTHEST + Duration::from_micros(1), Moment(1) + Duration::from_micros(2)),
+            (FARTHEST, Moment(3))
+        );
     }
 
     #[test]

@@ -19,13 +19,11 @@ use core::fmt;
 /// calls returns what to send, in an [`Answer`], or a [`Refusal`], and then it changed nothing.
 ///
 /// ```
-/// use jalwedd::{Config, Kind, Moment, Participant, RtpClocks};
+/// use jalwedd::{Config, Kind, Moment, Participant};
 ///
-/// let (sender_bw, receiver_bw) = (100, 300); // of a session of 64,000 bits a second
-/// let start = Moment::from_micros(600_000_000); // by the host's clock
-/// let (ntp_base, ssrc, capacity, limit, rate) = (0, 0xaa, 1024, 1472, 8000);
-/// let clocks = RtpClocks::NONE; // all payload types have this rate
-/// let config = Config { ntp_base, start, ssrc, capacity, limit, sender_bw, receiver_bw, rate, clocks };
+/// let start = Moment::from_micros(600_000_000); // by the host's clock, and it is the time of day `ntp_base`
+/// let (ssrc, ntp_base) = (0xaa, 0);
+/// let config = Config::new(ssrc, start, ntp_base).with_session_bps(64_000);
 /// let mut session = Participant::new(&config, b"a", &[], 0)?;
 /// let next = session.next_tick().expect("it has not left");
 /// assert_eq!((session.members(), next), (1, Moment::from_micros(601_026_037)));

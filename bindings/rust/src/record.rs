@@ -10,10 +10,7 @@
 //! use jalwedd::{Config, Kind, Moment, Participant};
 //! use std::fmt::Write;
 //!
-//! # let (ntp_base, ssrc, capacity, limit) = (0, 0xaa, 1024, 1472);
-//! # let (start, sender_bw, receiver_bw, rate) = (Moment::from_micros(600_000_000), 100, 300, 8000);
-//! # let clocks = jalwedd::RtpClocks::NONE;
-//! # let config = Config { ntp_base, start, ssrc, capacity, limit, sender_bw, receiver_bw, rate, clocks };
+//! # let config = Config::new(0xaa, Moment::from_micros(600_000_000), 0);
 //! let mut session = Participant::new(&config, b"user@host", &[], 7)?;
 //! let replay = command(&config, b"user@host", &[], 7)?; // for a shell: sh session.sh < session
 //! let mut record = String::new(); // or a file, by std::io::Write

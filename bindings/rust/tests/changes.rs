@@ -1,6 +1,6 @@
 //! What changed between two listings: of listings made by hand, and of a session.
 
-use jalwedd::{changes, Change, Config, Moment, NotRising, Participant, Role, RtpClocks, SourceState};
+use jalwedd::{changes, Change, Config, Moment, NotRising, Participant, Role, SourceState};
 
 /// A source on probation, which no more is told of.
 fn unknown(ssrc: u32) -> SourceState {
@@ -92,11 +92,7 @@ fn names_of_changes() {
 fn changes_of_a_session() {
     let named = |ssrc| [0x80, 0xc9, 0, 1, 0, 0, 0, ssrc, 0x81, 0xca, 0, 2, 0, 0, 0, ssrc, 1, 1, 0x61, 0];
     let bye = [0x80, 0xc9, 0, 1, 0, 0, 0, 8, 0x81, 0xcb, 0, 1, 0, 0, 0, 8];
-    let (sender_bw, receiver_bw) = (100, 300);
-    let (ntp_base, start, ssrc, capacity, limit, rate) = (0, Moment::ZERO, 0xaa, 9, 1472, 8000);
-    let clocks = RtpClocks::NONE;
-    let config = Config { ntp_base, start, ssrc, capacity, limit, sender_bw, receiver_bw, rate, clocks };
-    let mut session = Participant::new(&config, b"a", &[], 0).unwrap();
+    let mut session = Participant::new(&Config::new(0xaa, Moment::ZERO, 0), b"a", &[], 0).unwrap();
     let nobody: Vec<_> = session.sources().collect();
     session.arrive_rtcp(Moment::ZERO, 1, 0, &named(8)).unwrap();
     session.arrive_rtcp(Moment::ZERO, 2, 0, &named(7)).unwrap();

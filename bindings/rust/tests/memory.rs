@@ -1,7 +1,7 @@
 //! The memory of a participant, which the library takes where `sys::jalwedd_memory` says: a test of its own,
 //! as that is called once in a program, before the first participant begins.
 
-use jalwedd::{sys, Config, Moment, Participant, RtpClocks};
+use jalwedd::{sys, Config, Moment, Participant};
 use std::alloc::{alloc, dealloc, Layout};
 use std::ffi::c_void;
 use std::sync::Mutex;
@@ -36,10 +36,7 @@ fn sizes() -> Vec<usize> {
 fn three_blocks_are_taken_by_new_and_given_back_by_drop() {
     // SAFETY: no participant has begun, and both functions do as malloc and free
     unsafe { sys::jalwedd_memory(take, give_back) };
-    let (sender_bw, receiver_bw) = (100, 300);
-    let (ntp_base, start, ssrc, capacity, limit, rate) = (0, Moment::ZERO, 0xaa, 20, 1472, 8000);
-    let clocks = RtpClocks::NONE;
-    let config = Config { ntp_base, start, ssrc, capacity, limit, sender_bw, receiver_bw, rate, clocks };
+    let config = Config::new(0xaa, Moment::ZERO, 0).with_capacity(20);
     let mut session = Participant::new(&config, b"a", &[], 0).unwrap();
     let mut taken = sizes();
     taken.sort_unstable();

@@ -8,17 +8,7 @@ use std::fmt::Write;
 
 const START: u64 = 600_000_000;
 
-const CONFIG: Config = Config {
-    ntp_base: 0,
-    start: at(START),
-    ssrc: 0xaa,
-    capacity: 1024,
-    limit: 1472,
-    sender_bw: 100,
-    receiver_bw: 300,
-    rate: 8000,
-    clocks: RtpClocks::NONE,
-};
+const CONFIG: Config = Config::new(0xaa, at(START), 0);
 
 const REPORT: &str = "80c90001000000aa81ca0002000000aa01016100";
 const BYE: &str = "80c90001000000aa81ca0002000000aa0101610081cb0001000000aa";
@@ -203,10 +193,10 @@ fn the_command_of_what_a_participant_begins_with() -> Result<(), Box<dyn Error>>
                 --word 0000abcd --lines 4294967295\n";
     assert_eq!(command(&CONFIG, b"player@example.com", &items, 0xabcd)?, line);
     let clocks = [RtpClock { payload_type: 96, rate: 90_000 }, RtpClock { payload_type: 97, rate: 48_000 }];
-    let config = Config { clocks: RtpClocks::new(&clocks)?, ..CONFIG };
+    let config = CONFIG.with_clocks(RtpClocks::new(&clocks)?);
     let with_clocks = line.replace("8000", "8000 --clock 96:90000 --clock 97:48000");
     let last = RtpClocks::new(&[RtpClock { payload_type: 128, rate: 1 }])?;
-    let without_command = Config { clocks: last, ..CONFIG };
+    let without_command = CONFIG.with_clocks(last);
     assert_eq!(command(&without_command, b"a", &[], 0), Err(NoOption::Clock));
     assert_eq!(command(&config, b"player@example.com", &items, 0xabcd)?, with_clocks);
     Ok(())

@@ -8,17 +8,7 @@ use jalwedd::{
 use std::thread;
 use std::time::Duration;
 
-const CONFIG: Config = Config {
-    ntp_base: 0,
-    start: Moment::ZERO,
-    ssrc: 0xaa,
-    capacity: 1024,
-    limit: 1472,
-    sender_bw: 100,
-    receiver_bw: 300,
-    rate: 8000,
-    clocks: RtpClocks::NONE,
-};
+const CONFIG: Config = Config::new(0xaa, Moment::ZERO, 0);
 
 const FIRST: Moment = at(1_026_037);
 const SECOND: Moment = at(3_078_111);
@@ -95,7 +85,7 @@ fn a_session_from_its_begin_to_its_bye() {
 fn a_session_that_does_not_start_at_0() {
     for start in [600_000_000, 1_700_000_000_000_000, (1 << 63) - 1] {
         let after = |moment: Moment| at(start + moment.as_micros());
-        let config = Config { start: at(start), ..CONFIG };
+        let config = Config::new(0xaa, at(start), 0);
         let mut session = Participant::new(&config, b"a", &[], 0).unwrap();
         assert_eq!(session.step(), step(Some(after(FIRST)), 1, 0, 0));
         assert_eq!(session.tick(at(start - 1), 0, 0), Err(Refusal::Backwards));
@@ -185,7 +175,7 @@ fn there_is_room_for_16_clocks() {
     assert_eq!(RtpClocks::new(&many), Err(TooManyClocks));
     let most = RtpClocks::new(&many[..16]).unwrap();
     assert_eq!((most.as_slice(), RtpClocks::default().as_slice()), (&many[..16], &[][..]));
-    assert!(Participant::new(&Config { clocks: most, ..CONFIG }, b"a", &[], 0).is_ok());
+    assert!(Participant::new(&CONFIG.with_clocks(most), b"a", &[], 0).is_ok());
     assert_eq!(format!("{:?}", clocks(&[(96, 5)])), "[RtpClock { payload_type: 96, rate: 5 }]");
 }
 
@@ -200,7 +190,7 @@ fn media_of_the_others_and_of_its_own() {
     assert_eq!(out(session.tick(FIRST, 0, 0)), report(&report_on_9));
 
     // the session begins at 5 seconds of 1900
-    let mut session = Participant::new(&Config { ntp_base: 5 << 32, ..CONFIG }, b"a", &[], 0).unwrap();
+    let mut session = Participant::new(&Config::new(0xaa, Moment::ZERO, 5 << 32), b"a", &[], 0).unwrap();
     assert_eq!(session.sent_rtp(Moment::ZERO, 1000, 160).unwrap().step, step(Some(FIRST), 1, 1, 0));
     let of_sender = "80c80006000000aa0000000606aa5c5f000023f800000001000000a081ca0002000000aa01016100";
     assert_eq!(out(session.tick(FIRST, 0, 0)), report(of_sender));
@@ -209,8 +199,7 @@ fn media_of_the_others_and_of_its_own() {
 #[test]
 fn one_that_does_not_send_waits_by_the_bandwidth_of_the_others() {
     let first = |sender_bw, receiver_bw| {
-        let config = Config { sender_bw, receiver_bw, ..CONFIG };
-        Participant::new(&config, b"a", &[], 0).unwrap().next_tick()
+        Participant::new(&CONFIG.with_bandwidths(sender_bw, receiver_bw), b"a", &[], 0).unwrap().next_tick()
     };
     assert_eq!(first(48, 16), Some(at(1_231_245)));
     assert_eq!(first(16, 64), Some(FIRST));
@@ -269,6 +258,16 @@ fn among_51_the_bye_waits_for_its_turn() {
 }
 
 #[test]
+fn bandwidths_of_a_session() {
+    let of = |bits| {
+        let config = CONFIG.with_session_bps(bits);
+        (config.sender_bw, config.receiver_bw)
+    };
+    assert_eq!((of(64_000), of(64_159), of(64_160)), ((100, 300), (100, 300), (100, 301)));
+    assert_eq!(of(u64::MAX), (u32::MAX, u32::MAX));
+}
+
+#[test]
 fn a_configuration_may_be_refused() {
     let name = Item::new(ItemKind::Name, b"n").unwrap();
     let refused = |config: Config, cname: &[u8], items: &[Item]| {
@@ -277,15 +276,15 @@ fn a_configuration_may_be_refused() {
     assert_eq!(refused(CONFIG, b"", &[]), NewError::Cname);
     assert_eq!(refused(CONFIG, &[b'a'; 256], &[name; 8]), NewError::Cname);
     assert_eq!(refused(CONFIG, &[b'a'; 255], &[name; 8]), NewError::Item);
-    assert_eq!(refused(Config { capacity: 1025, ..CONFIG }, b"a", &[]), NewError::Capacity);
-    assert_eq!(refused(Config { limit: 574, ..CONFIG }, b"a", &[]), NewError::Limit);
-    assert_eq!(refused(Config { receiver_bw: 15, ..CONFIG }, b"a", &[]), NewError::Bandwidth);
-    assert_eq!(refused(Config { rate: 0, ..CONFIG }, b"a", &[]), NewError::Rate);
-    assert_eq!(refused(Config { clocks: clocks(&[(96, 0)]), ..CONFIG }, b"a", &[]), NewError::Rate);
-    let late = Config { start: at(1 << 63), ..CONFIG };
+    assert_eq!(refused(CONFIG.with_capacity(1025), b"a", &[]), NewError::Capacity);
+    assert_eq!(refused(CONFIG.with_limit(574), b"a", &[]), NewError::Limit);
+    assert_eq!(refused(CONFIG.with_bandwidths(100, 15), b"a", &[]), NewError::Bandwidth);
+    assert_eq!(refused(CONFIG.with_rate(0), b"a", &[]), NewError::Rate);
+    assert_eq!(refused(CONFIG.with_clocks(clocks(&[(96, 0)])), b"a", &[]), NewError::Rate);
+    let late = Config::new(0xaa, at(1 << 63), 0);
     assert_eq!(refused(late, b"a", &[]), NewError::Start);
-    assert_eq!(refused(Config { rate: 0, ..late }, b"a", &[name; 8]), NewError::Item);
-    assert_eq!(refused(Config { rate: 0, ..late }, b"a", &[]), NewError::Rate);
+    assert_eq!(refused(late.with_rate(0), b"a", &[name; 8]), NewError::Item);
+    assert_eq!(refused(late.with_rate(0), b"a", &[]), NewError::Rate);
     assert_eq!(NewError::Rate.to_string(), "the rate is not 1 to 2^20 units a second");
 }
 

@@ -19,7 +19,7 @@ mod report_before;
 mod words;
 
 use jalwedd::record::{command, Call};
-use jalwedd::{ntp_of, Clock, Config, Item, ItemKind, Moment, Participant, RtpClocks, SourceState, Step};
+use jalwedd::{ntp_of, Clock, Config, Item, ItemKind, Moment, Participant, SourceState, Step};
 use link::{Arrival, Link, Port};
 use notes::{Note, Notes};
 use recorder::Recorder;
@@ -82,18 +82,7 @@ fn main() -> Result<(), Box<dyn Error>> {
 
 fn begin(mut words: Words, link: Link, record: Option<&String>) -> Result<Player, Box<dyn Error>> {
     let clock = Clock::start();
-    // of a session of 64,000 bits a second 5 per cent are for RTCP, and a quarter of that for senders
-    let config = Config {
-        ntp_base: clock.ntp_base(),
-        start: Moment::ZERO,
-        ssrc: words.draw(),
-        capacity: 1024,
-        limit: 1472,
-        sender_bw: 100,
-        receiver_bw: 300,
-        rate: 8000,
-        clocks: RtpClocks::NONE,
-    };
+    let config = Config::new(words.draw(), Moment::ZERO, clock.ntp_base()).with_session_bps(64_000);
     let (items, word) = ([Item::new(ItemKind::Tool, b"jalwedd")?], words.draw());
     let session = Participant::new(&config, CNAME, &items, word)?;
     let recorder = match record {
