@@ -5,7 +5,7 @@
  *     config.start = now, config.ntp_base = the time of day;                    of one moment, as in jalwedd.h
  *     if (session.join(config, "player@example.com", random_word(), step) != JALWEDD_TAKEN)
  *         return refused();
- *     session.arrive_rtcp(now, peer, random_word(), datagram, size, step, octets);    as the calls of jalwedd.h
+ *     session.arrive_rtcp(now, peer, random_word(), datagram, step, octets);    as the calls of jalwedd.h
  *     session.tick(now, random_word(), random_word(), step, octets);    at step.next, and at least once a second
  *     for (const jalwedd_source_state& source : session.sources())
  *         show(source.ssrc, source.received, source.lost);
@@ -41,6 +41,7 @@
 
 #include "jalwedd.h"
 
+#include <array>
 #include <cstddef>
 #include <cstdint>
 #include <iterator>
@@ -48,6 +49,9 @@
 #include <string_view>
 #include <type_traits>
 #include <utility>
+#if __cplusplus >= 202002L && __has_include(<span>)
+#include <span>
+#endif
 
 namespace jalwedd {
 
@@ -63,7 +67,36 @@ const Element* address(const Element* at, std::size_t count) noexcept
     return count == 0 ? &nothing : at;
 }
 
+/* Whether a type has elements of this kind one after the other. */
+template <typename Element, typename Array>
+using if_has =
+    std::enable_if_t<std::is_convertible_v<decltype(std::data(std::declval<const Array&>())), const Element*>>;
+
 } // namespace inside
+
+/* ---- Octets */
+
+/// Room for a compound that a call hands out. Hosts do not name it: they pass an array, a std::array or, in C++20, a
+/// std::span of JALWEDD_OCTETS octets. It borrows these.
+class compound_room {
+public:
+    /// The octets of an array.
+    compound_room(std::uint8_t (&octets)[JALWEDD_OCTETS]) noexcept : at_(octets) {}
+
+    /// The octets of a std::array.
+    compound_room(std::array<std::uint8_t, JALWEDD_OCTETS>& octets) noexcept : at_(octets.data()) {}
+
+#ifdef __cpp_lib_span
+    /// The octets of a std::span.
+    compound_room(std::span<std::uint8_t, JALWEDD_OCTETS> octets) noexcept : at_(octets.data()) {}
+#endif
+
+    /// The first of the octets.
+    [[nodiscard]] std::uint8_t* data() const noexcept { return at_; }
+
+private:
+    std::uint8_t* at_;
+};
 
 /* ---- Ranges */
 
@@ -235,26 +268,44 @@ public:
     /// On an open network, pass on no datagram of more than 1,500 octets.
     /// Statuses: TAKEN; LEFT to NO_COMPOUND; OWN_SSRC; IS_EMPTY.
     std::uint32_t arrive_rtcp(std::uint64_t now, std::uint64_t peer, std::uint32_t word, const std::uint8_t* datagram,
-                              std::size_t size, jalwedd_step& step, std::uint8_t (&octets)[JALWEDD_OCTETS]) noexcept
+                              std::size_t size, jalwedd_step& step, compound_room octets) noexcept
     {
-        return jalwedd_arrive_rtcp(&handle_, now, peer, word, inside::address(datagram, size), size, &step, octets);
+        return jalwedd_arrive_rtcp(&handle_, now, peer, word, inside::address(datagram, size), size, &step,
+                                   octets.data());
+    }
+
+    /// The same of an array, std::array, std::vector or std::span of octets.
+    template <typename Datagram, typename = inside::if_has<std::uint8_t, Datagram>>
+    std::uint32_t arrive_rtcp(std::uint64_t now, std::uint64_t peer, std::uint32_t word, const Datagram& datagram,
+                              jalwedd_step& step, compound_room octets) noexcept
+    {
+        return arrive_rtcp(now, peer, word, std::data(datagram), std::size(datagram), step, octets);
     }
 
     /// An RTP datagram came: as arrive_rtcp.
     /// Statuses: TAKEN; IS_EMPTY; TOO_LONG; LEFT to TOO_MANY; NO_RTP; OWN_SSRC.
     std::uint32_t arrive_rtp(std::uint64_t now, std::uint64_t peer, std::uint32_t word, const std::uint8_t* datagram,
-                             std::size_t size, jalwedd_step& step, std::uint8_t (&octets)[JALWEDD_OCTETS]) noexcept
+                             std::size_t size, jalwedd_step& step, compound_room octets) noexcept
     {
-        return jalwedd_arrive_rtp(&handle_, now, peer, word, inside::address(datagram, size), size, &step, octets);
+        return jalwedd_arrive_rtp(&handle_, now, peer, word, inside::address(datagram, size), size, &step,
+                                  octets.data());
+    }
+
+    /// The same of an array, std::array, std::vector or std::span of octets.
+    template <typename Datagram, typename = inside::if_has<std::uint8_t, Datagram>>
+    std::uint32_t arrive_rtp(std::uint64_t now, std::uint64_t peer, std::uint32_t word, const Datagram& datagram,
+                             jalwedd_step& step, compound_room octets) noexcept
+    {
+        return arrive_rtp(now, peer, word, std::data(datagram), std::size(datagram), step, octets);
     }
 
     /// The host sent an RTP packet at the moment `now`, with this RTP timestamp and `payload` octets of payload. Hands
     /// out nothing, and leaves `octets` as they are.
     /// Statuses: TAKEN; LEFT to TOO_MANY; IS_EMPTY.
     std::uint32_t sent_rtp(std::uint64_t now, std::uint32_t timestamp, std::uint32_t payload, jalwedd_step& step,
-                           std::uint8_t (&octets)[JALWEDD_OCTETS]) noexcept
+                           compound_room octets) noexcept
     {
-        return jalwedd_sent_rtp(&handle_, now, timestamp, payload, &step, octets);
+        return jalwedd_sent_rtp(&handle_, now, timestamp, payload, &step, octets.data());
     }
 
     /// Hands out what is due at the moment `now`: nothing, a report, or, after a leave, the BYE; and drops sources that
@@ -262,9 +313,9 @@ public:
     /// drops anyone, and step.next may be minutes away.
     /// Statuses: TAKEN; LEFT to TOO_MANY; IS_EMPTY.
     std::uint32_t tick(std::uint64_t now, std::uint32_t first_word, std::uint32_t second_word, jalwedd_step& step,
-                       std::uint8_t (&octets)[JALWEDD_OCTETS]) noexcept
+                       compound_room octets) noexcept
     {
-        return jalwedd_tick(&handle_, now, first_word, second_word, &step, octets);
+        return jalwedd_tick(&handle_, now, first_word, second_word, &step, octets.data());
     }
 
     /// Changes the settings of the session at the moment `now`, to these and at most 7 items: the bandwidths, the
@@ -272,15 +323,15 @@ public:
     /// none of the former. Hands out nothing, and leaves `octets` as they are.
     /// Statuses: TAKEN; IS_EMPTY; ITEM and RATE for what does not fit; LEFT to TOO_MANY; BANDWIDTH to ITEM.
     std::uint32_t configure(std::uint64_t now, const jalwedd_settings& settings, const jalwedd_item* items,
-                            std::size_t item_count, jalwedd_step& step, std::uint8_t (&octets)[JALWEDD_OCTETS]) noexcept
+                            std::size_t item_count, jalwedd_step& step, compound_room octets) noexcept
     {
         return jalwedd_configure(&handle_, now, &settings, inside::address(items, item_count), item_count, &step,
-                                 octets);
+                                 octets.data());
     }
 
     /// The same without items.
     std::uint32_t configure(std::uint64_t now, const jalwedd_settings& settings, jalwedd_step& step,
-                            std::uint8_t (&octets)[JALWEDD_OCTETS]) noexcept
+                            compound_room octets) noexcept
     {
         return configure(now, settings, nullptr, 0, step, octets);
     }
@@ -290,9 +341,9 @@ public:
     /// Nothing changes if it has no entry, or said goodbye. Hands out nothing, and leaves `octets` as they are.
     /// Statuses: TAKEN; LEFT to TOO_MANY; IS_EMPTY.
     std::uint32_t forget(std::uint64_t now, std::uint32_t ssrc, jalwedd_step& step,
-                         std::uint8_t (&octets)[JALWEDD_OCTETS]) noexcept
+                         compound_room octets) noexcept
     {
-        return jalwedd_forget(&handle_, now, ssrc, &step, octets);
+        return jalwedd_forget(&handle_, now, ssrc, &step, octets.data());
     }
 
     /// Leaves the session at the moment `now`. Hands out nothing, or the BYE: go on until step.next is JALWEDD_NEVER,
@@ -301,9 +352,9 @@ public:
     /// compare listings any more (changes), which would give all of them as away.
     /// Statuses: TAKEN; LEFT to TOO_MANY; IS_EMPTY.
     std::uint32_t leave(std::uint64_t now, std::uint32_t word, jalwedd_step& step,
-                        std::uint8_t (&octets)[JALWEDD_OCTETS]) noexcept
+                        compound_room octets) noexcept
     {
-        return jalwedd_leave(&handle_, now, word, &step, octets);
+        return jalwedd_leave(&handle_, now, word, &step, octets.data());
     }
 
     /// The members of the session, the participant included: 0 once it has left, and if it is empty.
@@ -398,6 +449,14 @@ struct changes {
     return range<inside::changes>(inside::changes{before, before_count, after, after_count});
 }
 
+/// The same of listings in an array, std::array, std::vector or std::span of jalwedd_source_state.
+template <typename Before, typename After, typename = inside::if_has<jalwedd_source_state, Before>,
+          typename = inside::if_has<jalwedd_source_state, After>>
+[[nodiscard]] range<inside::changes> changes(const Before& before, const After& after) noexcept
+{
+    return changes(std::data(before), std::size(before), std::data(after), std::size(after));
+}
+
 /* ---- Datagrams */
 
 /// An SDES item (RFC 3550, 6.5).
@@ -416,9 +475,9 @@ struct goodbye {
 namespace inside {
 
 /* Octets of a datagram as text. */
-inline std::string_view text_at(const std::uint8_t* datagram, std::uint64_t offset, std::uint64_t size) noexcept
+inline std::string_view text_at(const std::uint8_t* datagram, std::size_t offset, std::size_t size) noexcept
 {
-    return {reinterpret_cast<const char*>(datagram) + offset, static_cast<std::size_t>(size)};
+    return {reinterpret_cast<const char*>(datagram) + offset, size};
 }
 
 inline std::uint32_t next_sdes_item(const std::uint8_t* datagram, std::size_t size, jalwedd_cursor* cursor,
@@ -521,11 +580,25 @@ template <typename Datagram, typename = inside::if_has<std::uint8_t, Datagram>>
     return range<inside::about>(inside::about{{datagram, size}, ssrc});
 }
 
+/// The same of an array, std::array, std::vector or std::span of octets.
+template <typename Datagram, typename = inside::if_has<std::uint8_t, Datagram>>
+[[nodiscard]] range<inside::about> about(const Datagram& datagram, std::uint32_t ssrc) noexcept
+{
+    return about(std::data(datagram), std::size(datagram), ssrc);
+}
+
 /// The sender reports of a datagram (jalwedd_sender_info), in their order.
 /// Its status: TAKEN; NO_COMPOUND; NO_PART.
 [[nodiscard]] inline range<inside::senders> senders(const std::uint8_t* datagram, std::size_t size) noexcept
 {
     return range<inside::senders>(inside::senders{datagram, size});
+}
+
+/// The same of an array, std::array, std::vector or std::span of octets.
+template <typename Datagram, typename = inside::if_has<std::uint8_t, Datagram>>
+[[nodiscard]] range<inside::senders> senders(const Datagram& datagram) noexcept
+{
+    return senders(std::data(datagram), std::size(datagram));
 }
 
 /// The blocks of all reports of a datagram (jalwedd_report), in their order.
@@ -535,11 +608,25 @@ template <typename Datagram, typename = inside::if_has<std::uint8_t, Datagram>>
     return range<inside::blocks>(inside::blocks{datagram, size});
 }
 
+/// The same of an array, std::array, std::vector or std::span of octets.
+template <typename Datagram, typename = inside::if_has<std::uint8_t, Datagram>>
+[[nodiscard]] range<inside::blocks> blocks(const Datagram& datagram) noexcept
+{
+    return blocks(std::data(datagram), std::size(datagram));
+}
+
 /// The items of all source descriptions of a datagram (sdes_item), in their order.
 /// Its status: TAKEN; NO_COMPOUND; NO_PART.
 [[nodiscard]] inline range<inside::sdes_items> sdes_items(const std::uint8_t* datagram, std::size_t size) noexcept
 {
     return range<inside::sdes_items>(inside::sdes_items{datagram, size});
+}
+
+/// The same of an array, std::array, std::vector or std::span of octets.
+template <typename Datagram, typename = inside::if_has<std::uint8_t, Datagram>>
+[[nodiscard]] range<inside::sdes_items> sdes_items(const Datagram& datagram) noexcept
+{
+    return sdes_items(std::data(datagram), std::size(datagram));
 }
 
 /// The sources that the BYEs of a datagram name (goodbye), in their order.
@@ -549,11 +636,25 @@ template <typename Datagram, typename = inside::if_has<std::uint8_t, Datagram>>
     return range<inside::goodbyes>(inside::goodbyes{datagram, size});
 }
 
+/// The same of an array, std::array, std::vector or std::span of octets.
+template <typename Datagram, typename = inside::if_has<std::uint8_t, Datagram>>
+[[nodiscard]] range<inside::goodbyes> goodbyes(const Datagram& datagram) noexcept
+{
+    return goodbyes(std::data(datagram), std::size(datagram));
+}
+
 /// The APP packets of a datagram (jalwedd_app_place), in their order.
 /// Its status: TAKEN; NO_COMPOUND; NO_PART.
 [[nodiscard]] inline range<inside::apps> apps(const std::uint8_t* datagram, std::size_t size) noexcept
 {
     return range<inside::apps>(inside::apps{datagram, size});
+}
+
+/// The same of an array, std::array, std::vector or std::span of octets.
+template <typename Datagram, typename = inside::if_has<std::uint8_t, Datagram>>
+[[nodiscard]] range<inside::apps> apps(const Datagram& datagram) noexcept
+{
+    return apps(std::data(datagram), std::size(datagram));
 }
 
 } // namespace jalwedd

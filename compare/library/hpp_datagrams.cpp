@@ -5,7 +5,9 @@
  * usage: hpp_datagrams SAMPLES        the folder samples/ */
 #include "hpp_tests.hpp"
 
+#include <array>
 #include <jalwedd.hpp>
+#include <utility>
 
 #if __cplusplus >= 202002L
 #include <ranges>

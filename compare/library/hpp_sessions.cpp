@@ -272,6 +272,32 @@ static int settled()
     return 0;
 }
 
+/* A datagram and room for a compound as arrays of C++, and listings in containers. */
+static int of_arrays()
+{
+    static constexpr std::array<std::uint8_t, 20> named = {0x80, 0xc9, 0, 1, 0, 0, 0, 7, 0x81, 0xca,
+                                                           0,    2,    0, 0, 0, 7, 1, 1, 0x61, 0};
+    participant session = made(9);
+    jalwedd_step step;
+    std::array<std::uint8_t, JALWEDD_OCTETS> out{};
+    const listing before;
+    HOLDS(session.arrive_rtcp(START, 1, 0, named, step, out) == JALWEDD_TAKEN && step.members == 2);
+    HOLDS(session.arrive_rtp(START, 1, 0, octets(11, 0x80), step, out) == JALWEDD_NO_RTP);
+    const listing after = listed(session.sources());
+    HOLDS(listed(jalwedd::changes(before, after)).size() == 1 && listed(jalwedd::changes(after, after)).empty());
+    HOLDS(listed(jalwedd::changes(after, std::array<jalwedd_source_state, 1>{after[0]})).empty());
+#ifdef __cpp_lib_span
+    HOLDS(session.tick(FIRST, 0, 0, step, std::span(out)) == JALWEDD_TAKEN && step.kind == JALWEDD_REPORT);
+    HOLDS(listed(jalwedd::changes(std::span(before), std::span(after))).size() == 1);
+#else
+    HOLDS(session.tick(FIRST, 0, 0, step, out) == JALWEDD_TAKEN && step.kind == JALWEDD_REPORT);
+#endif
+    HOLDS(out[0] == 0x80 && out[1] == 0xc9);
+    HOLDS(session.leave(FIRST, 0, step, out) == JALWEDD_TAKEN && step.kind == JALWEDD_BYE && step.others_changed == 1);
+    HOLDS(listed(session.sources()).empty());
+    return 0;
+}
+
 /* Without items, and with another word than 0. */
 static int joined_without_items()
 {
@@ -476,7 +502,7 @@ static int changed()
 static int all_of(const std::string& samples)
 {
     PASSES(empty() || refused() || items() || moved() || contained() || before_the_start() || settled()
-           || joined_without_items());
+           || of_arrays() || joined_without_items());
     for (const char* name : {"conversation", "gstreamer", "leaving", "loop"})
         PASSES(answered_alike(lines_of(samples + "/" + name + ".replay")));
     PASSES(answered_alike(COLLISIONS));
