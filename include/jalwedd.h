@@ -84,6 +84,15 @@ extern "C" {
 /* The version of the linked library: 0x000503 for 0.5.3. */
 uint32_t jalwedd_version(void);
 
+/* What gcc and clang warn about: a result that is not used, and a pointer that is NULL. */
+#ifdef __GNUC__
+#define JALWEDD_TO_BE_USED __attribute__((warn_unused_result))
+#define JALWEDD_NOT_NULL __attribute__((nonnull))
+#else
+#define JALWEDD_TO_BE_USED
+#define JALWEDD_NOT_NULL
+#endif
+
 /* ---- Statuses. Two of them have two names, of which a switch can use only one: NO_BLOCK or NO_PART, and NO_SOURCE or
  * NO_CHANGE. */
 
@@ -423,7 +432,7 @@ typedef struct jalwedd_role_change {
 
 /* Makes the library use `allocate` and `release` in place of malloc and free. `allocate` returns a block of `size`
  * octets, aligned as by malloc, or NULL. Call this at most once, before the first jalwedd_new. */
-void jalwedd_memory(void *(*allocate)(size_t size), void (*release)(void *at));
+void jalwedd_memory(void *(*allocate)(size_t size), void (*release)(void *at)) JALWEDD_NOT_NULL;
 
 /* Makes a participant in an empty handle; its session starts at the moment config->start, which is now. `word` is for
  * the draw of the first interval. Allocates at most JALWEDD_MEMORY(config->capacity) octets, in three blocks; no other
@@ -431,7 +440,8 @@ void jalwedd_memory(void *(*allocate)(size_t size), void (*release)(void *at));
  * was not now, and each report tells a time of day that is ahead.
  * Statuses: TAKEN; IS_LIVE, and the step is that of the participant already there; CNAME to START; NO_MEMORY. */
 uint32_t jalwedd_new(jalwedd_handle *handle, const jalwedd_config *config, const uint8_t *cname, size_t cname_size,
-                     const jalwedd_item *items, size_t item_count, uint32_t word, jalwedd_step *step);
+                     const jalwedd_item *items, size_t item_count, uint32_t word, jalwedd_step *step)
+    JALWEDD_NOT_NULL JALWEDD_TO_BE_USED;
 
 /* Frees the participant of a handle and leaves the handle empty. It sends nothing: for a BYE call jalwedd_leave before
  * it. It may also end a leave whose BYE is not yet due. For NULL, as for an empty handle, it does nothing.
@@ -446,19 +456,21 @@ uint32_t jalwedd_free(jalwedd_handle *handle);
  * about the host's own stream before the call (jalwedd_next_block), as they name the SSRC before a change.
  * Statuses: TAKEN; LEFT to NO_COMPOUND; OWN_SSRC; IS_EMPTY. */
 uint32_t jalwedd_arrive_rtcp(jalwedd_handle *handle, uint64_t now, uint64_t peer, uint32_t word,
-                             const uint8_t *datagram, size_t size, jalwedd_step *step, uint8_t octets[JALWEDD_OCTETS]);
+                             const uint8_t *datagram, size_t size, jalwedd_step *step, uint8_t octets[JALWEDD_OCTETS])
+    JALWEDD_NOT_NULL;
 
 /* An RTP datagram came: as jalwedd_arrive_rtcp. If both come to one port (RFC 5761, 4), a datagram whose second octet
  * is 192 to 223 is RTCP, and any other is RTP.
  * Statuses: TAKEN; IS_EMPTY; TOO_LONG; LEFT to TOO_MANY; NO_RTP; OWN_SSRC. */
 uint32_t jalwedd_arrive_rtp(jalwedd_handle *handle, uint64_t now, uint64_t peer, uint32_t word,
-                            const uint8_t *datagram, size_t size, jalwedd_step *step, uint8_t octets[JALWEDD_OCTETS]);
+                            const uint8_t *datagram, size_t size, jalwedd_step *step, uint8_t octets[JALWEDD_OCTETS])
+    JALWEDD_NOT_NULL;
 
 /* The host sent an RTP packet at the moment `now`, with this RTP timestamp and `payload` octets of payload, not
  * counting padding (6.3.8, 6.4.1). Hands out nothing, and leaves `octets` as they are; but they have to be there.
  * Statuses: TAKEN; LEFT to TOO_MANY; IS_EMPTY. */
 uint32_t jalwedd_sent_rtp(jalwedd_handle *handle, uint64_t now, uint32_t timestamp, uint32_t payload,
-                          jalwedd_step *step, uint8_t octets[JALWEDD_OCTETS]);
+                          jalwedd_step *step, uint8_t octets[JALWEDD_OCTETS]) JALWEDD_NOT_NULL;
 
 /* Hands out what is due at the moment `now`, and drops sources that were silent for too long, and those that said
  * goodbye 5 seconds ago or more (6.3.5 to 6.3.7). Call it at step.next, and at least once a second: but for
@@ -473,7 +485,7 @@ uint32_t jalwedd_sent_rtp(jalwedd_handle *handle, uint64_t now, uint32_t timesta
  * microsecond, or less than ten if it drops someone of 1,000 (as measured).
  * Statuses: TAKEN; LEFT to TOO_MANY; IS_EMPTY. */
 uint32_t jalwedd_tick(jalwedd_handle *handle, uint64_t now, uint32_t first_word, uint32_t second_word,
-                      jalwedd_step *step, uint8_t octets[JALWEDD_OCTETS]);
+                      jalwedd_step *step, uint8_t octets[JALWEDD_OCTETS]) JALWEDD_NOT_NULL;
 
 /* Changes the settings of a running session at the moment `now`, to these and these items: all of them, as if the
  * configuration had had them. A host calls it when the bandwidth of the session changes, since each participant
@@ -487,7 +499,7 @@ uint32_t jalwedd_tick(jalwedd_handle *handle, uint64_t now, uint32_t first_word,
  * to TOO_MANY; BANDWIDTH to ITEM. Of a RATE jalwedd_clocks_text says more. */
 uint32_t jalwedd_configure(jalwedd_handle *handle, uint64_t now, const jalwedd_settings *settings,
                            const jalwedd_item *items, size_t item_count, jalwedd_step *step,
-                           uint8_t octets[JALWEDD_OCTETS]);
+                           uint8_t octets[JALWEDD_OCTETS]) JALWEDD_NOT_NULL;
 
 /* At the moment `now` another source is gone, as the host knows by other means, such as signalling, or so decides. Its
  * entry goes as if it had been silent for too long (6.3.5): it is no member any more, what was counted of it is
@@ -497,7 +509,7 @@ uint32_t jalwedd_configure(jalwedd_handle *handle, uint64_t now, const jalwedd_s
  * Hands out nothing, and leaves `octets` as they are; but they have to be there.
  * Statuses: TAKEN; LEFT to TOO_MANY; IS_EMPTY. */
 uint32_t jalwedd_forget(jalwedd_handle *handle, uint64_t now, uint32_t ssrc, jalwedd_step *step,
-                        uint8_t octets[JALWEDD_OCTETS]);
+                        uint8_t octets[JALWEDD_OCTETS]) JALWEDD_NOT_NULL;
 
 /* Leaves the session at the moment `now` (6.3.7). The BYE is handed out at once, or, in a session of more than 50
  * members, by a later tick. Go on until step.next is JALWEDD_NEVER, but for some seconds at most, and then call
@@ -512,18 +524,18 @@ uint32_t jalwedd_forget(jalwedd_handle *handle, uint64_t now, uint32_t ssrc, jal
  * Hands out nothing, or the BYE.
  * Statuses: TAKEN; LEFT to TOO_MANY; IS_EMPTY. */
 uint32_t jalwedd_leave(jalwedd_handle *handle, uint64_t now, uint32_t word, jalwedd_step *step,
-                       uint8_t octets[JALWEDD_OCTETS]);
+                       uint8_t octets[JALWEDD_OCTETS]) JALWEDD_NOT_NULL;
 
 /* What step.members, .senders, .next and .ssrc would be. Of an empty handle: 0, and JALWEDD_NEVER. */
-uint32_t jalwedd_members(jalwedd_handle *handle);
-uint32_t jalwedd_senders(jalwedd_handle *handle);
-uint64_t jalwedd_next(jalwedd_handle *handle);
-uint32_t jalwedd_ssrc(jalwedd_handle *handle);
+uint32_t jalwedd_members(jalwedd_handle *handle) JALWEDD_NOT_NULL;
+uint32_t jalwedd_senders(jalwedd_handle *handle) JALWEDD_NOT_NULL;
+uint64_t jalwedd_next(jalwedd_handle *handle) JALWEDD_NOT_NULL;
+uint32_t jalwedd_ssrc(jalwedd_handle *handle) JALWEDD_NOT_NULL;
 
 /* How many entries the participant's table holds: members, sources that are not yet valid, and those that left and are
  * held for a while. If this equals config.capacity the table is full, as under a flood of invented SSRCs, and admits no
  * other source until a tick drops one, or jalwedd_forget. 0 once the participant leaves, and for an empty handle. */
-uint32_t jalwedd_entries(jalwedd_handle *handle);
+uint32_t jalwedd_entries(jalwedd_handle *handle) JALWEDD_NOT_NULL;
 
 /* Gives what is known about the source with the lowest SSRC >= `from`: among members, sources that are not yet valid,
  * and those that left and are held for a while, but not the participant itself. It changes nothing. To list all, begin
@@ -531,7 +543,7 @@ uint32_t jalwedd_entries(jalwedd_handle *handle);
  * one source, pass its SSRC as `from` and compare source->ssrc with it. `source` is left as it is if there is no such
  * source, once the participant leaves, and for an empty handle.
  * Statuses: TAKEN; NO_SOURCE. */
-uint32_t jalwedd_source(jalwedd_handle *handle, uint64_t from, jalwedd_source_state *source);
+uint32_t jalwedd_source(jalwedd_handle *handle, uint64_t from, jalwedd_source_state *source) JALWEDD_NOT_NULL;
 
 /* ---- Listings */
 
@@ -554,13 +566,13 @@ uint32_t jalwedd_source(jalwedd_handle *handle, uint64_t from, jalwedd_source_st
  * if each of these changed.
  * Statuses: TAKEN; NO_CHANGE; NOT_RISING. */
 uint32_t jalwedd_change(const jalwedd_source_state *before, size_t before_count, const jalwedd_source_state *after,
-                        size_t after_count, uint64_t from, jalwedd_role_change *change);
+                        size_t after_count, uint64_t from, jalwedd_role_change *change) JALWEDD_NOT_NULL;
 
 /* ---- Datagrams */
 
 /* Accepts a datagram that is a compound (6.1), leaving `fault` as it is, or gives its first fault.
  * Statuses: TAKEN; NO_COMPOUND. */
-uint32_t jalwedd_check(const uint8_t *datagram, size_t size, jalwedd_fault *fault);
+uint32_t jalwedd_check(const uint8_t *datagram, size_t size, jalwedd_fault *fault) JALWEDD_NOT_NULL;
 
 /* A walk over the parts of one kind in a datagram, of which each call gives the next, in the order of the datagram.
  * These are its sender reports, the blocks of all its reports, the items of all its source descriptions, the sources
@@ -581,19 +593,23 @@ uint32_t jalwedd_check(const uint8_t *datagram, size_t size, jalwedd_fault *faul
  * kind, or changed by the host, it is safe all the same. Each call then reads and gives only what lies in the datagram,
  * each part takes the cursor on, and each walk ends; but which parts are given is not specified.
  * Statuses: TAKEN; NO_COMPOUND; NO_PART. */
-uint32_t jalwedd_next_sender(const uint8_t *datagram, size_t size, jalwedd_cursor *cursor, jalwedd_sender_info *sender);
-uint32_t jalwedd_next_block(const uint8_t *datagram, size_t size, jalwedd_cursor *cursor, jalwedd_report *report);
+uint32_t jalwedd_next_sender(const uint8_t *datagram, size_t size, jalwedd_cursor *cursor, jalwedd_sender_info *sender)
+    JALWEDD_NOT_NULL;
+uint32_t jalwedd_next_block(const uint8_t *datagram, size_t size, jalwedd_cursor *cursor, jalwedd_report *report)
+    JALWEDD_NOT_NULL;
 uint32_t jalwedd_next_sdes_item(const uint8_t *datagram, size_t size, jalwedd_cursor *cursor,
-                                jalwedd_item_place *item);
+                                jalwedd_item_place *item) JALWEDD_NOT_NULL;
 uint32_t jalwedd_next_goodbye(const uint8_t *datagram, size_t size, jalwedd_cursor *cursor,
-                              jalwedd_goodbye_place *goodbye);
-uint32_t jalwedd_next_app(const uint8_t *datagram, size_t size, jalwedd_cursor *cursor, jalwedd_app_place *app);
+                              jalwedd_goodbye_place *goodbye) JALWEDD_NOT_NULL;
+uint32_t jalwedd_next_app(const uint8_t *datagram, size_t size, jalwedd_cursor *cursor, jalwedd_app_place *app)
+    JALWEDD_NOT_NULL;
 
 /* Gives what the reports of a datagram say about the source `ssrc`: of the blocks about it, in their order, the one at
  * `index`, from 0 on. Go on until the status is not TAKEN; then `report` is left as it is. Each call reads the datagram
  * from its start: to read all blocks, walk with jalwedd_next_block.
  * Statuses: TAKEN; NO_COMPOUND; NO_BLOCK. */
-uint32_t jalwedd_about(const uint8_t *datagram, size_t size, uint32_t ssrc, uint32_t index, jalwedd_report *report);
+uint32_t jalwedd_about(const uint8_t *datagram, size_t size, uint32_t ssrc, uint32_t index, jalwedd_report *report)
+    JALWEDD_NOT_NULL;
 
 /* Each gives the part of one kind at `index`, from 0 on, in the order of the datagram, or leaves the output as it is:
  * of 0, 1, .. each gives what a walk with a cursor gives. Each call reads the datagram from its start. So to read all
@@ -619,7 +635,7 @@ uint32_t jalwedd_rtp_fault(const uint8_t *datagram, size_t size, jalwedd_fault *
  * jalwedd_arrive_rtp reads, which need not be called for it. `head` is left as it is if the status is not TAKEN. Of a
  * datagram of more than 65,535 octets nothing is read.
  * Statuses: TAKEN; TOO_LONG; NO_RTP. */
-uint32_t jalwedd_rtp_head(const uint8_t *datagram, size_t size, jalwedd_head_place *head);
+uint32_t jalwedd_rtp_head(const uint8_t *datagram, size_t size, jalwedd_head_place *head) JALWEDD_NOT_NULL;
 
 /* The round-trip time by a report, in 1/65,536 of a second and modulo 2^32: `arrival` is the middle 32 bits of the NTP
  * timestamp of the moment at which it came, (uint32_t)(jalwedd_ntp_of(ntp_base, now - start) >> 16). A report whose lsr

@@ -37,6 +37,8 @@
 
 #include "jalwedd.h"
 
+#include <string.h>
+
 #ifdef JALWEDD_RECORD_STDIO
 #include <stdio.h>
 #endif
@@ -98,7 +100,12 @@ static inline uint32_t jalwedd_record_command(jalwedd_record *record, const jalw
  * header. As stdio buffers, check fclose too: a write may fail there. */
 static inline int jalwedd_record_to_file(void *to, const char *text, size_t size)
 {
-    return fwrite(text, 1, size, (FILE *)to) == size ? 0 : EOF;
+#ifdef __cplusplus
+    FILE *file = static_cast<FILE *>(to);
+#else
+    FILE *file = to;
+#endif
+    return fwrite(text, 1, size, file) == size ? 0 : EOF;
 }
 #endif
 
@@ -138,7 +145,7 @@ static inline void jalwedd_record_number(jalwedd_record_line *line, uint64_t num
     char digits[20];
     size_t count = 0;
     do {
-        digits[count++] = (char)('0' + (int)(number % 10));
+        digits[count++] = "0123456789"[number % 10];
         number /= 10;
     } while (number != 0);
     while (count > 0)
@@ -164,7 +171,7 @@ static inline void jalwedd_record_word(jalwedd_record_line *line, uint32_t word)
     int shift;
     jalwedd_record_byte(line, ' ');
     for (shift = 24; shift >= 0; shift -= 8)
-        jalwedd_record_octet(line, (uint8_t)(word >> shift));
+        jalwedd_record_octet(line, word >> shift & 255);
 }
 
 static inline void jalwedd_record_octets(jalwedd_record_line *line, const uint8_t *octets, size_t size)
@@ -369,12 +376,14 @@ static inline int jalwedd_record_are_options(const jalwedd_item *items, size_t c
 static inline void jalwedd_record_quoted(jalwedd_record_line *line, const uint8_t *text, size_t size)
 {
     size_t at;
+    char byte;
     jalwedd_record_text(line, " '");
     for (at = 0; at < size; at++) {
-        if (text[at] == '\'')
+        memcpy(&byte, &text[at], 1);
+        if (byte == '\'')
             jalwedd_record_text(line, "'\\''");
         else
-            jalwedd_record_byte(line, (char)text[at]);
+            jalwedd_record_byte(line, byte);
     }
     jalwedd_record_byte(line, '\'');
 }
@@ -430,9 +439,9 @@ static inline uint32_t jalwedd_record_command(jalwedd_record *record, const jalw
         jalwedd_record_clock(&line, &config->clocks[at]);
     }
     jalwedd_record_text(&line, " --ntp");
-    jalwedd_record_word(&line, (uint32_t)(config->ntp_base >> 32));
-    for (at = 0; at < 4; at++)
-        jalwedd_record_octet(&line, (uint8_t)(config->ntp_base >> (24 - 8 * at)));
+    jalwedd_record_byte(&line, ' ');
+    for (at = 0; at < 8; at++)
+        jalwedd_record_octet(&line, config->ntp_base >> (56 - 8 * at) & 255);
     for (at = 0; at < item_count; at++)
         jalwedd_record_item(&line, &items[at]);
     jalwedd_record_text(&line, " --word");

@@ -24,7 +24,8 @@ static void nothing(void)
 
 static void begin(void)
 {
-    jalwedd_new(&session, &CONFIG, (const uint8_t *)"a", 1, &item, 1, 1, &step);
+    if (jalwedd_new(&session, &CONFIG, (const uint8_t *)"a", 1, &item, 1, 1, &step) != JALWEDD_TAKEN)
+        abort();
 }
 
 /* Each other sends two RTP packets, and an SR with its CNAME. */
