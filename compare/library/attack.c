@@ -106,16 +106,17 @@ static void returning(void)
     told("among 1,000", early_tick(1000) * 1e6, "us", 0);
 }
 
-/* Runs a host with one other, who reports each 5 seconds, that was told of so many names in one datagram, until a
- * newcomer who does so too is a member. Returns how long that was, and at `held` how long the tick after was away. */
-static double shut_out(uint32_t names, bool ticks_each_second, double *held)
+/* Runs a host with one other, who reports each 5 seconds, that was told of so many names, some in each datagram, until
+ * a newcomer who does so too is a member. Returns how long that was, and at `held` how long the tick after was away. */
+static double shut_out(uint32_t names, uint32_t in_each, bool ticks_each_second, double *held)
 {
     static uint8_t datagram[FULL];
     struct host host = begun(1024, ticks_each_second, 1);
     for (int turn = 0; turn < 12; turn++, pass(&host, host.now + 5 * SECOND))
         name(&host, VICTIM);
     const uint64_t since = host.now;
-    rtcp(&host, 0xbad, datagram, put_names(datagram, INVENTED, names));
+    for (uint32_t first = 0; first < names; first += in_each)
+        rtcp(&host, 0xbad, datagram, put_names(datagram, INVENTED + first, 1, in_each));
     for (*held = 0; !state_of(&host, NEWCOMER).member; pass(&host, host.now + 5 * SECOND)) {
         const double away = ((double)host.step.next - (double)host.now) / SECOND;
         *held = away > *held ? away : *held;
@@ -126,33 +127,78 @@ static double shut_out(uint32_t names, bool ticks_each_second, double *held)
     return (double)(host.now - 5 * SECOND - since) / SECOND;
 }
 
-/* What that datagram and the tick after it take of a processor. */
-static void cost_of_names(uint32_t names)
+/* What a datagram of so many names, `step` apart, and the tick after it take of a processor: the least times of some,
+ * as other work only adds to them. */
+static void cost_of_names(const char *order, uint32_t step, uint32_t names, double most)
 {
     static uint8_t datagram[FULL];
-    struct host host = begun(1024, true, 1);
-    const size_t size = put_names(datagram, INVENTED, names);
-    const double begin = seconds();
-    rtcp(&host, 0xbad, datagram, size);
-    const double taken = seconds();
-    host.now = SECOND;
-    tick(&host);
-    told("octets of the datagram", (double)size, "octets", 0);
-    told("time that its call takes", (taken - begin) * 1e3, "ms", 0);
-    told("time that the tick after it takes", (seconds() - taken) * 1e6, "us", 0);
-    jalwedd_free(&host.session);
+    double call = 1e9, after = 1e9;
+    for (int round = 0; round < 20; round++) {
+        struct host host = begun(1024, true, 1);
+        const size_t size = put_names(datagram, INVENTED, step, names);
+        const double begin = seconds();
+        rtcp(&host, 0xbad, datagram, size);
+        const double taken = seconds();
+        host.now = SECOND;
+        tick(&host);
+        after = seconds() - taken < after ? seconds() - taken : after;
+        call = taken - begin < call ? taken - begin : call;
+        jalwedd_free(&host.session);
+    }
+    printf("    SSRCs that %s:\n", order);
+    told("time that its call takes", call * 1e3, "ms", most);
+    told("time that the tick after it takes", after * 1e6, "us", 0);
+}
+
+/* The least time of some that a datagram of BYEs takes whose sources come at random, every other one of them listed, in
+ * a full table, with nothing of it in a cache. */
+static double random_goodbyes(void)
+{
+    enum { IN_CACHES = 96 << 20 };
+    static uint8_t datagram[FULL];
+    volatile char *other = calloc(1, IN_CACHES);
+    double least = 1e9;
+    for (int round = 0; round < 20; round++) {
+        struct host host = begun(1024, true, 1);
+        uint32_t listed[1024];
+        for (int at = 0; at < 1024; at++)
+            name(&host, listed[at] = random_word(&host));
+        uint8_t *at = put_report(datagram, listed[0]);
+        for (; at + 128 <= datagram + FULL; at += 128) {
+            put_word(at, 0x9fcb001f);
+            for (int source = 1; source <= 31; source++)
+                put_word(at + 4 * source, source % 2 ? listed[random_word(&host) % 1024] : random_word(&host));
+        }
+        for (size_t place = 0; other != NULL && place < IN_CACHES; place += 64)
+            other[place]++;
+        const double begin = seconds();
+        rtcp(&host, 0xbad, datagram, (size_t)(at - datagram));
+        const double taken = seconds() - begin;
+        least = taken < least ? taken : least;
+        jalwedd_free(&host.session);
+    }
+    free((void *)other);
+    return least;
 }
 
 static void names(void)
 {
-    enum { NAMES = 8057 };
+    enum { NAMES = 8057, IN_AN_MTU = 180, TO_FILL = 6 * IN_AN_MTU };
+    static uint8_t datagram[FULL];
     double held;
     printf("One datagram names %d sources that do not exist, and a newcomer reports each 5 seconds:\n", NAMES);
-    cost_of_names(NAMES);
-    const double each_second = shut_out(NAMES, true, &held);
+    told("octets of the datagram", (double)put_names(datagram, INVENTED, 1, NAMES), "octets", FULL);
+    cost_of_names("rise", 1, NAMES, 5);
+    cost_of_names("fall", UINT32_MAX, NAMES, 5);
+    cost_of_names("are scattered", 2654435761u, NAMES, 5);
+    told("BYEs of sources at random, with cold caches", random_goodbyes() * 1e3, "ms", 5);
+    const double each_second = shut_out(NAMES, NAMES, true, &held);
     told("longest time to next", held, "s", 0);
     told("the newcomer is a member after, ticked each second", each_second, "s", 1200);
-    told("the newcomer is a member after, ticked at next alone", shut_out(NAMES, false, &held), "s", 0);
+    told("the newcomer is a member after, ticked at next alone", shut_out(NAMES, NAMES, false, &held), "s", 0);
+    printf("Six datagrams name %d such sources:\n", TO_FILL);
+    told("octets of each", (double)put_names(datagram, INVENTED, 1, IN_AN_MTU), "octets", MTU);
+    told("the newcomer is a member after, ticked each second", shut_out(TO_FILL, IN_AN_MTU, true, &held), "s", 1200);
 }
 
 /* ---- A leave */
@@ -232,7 +278,7 @@ static void no_attack(struct host *host, uint32_t room)
 static void repeat_names(struct host *host, uint32_t room)
 {
     static uint8_t datagram[FULL];
-    rtcp(host, 0xbad, datagram, put_names(datagram, INVENTED, room));
+    rtcp(host, 0xbad, datagram, put_names(datagram, INVENTED, 1, room));
 }
 
 /* One RTP head of each: with the same number again, none is ever valid. */
@@ -240,6 +286,14 @@ static void repeat_heads(struct host *host, uint32_t room)
 {
     for (uint32_t other = 0; other < room; other++)
         rtp(host, INVENTED + other, 7);
+}
+
+/* The same by CSRCs: packets of one source, which count up, name 15 others each. */
+static void repeat_csrcs(struct host *host, uint32_t room)
+{
+    static uint16_t sequence;
+    for (uint32_t other = 0; other < room; other += 15)
+        rtp_with_csrcs(host, INVENTED, sequence++, INVENTED + 1 + other);
 }
 
 static void full_table(uint32_t capacity, double octets_a_second, void (*attack)(struct host *, uint32_t))
@@ -258,6 +312,8 @@ static void full_tables(void)
     full_table(20, (8 + 4 + 18 * 8) / 20.0, repeat_names);
     printf("A table of 1,024 is kept full by an RTP head of each SSRC each 20 seconds:\n");
     full_table(1024, 1022 * 12 / 20.0, repeat_heads);
+    printf("A table of 1,024 is kept full by RTP packets of one source with 15 CSRCs each, each 20 seconds:\n");
+    full_table(1024, 69 * 72 / 20.0, repeat_csrcs);
 }
 
 /* ---- A full table, in which the host makes room */
@@ -404,7 +460,7 @@ static void something(struct host *host)
         rtcp(host, 0xbad, datagram, MTU);
         break;
     case 2:
-        rtcp(host, 0xbad, datagram, put_names(datagram, ssrc, 1 + random_word(host) % 180));
+        rtcp(host, 0xbad, datagram, put_names(datagram, ssrc, 1, 1 + random_word(host) % 180));
         break;
     case 3:
         say_goodbye(host, ssrc);

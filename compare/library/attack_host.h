@@ -166,8 +166,9 @@ static void rtp(struct host *host, uint32_t ssrc, uint16_t sequence)
     count_out(host);
 }
 
-/* One compound that gives so many sources from `ssrc` on a CNAME of 0 octets, 8 octets each. Returns its size. */
-static size_t put_names(uint8_t *datagram, uint32_t ssrc, uint32_t count)
+/* One compound that gives so many sources a CNAME of 0 octets, 8 octets each: the SSRCs from `ssrc` on, `step` apart.
+ * Returns its size. */
+static size_t put_names(uint8_t *datagram, uint32_t ssrc, uint32_t step, uint32_t count)
 {
     uint8_t *at = put_report(datagram, ssrc);
     for (uint32_t chunks; count != 0; count -= chunks) {
@@ -175,11 +176,25 @@ static size_t put_names(uint8_t *datagram, uint32_t ssrc, uint32_t count)
         put_word(at, (0x80 | chunks) << 24 | 202u << 16 | 2 * chunks);
         at += 4;
         for (uint32_t chunk = 0; chunk < chunks; chunk++, at += 8) {
-            put_word(at, ssrc++);
+            put_word(at, ssrc);
+            ssrc += step;
             memcpy(at + 4, "\1\0\0", 4);
         }
     }
     return (size_t)(at - datagram);
+}
+
+/* An RTP packet of the source `ssrc` without payload, whose CSRCs are the 15 SSRCs from `first` on: 72 octets. */
+static void rtp_with_csrcs(struct host *host, uint32_t ssrc, uint16_t sequence, uint32_t first)
+{
+    static uint8_t octets[JALWEDD_OCTETS];
+    uint8_t datagram[12 + 4 * 15] = {0x8f, 0, (uint8_t)(sequence >> 8), (uint8_t)sequence};
+    put_word(datagram + 8, ssrc);
+    for (uint32_t at = 0; at < 15; at++)
+        put_word(datagram + 12 + 4 * at, first + at);
+    jalwedd_arrive_rtp(&host->session, host->now, ssrc, random_word(host), datagram, sizeof datagram, &host->step,
+                       octets);
+    count_out(host);
 }
 
 /* One compound of BYE packets that name nobody, 4 octets each, up to so many octets. */
