@@ -1,8 +1,8 @@
 //! A file that ends a session.
 
-ghost use Rattle.std.specs.Prelude.{true};
+ghost use Rattle.std.specs.Prelude.{None};
 
-use rtcp_serve::Ending;
+use rtcp_serve::{Ending, Until};
 use std::fs::{self, Files};
 
 /// How long the file is not looked for after a look, in microseconds.
@@ -16,8 +16,8 @@ pub(crate) struct StopFile<'r, R> {
     file: String,
     /// The moment from which on it is looked for again.
     next_look: u64,
-    /// The moment at which it ended the session.
-    found: Option<u64>,
+    /// The end of the session, once it was there.
+    found: Option<Until>,
 }
 
 impl<'r, R: Files> StopFile<'r, R> {
@@ -45,19 +45,13 @@ impl<'r, R: Files> StopFile<'r, R> {
 }
 
 impl<'r, R: Files> Ending for StopFile<'r, R> {
-    ghost may_end = { λ stop has_left at. true };
+    ghost known = { λ stop has_left at. None };
 
     fn is_over(&mut self, moment: u64, has_left: bool) -> bool {
-        if has_left {
-            if let Some(found) = self.found {
-                return found <= moment / 2;
-            }
-            return self.is_seen(moment);
+        if self.found.is_none() && self.is_seen(moment) {
+            let moment = if has_left { moment / 2 } else { moment };
+            self.found = Some(Until { moment });
         }
-        let is_seen = self.is_seen(moment);
-        if is_seen {
-            self.found = Some(moment);
-        }
-        is_seen
+        self.found.is_over(moment, has_left)
     }
 }

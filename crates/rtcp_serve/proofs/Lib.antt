@@ -1,2 +1,3 @@
 mod LinkCalls
+mod Pauses
 mod SessionAccounts

@@ -1,13 +1,14 @@
 -- Calls of a link, one after the other.
-use Rattle.std.proofs.Common.{◌≡◌, ◌≤◌, ◌<◌, ◌^◌, ℕ, suc, ◌+◌, IsTrue, is_some, Bool, true, false, Ok, Err, List, [], ◌∷◌, ◌++◌, length, filter, Option, Some, None, ◌⊎◌, inl, inr, refl, sym, ap, ◌∙◌, subst, arith, rules, if◌then◌else◌, Result, is_ok, IsErrAnd, append_assoc, length-append}
+use Rattle.std.proofs.Common.{◌≡◌, ◌≤◌, ◌<◌, ◌^◌, ℕ, suc, ◌+◌, IsTrue, is_some, Bool, true, false, Ok, Err, List, [], ◌∷◌, ◌++◌, length, filter, Option, Some, None, ◌⊎◌, inl, inr, refl, sym, ap, ◌∙◌, subst, arith, rules, if◌then◌else◌, Result, is_ok, IsErrAnd, append_assoc, length-append, slice_index_or}
 use Rattle.std.proofs.lemmas.List.{append_cancel_right}
-use Rattle.std.proofs.lemmas.List.Elements.{filter-append}
+use Rattle.std.proofs.lemmas.List.Elements.{All-cons, All-nil, filter-append}
 use Rattle.std.proofs.lemmas.Result.{err_from_is_err_and}
 use Rattle.rtcp_serve.specs.declared.link.Port.{Port}
 use Rattle.rtcp_serve.specs.declared.link.Port.TheVariants.{Rtcp as RtcpPort}
 use Rattle.rtcp_serve.specs.declared.serving.Cause.{Cause}
 use Rattle.rtcp_serve.specs.declared.serving.End.{End}
 use Rattle.rtcp_serve.specs.declared.serving.Cause.TheVariants.{Done}
+use Rattle.rtcp_serve.specs.Endings.{AreHeeded, IsCut, IsHeeded, MayAnswer, Pause, pause}
 use Rattle.rtcp_serve.specs.Links.{Call, LinkValue, GrowsBy, WereCalled, clock_read, compound_sent, port_heard, datagram, how_many, is_failed_receive, is_failed_send, Telling, telling}
 use Rattle.rand_core.specs.Stream.{Stream, next_u32}
 use Rattle.rtcp_engine.specs.Acts.{Act, ticked, left as asked_to_leave, EventValue, time_passed, leave_asked}
@@ -20,8 +21,8 @@ use Rattle.rtcp_engine.specs.Views.{answer_value}
 use Rattle.rtcp_engine.specs.Steps.{AnswerValue, OutValue}
 use Rattle.rtcp_serve.specs.declared.serving.tally.Tally.{Tally}
 use Rattle.rtcp_serve.specs.Tallies.{HasRoom, end_of, is_limit, with_arrival, with_datagram, with_moment, with_refused, with_send}
-use Rattle.rtcp_serve.specs.Serving.{Reader, Stage, resting, beginning, hearing, deciding, sending, ended, SessionState, rested, going, ReadsClock, Hears, Sends, Fits, at_stage, with_turns, turn_by, turn_or, after_turns, gone_on, left_with, event_at, arrival_at, after_port, came_with, heard_at, after_clock, after_sending, after_call, after_calls, AllFit, at_the_start, stage_to_send, ticked_with, ticked_now, with_tally}
-use Rattle.rtcp_serve.specs.Sessions.{Closes, EndsAs, EndsTurns, HasTurn, Holds, IsCut, IsLeaveDue, Moves, RunsCut, RunsSession, TellsLink, Walks, led_to, next_at}
+use Rattle.rtcp_serve.specs.Serving.{Reader, Stage, resting, beginning, hearing, deciding, sending, ended, SessionState, rested, going, ReadsClock, Hears, Sends, Fits, at_stage, with_turns, paused, turn_by, turn_or, after_turns, gone_on, left_with, event_at, arrival_at, after_port, came_with, heard_at, after_clock, after_sending, after_call, after_calls, AllFit, at_the_start, stage_to_send, ticked_with, ticked_now, with_tally}
+use Rattle.rtcp_serve.specs.Sessions.{Closes, EndsAs, EndsTurns, HasTurn, Holds, IsLeaveDue, Moves, RunsCut, RunsSession, TellsLink, Walks, led_to, next_at}
 
 -- ---- Logs
 
@@ -134,7 +135,7 @@ tells_one one s t x y same grew = record {
 
 pub walks_nowhere : (reader : Reader) (total : ℕ) (s : SessionState) (kept : ParticipantValue) (words : Stream)
     (counted : Tally) (at : SessionState → Type 0) (v : LinkValue) → Holds s kept words counted → at s
-    → Walks reader total s s v v kept words counted at s.turns s.leaving
+    → Walks reader total s s v v kept words counted at s.turns s.leaving s.pauses
 walks_nowhere reader total s kept words counted at v holds ends = record {
   calls = [];
   reached = s;
@@ -144,12 +145,13 @@ walks_nowhere reader total s kept words counted at v holds ends = record {
   ends = ends;
   turns = refl;
   leaving = refl;
+  paused = refl;
 }
 
 module _ {reader : Reader} {total : ℕ} {s u : SessionState} {x y : LinkValue} {kept : ParticipantValue} {words : Stream}
-    {counted : Tally} {at : SessionState → Type 0} {n : ℕ} {b : Bool} where
-  pub walks_to : (walk : Walks reader total s u x y kept words counted at n b) {to : SessionState → Type 0}
-      → to walk.reached → Walks reader total s u x y kept words counted to n b
+    {counted : Tally} {at : SessionState → Type 0} {n : ℕ} {b : Bool} {pauses : List Pause} where
+  pub walks_to : (walk : Walks reader total s u x y kept words counted at n b pauses) {to : SessionState → Type 0}
+      → to walk.reached → Walks reader total s u x y kept words counted to n b pauses
   walks_to walk ends = record {
     calls = walk.calls;
     reached = walk.reached;
@@ -159,12 +161,13 @@ module _ {reader : Reader} {total : ℕ} {s u : SessionState} {x y : LinkValue} 
     ends = ends;
     turns = walk.turns;
     leaving = walk.leaving;
+    paused = walk.paused;
   }
 
   -- calls and tellings before it
   pub walks_after : {w : LinkValue} {v r : SessionState} {calls : List Call} → Moves reader total calls v u w x
-      → TellsLink r s w x → Walks reader total s u x y kept words counted at n b
-      → Walks reader total r v w y kept words counted at n b
+      → TellsLink r s w x → Walks reader total s u x y kept words counted at n b pauses
+      → Walks reader total r v w y kept words counted at n b pauses
   walks_after {calls = calls} moves tells walk = record {
     calls = walk.calls ++ calls;
     reached = walk.reached;
@@ -174,19 +177,30 @@ module _ {reader : Reader} {total : ℕ} {s u : SessionState} {x y : LinkValue} 
     ends = walk.ends;
     turns = walk.turns;
     leaving = walk.leaving;
+    paused = walk.paused;
   }
 
-  pub walks_as : {m : ℕ} {c : Bool} → n ≡ m → b ≡ c → Walks reader total s u x y kept words counted at n b
-      → Walks reader total s u x y kept words counted at m c
-  walks_as {c = c} same stays walk = subst (λ m. Walks reader total s u x y kept words counted at m c) same
-      (subst (Walks reader total s u x y kept words counted at n) stays walk)
+  pub walks_as : {m : ℕ} {c : Bool} {others : List Pause} → n ≡ m → b ≡ c → pauses ≡ others
+      → Walks reader total s u x y kept words counted at n b pauses
+      → Walks reader total s u x y kept words counted at m c others
+  walks_as {m = m} {c = c} same stays alike walk = record {
+    calls = walk.calls;
+    reached = walk.reached;
+    moves = walk.moves;
+    tells = walk.tells;
+    holds = walk.holds;
+    ends = walk.ends;
+    turns = walk.turns ∙ same;
+    leaving = walk.leaving ∙ stays;
+    paused = walk.paused ∙ alike;
+  }
 
 pub walks_on : {reader : Reader} {total : ℕ} {s u : SessionState} {x y z : LinkValue} {kept kept' : ParticipantValue}
     {words words' : Stream} {counted counted' : Tally} {at to : SessionState → Type 0} {n m k : ℕ} {b : Bool}
-    (first : Walks reader total s u x y kept words counted at n b)
-    → Walks reader total first.reached first.reached y z kept' words' counted' to m first.reached.leaving → m ≡ k
-    → Walks reader total s u x z kept' words' counted' to k b
-walks_on first walk same = walks_as same first.leaving (walks_after first.moves first.tells walk)
+    {pauses more others : List Pause} (first : Walks reader total s u x y kept words counted at n b pauses)
+    → Walks reader total first.reached first.reached y z kept' words' counted' to m first.reached.leaving more → m ≡ k
+    → more ≡ others → Walks reader total s u x z kept' words' counted' to k b others
+walks_on first walk same alike = walks_as same first.leaving alike (walks_after first.moves first.tells walk)
 
 -- the exit of a `?`, where the call's claim and the function's are the same of a cause
 pub stops : {A B : Type 0} {cause : Cause} (P : Result A Cause → Type 0) (Q : Result B Cause → Type 0)
@@ -231,6 +245,7 @@ told_as event act answer words tally stage s = record {
   tally = tally;
   turns = s.turns;
   leaving = s.leaving;
+  pauses = s.pauses;
   stage = stage;
 }
 
@@ -266,12 +281,12 @@ rests_at total s rests = ap (λ stage. rested (turn_or (after_turns total s) s) 
 
 -- where a turn begins
 turn_there : (left : ℕ) (next : Option ℕ) (otherwise s : SessionState) → IsTrue (is_some next)
-    → turn_by next (suc left) otherwise s ≡ at_stage beginning (with_turns left s.leaving s)
+    → turn_by next (suc left) otherwise s ≡ at_stage beginning (with_turns left s.leaving (paused false s))
 turn_there left None otherwise s there = absurd cc
 turn_there left (Some moment) otherwise s there = refl
 
 turn_begins : (total left : ℕ) (s : SessionState) → HasTurn left s →
-    going total s ≡ at_stage beginning (with_turns left s.leaving s)
+    going total s ≡ at_stage beginning (with_turns left s.leaving (paused false s))
 turn_begins total left s has = rests_at total s has.resting
     ∙ ap (λ turns. turn_by (next_at s) turns (after_turns total s) s) has.turns
     ∙ turn_there left (next_at s) (after_turns total s) s has.there
@@ -283,8 +298,9 @@ pub turn_clocked : (reader : Reader) (total left moment : ℕ) (s : SessionState
     → Holds s kept words counted → HasTurn left s → WereCalled (clock_read moment ∷ []) x y → y.told ≡ x.told →
     told ≡ with_moment moment counted
     → Walks reader total s s x y kept words told (λ t. t.stage ≡ hearing RtcpPort) left s.leaving
+    (pause s.leaving s.tally.moment false ∷ s.pauses)
 turn_clocked reader total left moment s kept words counted told x y holds has called still counts =
-    let begun = at_stage beginning (with_turns left s.leaving s) in
+    let begun = at_stage beginning (with_turns left s.leaving (paused false s)) in
     let t = after_call reader (clock_read moment) begun in
     walks_after (moves_by reader total (clock_read moment) s begun x y (turn_begins total left s has) (tt {0}) called)
     (tells_none s t x y refl still) (walks_nowhere reader total t kept words told (λ t. t.stage ≡ hearing RtcpPort) y
@@ -330,7 +346,7 @@ pub sent_over : (reader : Reader) (total : ℕ) (next : Stage) (changed : Option
     (x y : LinkValue) → Holds s kept words counted → s.stage ≡ sending out changed next → octets ≡ out.octets
     → WereCalled (compound_sent octets failed ∷ []) x y → y.told ≡ x.told
     → told ≡ with_send out.kind changed lost counted → lost ≡ failed
-    → Walks reader total s s x y kept words told (λ t. t.stage ≡ next) s.turns s.leaving
+    → Walks reader total s s x y kept words told (λ t. t.stage ≡ next) s.turns s.leaving s.pauses
 sent_over reader total next changed out octets failed lost s kept words counted told x y holds is named called still
     counts same =
     let t = at_stage next (with_tally (with_send out.kind changed failed s.tally) s) in
@@ -372,9 +388,9 @@ IsClosed total t to = (stage : Stage) × (going total t ≡ at_stage stage t) ×
 -- The last part of a session, from where it goes on as from an earlier standing.
 pub closes : {reader : Reader} {total : ℕ} {s u : SessionState} {x y : LinkValue} {kept : ParticipantValue}
     {words : Stream}
-    {counted : Tally} {at to : SessionState → Type 0} {n : ℕ} {b : Bool} → going total s ≡ going total u
-    → (walk : Walks reader total s u x y kept words counted at n b) → IsClosed total walk.reached to
-    → Closes reader total s x y kept words counted to
+    {counted : Tally} {at to : SessionState → Type 0} {n : ℕ} {b : Bool} {pauses : List Pause}
+    → going total s ≡ going total u → (walk : Walks reader total s u x y kept words counted at n b pauses)
+    → IsClosed total walk.reached to → Closes reader total s x y kept words counted to pauses
 closes {reader = reader} {total = total} {s = s} {u = u} same walk (stage, goes, ends) =
     let (fit, alike) = goes_alike reader total s u walk.calls same walk.moves.fit in
     record {
@@ -392,13 +408,14 @@ closes {reader = reader} {total = total} {s = s} {u = u} same walk (stage, goes,
         tally = walk.holds.tally;
       };
       ends = ends;
+      paused = walk.paused;
     }
 
 pub closes_on : {reader : Reader} {total : ℕ} {s : SessionState} {x y z : LinkValue} {kept kept' : ParticipantValue}
     {words words' : Stream} {counted counted' : Tally} {at to : SessionState → Type 0} {n : ℕ} {b : Bool}
-    (first : Walks reader total s s x y kept words counted at n b)
-    → Closes reader total first.reached y z kept' words' counted' to →
-    Closes reader total s x z kept' words' counted' to
+    {pauses more : List Pause} (first : Walks reader total s s x y kept words counted at n b pauses)
+    → Closes reader total first.reached y z kept' words' counted' to more →
+    Closes reader total s x z kept' words' counted' to more
 closes_on {reader = reader} {total = total} {s = s} {x = x} {y = y} {z = z} first last =
     let calls = first.calls in
     let more = last.calls in
@@ -416,6 +433,7 @@ closes_on {reader = reader} {total = total} {s = s} {x = x} {y = y} {z = z} firs
       tells = record { grows = λ start grown. last.tells.grows start (first.tells.grows start grown) };
       holds = last.holds;
       ends = last.ends;
+      paused = last.paused;
     }
 
 -- ---- The leave
@@ -443,17 +461,20 @@ pub leave_told : (reader : Reader) (total : ℕ) (s : SessionState) (before afte
     → StandsAt after (followed_by s.history (asked_to_leave counted.moment word))
     → ((s t : SessionState) → Holds t after rest counted → t.stage ≡ stage_to_send resting (ended Done) answer
     → t.tellings ≡ telling (leave_asked counted.moment word) answer ∷ s.tellings
-    → Walks reader total s t x y after rest told at t.turns t.leaving)
+    → Walks reader total s t x y after rest told at t.turns t.leaving t.pauses)
     → (u : SessionState) × (going total s ≡ going total u) × Walks reader total s u x y after rest told at total true
+    (pause false counted.moment true ∷ s.pauses)
 leave_told reader total s before after words rest word counted told answer at x y holds due drawn answers stands tells =
     let tally = holds.tally in
     let stream = holds.words in
     let u = told_as (leave_asked counted.moment word) (asked_to_leave counted.moment word) answer rest counted
-    (stage_to_send resting (ended Done) answer) (with_turns total true s) in
+    (stage_to_send resting (ended Done) answer) (with_turns total true (paused true s)) in
     let there : left_with total (next_u32 s.words) s ≡ u = cc in (
       u,
       leave_comes total s due ∙ ap (going total) there,
-      tells s u (record { participant = stands; words = refl; tally = refl }) refl refl,
+      walks_as refl refl (ap (λ left. pause left s.tally.moment true ∷ s.pauses) due.leaving
+          ∙ ap (λ (t : Tally). pause false t.moment true ∷ s.pauses) (sym tally))
+          (tells s u (record { participant = stands; words = refl; tally = refl }) refl refl),
     )
 
 -- ---- The end
@@ -491,8 +512,9 @@ closed_after total t (Err cause) is leaving = closed_at total t is
 
 -- The last part of a session that begins is the whole of it.
 pub runs_as : {reader : Reader} {total : ℕ} {s : SessionState} {x y : LinkValue} {kept : ParticipantValue}
-    {words : Stream} {counted : Tally} {at : SessionState → Type 0} (closed : Closes reader total s x y kept words
-    counted at) (cause : Cause) (result : End) → closed.reached.stage ≡ ended cause → result ≡ end_of cause counted
+    {words : Stream} {counted : Tally} {at : SessionState → Type 0} {pauses : List Pause}
+    (closed : Closes reader total s x y kept words counted at pauses) (cause : Cause) (result : End)
+    → closed.reached.stage ≡ ended cause → result ≡ end_of cause counted
     → s.tellings ≡ [] → RunsSession reader total s kept words result x y
 runs_as {x = x} closed cause result ends is none =
     let why = ap (λ (end : End). end.cause) is in
@@ -513,66 +535,112 @@ runs_as {x = x} closed cause result ends is none =
 -- ---- Endings
 
 -- All turns were made.
-pub uncut_whole : (may_end : ℕ → Bool) (most greatest : ℕ) → IsCut may_end most most greatest
-uncut_whole may_end most greatest = record { within = omega (arith); whole = inl refl }
+pub uncut_whole : (known : Option Bool) (most : ℕ) → IsCut known most most
+uncut_whole known most = record { within = omega (arith); whole = inl refl }
 
--- The ending ended them.
-pub cut_at : (may_end : ℕ → Bool) (most made moment : ℕ) → made ≤ most → IsTrue (may_end moment) →
-    IsCut may_end most made moment
-cut_at may_end most made moment within is = record { within = within; whole = inr (moment, omega (arith), is) }
+-- Where it is known that no ending ends them, all were.
+never_cut : (most made : ℕ) → (made ≡ most) ⊎ MayAnswer (Some false) true → made ≡ most
+never_cut most made (inl whole) = whole
+never_cut most made (inr never) = absurd cc
 
--- Where no ending ends them, all were.
-never_cut : (most made greatest : ℕ) → (made ≡ most) ⊎ ((moment : ℕ) × (moment ≤ greatest) × IsTrue false)
-    → made ≡ most
-never_cut most made greatest (inl whole) = whole
-never_cut most made greatest (inr (moment, before, never)) = absurd cc
-
-pub uncut : (most made greatest : ℕ) → IsCut (λ moment. false) most made greatest → made ≡ most
-uncut most made greatest cut = never_cut most made greatest cut.whole
+pub uncut : (most made : ℕ) → IsCut (Some false) most made → made ≡ most
+uncut most made cut = never_cut most made cut.whole
 
 -- A session that no ending ends is one of all turns.
 pub runs_whole : {reader : Reader} {history : History} {words left : Stream} {kept : ParticipantValue} {result : End}
-    {x y : LinkValue} (most turns made further greatest : ℕ) → most ≡ turns
-    → IsCut (λ moment. false) most made greatest → IsCut (λ moment. false) most further greatest
+    {x y : LinkValue} (most turns made further : ℕ) → most ≡ turns
+    → IsCut (Some false) most made → IsCut (Some false) most further
     → RunsSession reader further (at_the_start history words made) kept left result x y
     → RunsSession reader turns (at_the_start history words turns) kept left result x y
 runs_whole {reader = reader} {history = history} {words = words} {left = left} {kept = kept} {result = result} {x = x}
-    {y = y} most turns made further greatest same leaves waits runs =
+    {y = y} most turns made further same leaves waits runs =
     subst (λ n. RunsSession reader n (at_the_start history words turns) kept left result x y)
-    (uncut most further greatest waits ∙ same)
+    (uncut most further waits ∙ same)
     (subst (λ n. RunsSession reader further (at_the_start history words n) kept left result x y)
-    (uncut most made greatest leaves ∙ same) runs)
+    (uncut most made leaves ∙ same) runs)
 
 -- A session that may be ended, by its last part, which is the whole of it.
 pub runs_cut : {reader : Reader} {history : History} {words left : Stream} {kept : ParticipantValue} {counted : Tally}
-    {at : SessionState → Type 0} {x y : LinkValue} (may_end : Bool → ℕ → Bool) (most made further : ℕ)
-    (closed : Closes reader further (at_the_start history words made) x y kept left counted at) (cause : Cause)
+    {at : SessionState → Type 0} {x y : LinkValue} {pauses : List Pause} (known : Bool → ℕ → Option Bool)
+    (most made further left_at : ℕ)
+    (closed : Closes reader further (at_the_start history words made) x y kept left counted at pauses) (cause : Cause)
     (result : End) → closed.reached.stage ≡ ended cause → result ≡ end_of cause counted
-    → IsCut (may_end false) most made counted.moment → IsCut (may_end true) most further counted.moment
-    → RunsCut reader may_end most history words kept left result x y
+    → IsCut (known false left_at) most made → left_at ≤ counted.moment → IsCut (known true counted.moment) most further
+    → AreHeeded known most made pauses → RunsCut reader known most history words kept left result x y
 unfolding runs_as
-runs_cut {counted = counted} may_end most made further closed cause result ends is leaves waits = record {
-  made = made;
-  further = further;
-  greatest = counted.moment;
-  leaves = leaves;
-  waits = waits;
-  runs = runs_as closed cause result ends is refl;
-  moment = ap (λ (t : Tally). t.moment) (sym closed.holds.tally);
+runs_cut {counted = counted} known most made further left_at closed cause result ends is leaves left_by waits heeded =
+    let moment = ap (λ (t : Tally). t.moment) closed.holds.tally in
+    record {
+      made = made;
+      further = further;
+      runs = runs_as closed cause result ends is refl;
+      heeded = subst (AreHeeded known most made) (sym closed.paused) heeded;
+      left_at = left_at;
+      leaves = leaves;
+      left_by = subst (λ n. left_at ≤ n) moment left_by;
+      waits = subst (λ n. IsCut (known true n) most further) moment waits;
+    }
+
+-- Turns that were over by an ending that is known alike.
+pub cut_alike : {one other : Option Bool} {most made : ℕ} → one ≡ other → IsCut one most made → IsCut other most made
+cut_alike {most = most} {made = made} same cut = subst (λ known. IsCut known most made) same cut
+
+-- What was answered, of an ending that is known alike since.
+pub answers_as : (known since : Option Bool) (result answer : Bool) → known ≡ since → result ≡ answer
+    → MayAnswer known result → MayAnswer since answer
+answers_as known since result answer same is may =
+    subst (λ known. MayAnswer known answer) same (subst (MayAnswer known) is may)
+
+-- one pause more
+heeds_more : (known : Bool → ℕ → Option Bool) (most made : ℕ) (one : Pause) (pauses : List Pause)
+    → IsHeeded (known one.has_left one.moment) most made one.is_over → AreHeeded known most made pauses
+    → AreHeeded known most made (one ∷ pauses)
+heeds_more known most made one pauses heeded all = record {
+  each = All-cons (λ (one : Pause). IsHeeded (known one.has_left one.moment) most made one.is_over) one pauses heeded
+      all.each;
 }
 
--- Endings that may end turns at the same moments let as many be made, and moments do not go back.
-ends_alike : (one other : ℕ → Bool) (most made greatest later : ℕ) → ((at : ℕ) → one at ≡ other at)
-    → greatest ≤ later → (made ≡ most) ⊎ ((moment : ℕ) × (moment ≤ greatest) × IsTrue (one moment))
-    → (made ≡ most) ⊎ ((moment : ℕ) × (moment ≤ later) × IsTrue (other moment))
-ends_alike one other most made greatest later same goes_on (inl whole) = inl whole
-ends_alike one other most made greatest later same goes_on (inr (moment, before, is)) =
-    inr (moment, omega (arith, before, goes_on), subst IsTrue (same moment) is)
+-- A turn that was made where the ending was not met.
+pub heeds_turn : (known : Bool → ℕ → Option Bool) (most made : ℕ) (has_left left : Bool) (counted tally : Tally)
+    (pauses others : List Pause) → left ≡ has_left → counted ≡ tally → others ≡ pauses
+    → MayAnswer (known has_left counted.moment) false → AreHeeded known most made pauses
+    → AreHeeded known most made (pause left tally.moment false ∷ others)
+heeds_turn known most made has_left left counted tally pauses others leaves holds paused goes heeded =
+    let there = heeds_more known most made (pause has_left counted.moment false) pauses goes heeded in
+    subst (λ left. AreHeeded known most made (pause left tally.moment false ∷ others)) (sym leaves)
+    (subst (λ (tally : Tally). AreHeeded known most made (pause has_left tally.moment false ∷ others)) holds
+    (subst (λ others. AreHeeded known most made (pause has_left counted.moment false ∷ others)) (sym paused) there))
 
-pub cut_alike : (one other : ℕ → Bool) (most made greatest later : ℕ) → ((at : ℕ) → one at ≡ other at)
-    → greatest ≤ later → IsCut one most made greatest → IsCut other most made later
-cut_alike one other most made greatest later same goes_on cut =
-    record { within = cut.within; whole = ends_alike one other most made greatest later same goes_on cut.whole }
+-- The leave, where the ending was met or all turns were made.
+pub leave_heeded : (known : Bool → ℕ → Option Bool) (most made moment : ℕ) (pauses : List Pause)
+    → IsCut (known false moment) most made → AreHeeded known most made pauses
+    → AreHeeded known most made (pause false moment true ∷ pauses)
+leave_heeded known most made moment pauses cut heeded =
+    heeds_more known most made (pause false moment true) pauses cut.whole heeded
+
+-- of an ending that is known alike
+heeded_alike : (one other : Bool → ℕ → Option Bool) (most made : ℕ) (pauses : List Pause)
+    → ((left : Bool) (at : ℕ) → one left at ≡ other left at) → AreHeeded one most made pauses
+    → AreHeeded other most made pauses
+heeded_alike one other most made pauses same heeded = record {
+  each = λ k d below. let at = slice_index_or pauses k d in
+      subst (λ known. IsHeeded known most made at.is_over) (same at.has_left at.moment) (heeded.each k d below);
+}
+
+-- What is heeded since the leave, by an ending that is known alike before it and since.
+pub heeded_since : (later known : Bool → ℕ → Option Bool) (most made moment : ℕ) (reached before all : List Pause)
+    → ((left : Bool) (at : ℕ) → later left at ≡ known left at) → reached ≡ before
+    → (AreHeeded later most made (pause false moment true ∷ reached) → AreHeeded later most made all)
+    → AreHeeded known most made (pause false moment true ∷ before) → AreHeeded known most made all
+heeded_since later known most made moment reached before all same is since heeded =
+    heeded_alike later known most made all same
+    (since (subst (λ l. AreHeeded later most made (pause false moment true ∷ l)) (sym is)
+    (heeded_alike known later most made (pause false moment true ∷ before) (λ left at. sym (same left at)) heeded)))
+
+-- where no pause was made yet
+pub none_heeded : (known : Bool → ℕ → Option Bool) (most made : ℕ) (pauses : List Pause) → pauses ≡ []
+    → AreHeeded known most made pauses
+none_heeded known most made pauses none = subst (AreHeeded known most made) (sym none) (record { each = All-nil _ })
 
 -- ---- Room
 

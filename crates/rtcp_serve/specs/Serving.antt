@@ -17,6 +17,7 @@ use Rattle.rtcp_serve.specs.declared.serving.Cause.{Cause}
 use Rattle.rtcp_serve.specs.declared.serving.Cause.TheVariants.{Done, LinkDown, Limit}
 use Rattle.rtcp_serve.specs.declared.serving.tally.Tally.{Tally}
 use Rattle.rtcp_serve.specs.Tallies.{is_limit, no_calls, with_arrival, with_datagram, with_failed_receive, with_moment, with_send, with_silence}
+use Rattle.rtcp_serve.specs.Endings.{Pause, pause}
 use Rattle.rtcp_serve.specs.Links.{Heard, datagram, silence, failure, Call, clock_read, port_heard, compound_sent, Telling, telling}
 
 -- ---- Readings
@@ -63,6 +64,8 @@ pub record SessionState : Type 0 where
   pub turns : ℕ
   -- whether the leave was asked for
   pub leaving : Bool
+  -- the pauses before its turns and before the leave, newest first
+  pub pauses : List Pause
   pub stage : Stage
 
 abbrev pub at_stage : Stage → SessionState → SessionState
@@ -76,6 +79,10 @@ with_words words s = record s { words = words }
 
 abbrev pub with_turns : (turns : ℕ) → (leaving : Bool) → SessionState → SessionState
 with_turns turns leaving s = record s { turns = turns; leaving = leaving }
+
+-- a pause, at the greatest moment so far
+abbrev pub paused : (is_over : Bool) → SessionState → SessionState
+paused is_over s = record s { pauses = pause s.leaving s.tally.moment is_over ∷ s.pauses }
 
 -- the participant is told an event, which is this act
 abbrev pub told_act : EventValue → Act → SessionState → SessionState
@@ -155,7 +162,8 @@ ticked_now s = let first = next_u32 s.words in ticked_with first (next_u32 first
 -- left then.
 abbrev pub left_with : (total : ℕ) → (word : ℕ × Stream) → SessionState → SessionState
 left_with total word s = let moment = s.tally.moment in
-    asked (ended Done) (leave_asked moment word.0) (left moment word.0) (with_turns total true (with_words word.1 s))
+    asked (ended Done) (leave_asked moment word.0) (left moment word.0)
+    (with_turns total true (with_words word.1 (paused true s)))
 
 -- ---- Turns
 
@@ -163,7 +171,7 @@ left_with total word s = let moment = s.tally.moment in
 abbrev pub turn_by : (next : Option ℕ) → (turns : ℕ) → (otherwise s : SessionState) → SessionState
 turn_by None turns otherwise s = at_stage (ended Done) s
 turn_by (Some moment) zero otherwise s = otherwise
-turn_by (Some moment) (suc turns) otherwise s = at_stage beginning (with_turns turns s.leaving s)
+turn_by (Some moment) (suc turns) otherwise s = at_stage beginning (with_turns turns s.leaving (paused false s))
 
 abbrev pub turn_or : (otherwise s : SessionState) → SessionState
 turn_or otherwise s = turn_by (next_in_life (life_at s.history)) s.turns otherwise s
@@ -247,5 +255,6 @@ at_the_start history words turns = record {
   tally = no_calls;
   turns = turns;
   leaving = false;
+  pauses = [];
   stage = resting;
 }

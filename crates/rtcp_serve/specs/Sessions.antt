@@ -10,6 +10,7 @@ use Rattle.rtcp_serve.specs.declared.serving.Cause.{Cause}
 use Rattle.rtcp_serve.specs.declared.serving.Cause.TheVariants.{Done}
 use Rattle.rtcp_serve.specs.declared.serving.tally.Tally.{Tally}
 use Rattle.rtcp_serve.specs.Tallies.{end_of}
+use Rattle.rtcp_serve.specs.Endings.{Pause, IsCut, AreHeeded}
 use Rattle.rtcp_serve.specs.Links.{Call, LinkValue, WereCalled, Telling, GrowsBy}
 use Rattle.rtcp_serve.specs.Serving.{Reader, Stage, resting, ended, SessionState, going, after_calls, AllFit, at_the_start}
 
@@ -66,7 +67,8 @@ pub record TellsLink (s t : SessionState) (before after : LinkValue) : Type 0 wh
 -- keeps and comes to what it comes to, and the link was told what the participant was told since an earlier standing.
 pub record Walks
     (reader : Reader) (total : ℕ) (since from : SessionState) (before after : LinkValue) (kept : ParticipantValue)
-    (words : Stream) (counted : Tally) (at : SessionState → Type 0) (turns_left : ℕ) (has_left : Bool) : Type 0 where
+    (words : Stream) (counted : Tally) (at : SessionState → Type 0) (turns_left : ℕ) (has_left : Bool)
+    (pauses : List Pause) : Type 0 where
   pub calls : List Call
   pub reached : SessionState
   pub moves : Moves reader total calls from reached before after
@@ -75,6 +77,7 @@ pub record Walks
   pub ends : at reached
   pub turns : reached.turns ≡ turns_left
   pub leaving : reached.leaving ≡ has_left
+  pub paused : reached.pauses ≡ pauses
 
 -- Calls of a link, each the one that came next, led from one standing to another and on to what comes next.
 pub record Comes (reader : Reader) (total : ℕ) (calls : List Call) (s t : SessionState) (before after : LinkValue) :
@@ -94,14 +97,14 @@ pub record IsLeaveDue (s : SessionState) : Type 0 where
 -- The last part of a session: the same, up to what comes next, which is its end.
 pub record Closes
     (reader : Reader) (total : ℕ) (s : SessionState) (before after : LinkValue) (kept : ParticipantValue)
-    (words : Stream)
-    (counted : Tally) (at : SessionState → Type 0) : Type 0 where
+    (words : Stream) (counted : Tally) (at : SessionState → Type 0) (pauses : List Pause) : Type 0 where
   pub calls : List Call
   pub reached : SessionState
   pub comes : Comes reader total calls s reached before after
   pub tells : TellsLink s reached before after
   pub holds : Holds reached kept words counted
   pub ends : at reached
+  pub paused : reached.pauses ≡ pauses
 
 -- what a session came to
 abbrev pub IsEnd : End → SessionState → Type 0
@@ -123,22 +126,18 @@ pub record RunsSession
 
 -- ---- Endings
 
--- How many turns were made where so many may be: all, unless an ending may end them at some moment, which is at most
--- the greatest so far.
-pub record IsCut (may_end : ℕ → Bool) (most made greatest : ℕ) : Type 0 where
-  pub within : made ≤ most
-  pub whole : (made ≡ most) ⊎ ((moment : ℕ) × (moment ≤ greatest) × IsTrue (may_end moment))
-
 -- A session over a link whose turns may be ended, before the leave and after it: it is one of the turns that were
--- made before the leave, and of so many at most after it.
+-- made before the leave, and of so many at most after it. Its ending is heeded in each pause, and at the end of the
+-- turns after the leave.
 pub record RunsCut
-    (reader : Reader) (may_end : Bool → ℕ → Bool) (most : ℕ) (history : History) (words : Stream)
+    (reader : Reader) (known : Bool → ℕ → Option Bool) (most : ℕ) (history : History) (words : Stream)
     (kept : ParticipantValue) (left : Stream) (result : End) (before after : LinkValue) : Type 0 where
   pub made : ℕ
   pub further : ℕ
-  -- the greatest moment that the clock gave
-  pub greatest : ℕ
-  pub leaves : IsCut (may_end false) most made greatest
-  pub waits : IsCut (may_end true) most further greatest
   pub runs : RunsSession reader further (at_the_start history words made) kept left result before after
-  pub moment : runs.reached.tally.moment ≡ greatest
+  pub heeded : AreHeeded known most made runs.reached.pauses
+  -- the moment at which the turns before the leave were over
+  pub left_at : ℕ
+  pub leaves : IsCut (known false left_at) most made
+  pub left_by : left_at ≤ runs.reached.tally.moment
+  pub waits : IsCut (known true runs.reached.tally.moment) most further

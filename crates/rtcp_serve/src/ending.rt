@@ -1,19 +1,20 @@
 //! When a session leaves before its last turn.
 
-ghost use Rattle.std.specs.Prelude.{◌≡◌, ℕ, Bool, ◌||◌, IsTrue, option_map, unwrap_or, false};
-ghost use Rattle.rtcp_serve.specs.Endings.{is_past};
+ghost use Rattle.std.specs.Prelude.{◌≡◌, ℕ, Bool, Option, Some, option_map, unwrap_or, false};
+ghost use Rattle.rtcp_serve.specs.Endings.{MayAnswer, is_past, known_of_either, known_until};
 
 /// When a session leaves before its last turn, and when it waits no longer for its BYE. `None` never ends one, and a
 /// pair ends it where either does.
 pub trait Ending {
-    /// Whether it may end turns at a moment, before the leave or after it.
-    ghost may_end: { Self → (has_left : Bool) → (moment : ℕ) → Bool };
+    /// What is known of its answer at a moment, before the leave or after it. `None` where nothing is, as of a file
+    /// that may be there: then a call may answer either.
+    ghost known: { Self → (has_left : Bool) → (moment : ℕ) → Option Bool };
 
     /// Whether no turn more is made, at the greatest moment so far: before the leave the participant is then asked to
     /// leave, and after it its BYE is no longer waited for. It is asked before each turn.
     fn is_over(&mut self, moment: u64, has_left: bool) -> bool
-        ensures over { IsTrue result → IsTrue (may_end self.old has_left moment) }
-        ensures stays { (left : Bool) (at : ℕ) → may_end self.new left at ≡ may_end self.old left at };
+        ensures answer { MayAnswer (known self.old has_left moment) result }
+        ensures stays { (left : Bool) (at : ℕ) → known self.new left at ≡ known self.old left at };
 }
 
 /// A session leaves at this moment, in microseconds since it began, and then waits for its BYE as long again at most.
@@ -24,13 +25,11 @@ pub struct Until {
 }
 
 impl Ending for Until {
-    ghost may_end = { λ until has_left at. is_past until.moment has_left at };
+    ghost known = { λ until. known_until until.moment };
 
     fn is_over(&mut self, moment: u64, has_left: bool) -> bool
-        ensures over { IsTrue result → IsTrue (is_past self.old.moment has_left moment) }
-        ensures stays { (left : Bool) (at : ℕ) →
-            is_past self.new.moment left at ≡ is_past self.old.moment left at }
-        ensures exact { result ≡ is_past self.old.moment has_left moment }
+        ensures answer { result ≡ is_past self.old.moment has_left moment }
+        ensures stays { self.new ≡ self.old }
     {
         let waited = if has_left { moment / 2 } else { moment };
         self.moment <= waited
@@ -38,7 +37,8 @@ impl Ending for Until {
 }
 
 impl<E: Ending> Ending for Option<E> {
-    ghost may_end = { λ ending has_left at. unwrap_or (option_map (λ one. E.may_end one has_left at) ending) false };
+    ghost known = { λ ending has_left at.
+        unwrap_or (option_map (λ one. E.known one has_left at) ending) (Some false) };
 
     fn is_over(&mut self, moment: u64, has_left: bool) -> bool {
         match self {
@@ -49,7 +49,8 @@ impl<E: Ending> Ending for Option<E> {
 }
 
 impl<A: Ending, B: Ending> Ending for (A, B) {
-    ghost may_end = { λ endings has_left at. A.may_end endings.0 has_left at || B.may_end endings.1 has_left at };
+    ghost known = { λ endings has_left at.
+        known_of_either (A.known endings.0 has_left at) (B.known endings.1 has_left at) };
 
     fn is_over(&mut self, moment: u64, has_left: bool) -> bool {
         let first = self.0.is_over(moment, has_left);

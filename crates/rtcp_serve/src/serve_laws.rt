@@ -1,14 +1,17 @@
-//! What a session over a link comes to, by its log alone: one of so many turns before its leave, and of so many further
-//! at most after it. Nothing calls these.
+//! What a session over a link comes to, which is one of so many turns before its leave and of so many further at most
+//! after it. Nothing calls these.
 
-ghost use Rattle.std.specs.Prelude.{◌≡◌, ◌++◌, ℕ, List, Some, reverse};
+ghost use Rattle.std.specs.Prelude.{◌≡◌, ◌<◌, ◌≤◌, ◌/◌, ◌++◌, ℕ, List, All, Some, true, false, reverse};
 ghost use Rattle.rand_core.specs.Stream.{Stream};
 ghost use Rattle.rtcp_engine.specs.Histories.{History};
 ghost use Rattle.rtcp_serve.specs.declared.serving.Cause.{Cause};
+ghost use Rattle.rtcp_engine.specs.States.{ParticipantValue};
+ghost use Rattle.rtcp_serve.specs.declared.serving.End.{End};
+ghost use Rattle.rtcp_serve.specs.Endings.{known_until};
 ghost use Rattle.rtcp_serve.specs.Handing.{acts_in, answers_given, answers_in, given_in, handed_out, history_after};
 ghost use Rattle.rtcp_serve.specs.Links.{Call, LinkValue, how_many, is_datagram, is_failed_receive, is_failed_send, is_sent};
 ghost use Rattle.rtcp_serve.specs.Serving.{IsReader, Reader, SessionState, at_the_start, ended};
-ghost use Rattle.rtcp_serve.specs.Sessions.{Comes};
+ghost use Rattle.rtcp_serve.specs.Sessions.{Comes, RunsCut};
 
 /// There is a reader as the grammars of RTCP and RTP have it, and any two read alike: so what is said of a session
 /// with each such reader is said of one.
@@ -60,4 +63,23 @@ pub fn a_log_determines_the_session()
         (calls others : List Call) (s t : SessionState) (before after : LinkValue) (log : List Call) →
         after.log ≡ Some log → Comes reader further calls (at_the_start history words turns) s before after →
         Comes reader further others (at_the_start history words turns) t before after → (calls ≡ others) × (s ≡ t) }
+{}
+
+/// In a session until a moment, a turn before the leave begins before that moment, and one after the leave before twice
+/// that. Fewer turns are made before the leave than may be only if the moment had come, and after it only if twice that
+/// had.
+pub fn moments_end_turns()
+    ensures before { (reader : Reader) (moment most : ℕ) (history : History) (words left : Stream)
+        (kept : ParticipantValue) (result : End) (x y : LinkValue)
+        (cut : RunsCut reader (known_until moment) most history words kept left result x y) →
+        All (λ one. one.is_over ≡ false → one.has_left ≡ false → one.moment < moment) cut.runs.reached.pauses }
+    ensures after { (reader : Reader) (moment most : ℕ) (history : History) (words left : Stream)
+        (kept : ParticipantValue) (result : End) (x y : LinkValue)
+        (cut : RunsCut reader (known_until moment) most history words kept left result x y) →
+        All (λ one. one.is_over ≡ false → one.has_left ≡ true → one.moment / 2 < moment) cut.runs.reached.pauses }
+    ensures whole { (reader : Reader) (moment most : ℕ) (history : History) (words left : Stream)
+        (kept : ParticipantValue) (result : End) (x y : LinkValue)
+        (cut : RunsCut reader (known_until moment) most history words kept left result x y) →
+        (cut.made < most → moment ≤ cut.left_at)
+        × (cut.further < most → moment ≤ cut.runs.reached.tally.moment / 2) }
 {}

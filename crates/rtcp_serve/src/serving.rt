@@ -102,10 +102,12 @@ pub fn serve_until<L: Link, T: MemberTable, R: Rng, E: Ending>(
     requires turns { turns ≤ 2 ^ 59 }
     requires receives { (L.value link.old).failed_receives < 2 ^ 63 }
     requires sends { (L.value link.old).failed_sends < 2 ^ 63 }
-    // The session is one of some number of turns before the leave, and of some number at most after it. Either is all
-    // that may be, unless the ending said at some moment, up to the greatest that the clock gave, that they are over.
+    // The session is one of some number of turns before the leave, and of some number at most after it. It pauses
+    // before each turn and before the leave. A turn is made only at a moment at which the ending may have said that
+    // they are not over, and fewer turns than may be only if it may have said, at the moment at which they end, that
+    // they are.
     ensures serves { (reader : Reader) (history : History) → IsReader reader → StandsAt participant.old history →
-        RunsCut reader (E.may_end ending.old) turns history (R.stream rng.old) participant.new (R.stream rng.new)
+        RunsCut reader (E.known ending.old) turns history (R.stream rng.old) participant.new (R.stream rng.new)
         result (L.value link.old) (L.value link.new) }
 {
     let mut tally = Tally::new();

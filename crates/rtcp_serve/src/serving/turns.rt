@@ -1,14 +1,15 @@
 //! The turns of a session over a link, and its leave.
 
-ghost use Rattle.std.specs.Prelude.{◌≡◌, ◌≤◌, ◌<◌, ◌+◌, ◌*◌, ℕ, Bool, true, false, [], ◌∷◌, OnOk};
+ghost use Rattle.std.specs.Prelude.{◌≡◌, ◌≤◌, ◌<◌, ◌+◌, ◌*◌, ℕ, Bool, true, false, List, [], ◌∷◌, OnOk};
 ghost use Rattle.rand_core.specs.Stream.{Stream, next_u32};
 ghost use Rattle.rtcp_engine.specs.Acts.{left};
 ghost use Rattle.rtcp_engine.specs.Promises.{Takes};
 ghost use Rattle.rtcp_engine.specs.States.{ParticipantValue};
 ghost use Rattle.rtcp_engine.specs.Views.{answer_value, event_value};
+ghost use Rattle.rtcp_serve.specs.Endings.{AreHeeded, IsCut, Pause, pause};
 ghost use Rattle.rtcp_serve.specs.Links.{WereCalled, clock_read, telling};
 ghost use Rattle.rtcp_serve.specs.Serving.{IsReader, Reader, Stage, SessionState, after_port, arrival_at, deciding, event_at, hearing, resting, stage_to_send};
-ghost use Rattle.rtcp_serve.specs.Sessions.{Closes, EndsAs, EndsTurns, HasTurn, Holds, IsCut, IsLeaveDue, Reaches, Walks, led_to};
+ghost use Rattle.rtcp_serve.specs.Sessions.{Closes, EndsAs, EndsTurns, HasTurn, Holds, IsLeaveDue, Reaches, Walks, led_to};
 ghost use Rattle.rtcp_serve.specs.Tallies.{HasRoom, with_moment};
 
 use crate::ending::Ending;
@@ -49,7 +50,7 @@ fn hear<L: Link, T: MemberTable, R: Rng>(
     ensures leads { (reader : Reader) (total : ℕ) (s : SessionState) → IsReader reader →
         Holds s participant.old (R.stream rng.old) tally.old → s.stage ≡ hearing port →
         Walks reader total s s (L.value link.old) (L.value link.new) participant.new (R.stream rng.new) tally.new
-        (Reaches (after_port port) result) s.turns s.leaving }
+        (Reaches (after_port port) result) s.turns s.leaving s.pauses }
     ensures row { OnOk result (tally.new.failures < 64) }
     ensures later { tally.old.moment ≤ tally.new.moment }
     ensures room { (more : ℕ) → HasRoom (more + 2) tally.old (L.value link.old) →
@@ -129,7 +130,7 @@ fn tell<L: Link, T: MemberTable>(
         t.stage ≡ stage_to_send next refused (answer_value answer) →
         t.tellings ≡ telling (event_value event.now) (answer_value answer) ∷ s.tellings →
         Walks reader total s t (L.value link.old) (L.value link.new) kept words tally.new
-        (Reaches (led_to next refused (answer_value answer)) result) t.turns t.leaving }
+        (Reaches (led_to next refused (answer_value answer)) result) t.turns t.leaving t.pauses }
     ensures row { tally.new.failures ≡ tally.old.failures }
     ensures later { tally.old.moment ≤ tally.new.moment }
     ensures room { (more : ℕ) → HasRoom (more + 1) tally.old (L.value link.old) →
@@ -145,7 +146,7 @@ fn hand_over<L: Link>(link: &mut L, tally: &mut Tally, answer: Answer) -> Result
     ensures leads { (reader : Reader) (total : ℕ) (next refused : Stage) (kept : ParticipantValue) (words : Stream)
         (s : SessionState) → Holds s kept words tally.old → s.stage ≡ stage_to_send next refused (answer_value answer) →
         Walks reader total s s (L.value link.old) (L.value link.new) kept words tally.new
-        (Reaches (led_to next refused (answer_value answer)) result) s.turns s.leaving }
+        (Reaches (led_to next refused (answer_value answer)) result) s.turns s.leaving s.pauses }
     ensures row { tally.new.failures ≡ tally.old.failures }
     ensures later { tally.old.moment ≤ tally.new.moment }
     ensures room { (more : ℕ) → HasRoom (more + 1) tally.old (L.value link.old) →
@@ -179,7 +180,7 @@ fn tick<L: Link, T: MemberTable, R: Rng>(
     ensures leads { (reader : Reader) (total : ℕ) (s : SessionState) →
         Holds s participant.old (R.stream rng.old) tally.old → s.stage ≡ deciding →
         Walks reader total s s (L.value link.old) (L.value link.new) participant.new (R.stream rng.new) tally.new
-        (Reaches resting result) s.turns s.leaving }
+        (Reaches resting result) s.turns s.leaving s.pauses }
     ensures row { tally.new.failures ≡ tally.old.failures }
     ensures later { tally.old.moment ≤ tally.new.moment }
     ensures room { (more : ℕ) → HasRoom (more + 1) tally.old (L.value link.old) →
@@ -215,7 +216,7 @@ fn turn<L: Link, T: MemberTable, R: Rng>(
     ensures leads { (reader : Reader) (total left : ℕ) (s : SessionState) → IsReader reader →
         Holds s participant.old (R.stream rng.old) tally.old → HasTurn left s →
         Walks reader total s s (L.value link.old) (L.value link.new) participant.new (R.stream rng.new) tally.new
-        (Reaches resting result) left s.leaving }
+        (Reaches resting result) left s.leaving (pause s.leaving s.tally.moment false ∷ s.pauses) }
     ensures row { OnOk result (tally.new.failures < 64) }
     ensures later { tally.old.moment ≤ tally.new.moment }
     ensures room { (more : ℕ) → HasRoom (more + 5) tally.old (L.value link.old) →
@@ -240,16 +241,19 @@ fn make_turns<L: Link, T: MemberTable, R: Rng, E: Ending>(
 ) -> Result<(), Cause>
     requires row { tally.old.failures < 64 }
     requires room { HasRoom (turns * 5) tally.old (L.value link.old) }
-    ensures leads { (made : ℕ) × IsCut (E.may_end ending.old has_left) turns made tally.new.moment
+    ensures leads { (made : ℕ) × IsCut (E.known ending.old has_left tally.new.moment) turns made
         × ((reader : Reader) (total : ℕ) (s : SessionState) → IsReader reader →
         Holds s participant.old (R.stream rng.old) tally.old → s.stage ≡ resting → s.turns ≡ made →
-        (left : ℕ) × Walks reader total s s (L.value link.old) (L.value link.new) participant.new (R.stream rng.new)
-        tally.new (EndsTurns result) left s.leaving) }
+        s.leaving ≡ has_left → (left : ℕ) × (pauses : List Pause)
+        × ((most before : ℕ) → AreHeeded (E.known ending.old) most before s.pauses →
+        AreHeeded (E.known ending.old) most before pauses)
+        × Walks reader total s s (L.value link.old) (L.value link.new) participant.new (R.stream rng.new)
+        tally.new (EndsTurns result) left s.leaving pauses) }
     ensures row { OnOk result (tally.new.failures < 64) }
     ensures later { tally.old.moment ≤ tally.new.moment }
     ensures room { (more : ℕ) → HasRoom (more + turns * 5) tally.old (L.value link.old) →
         HasRoom more tally.new (L.value link.new) }
-    ensures ending { (left : Bool) (at : ℕ) → E.may_end ending.new left at ≡ E.may_end ending.old left at }
+    ensures ending { (left : Bool) (at : ℕ) → E.known ending.new left at ≡ E.known ending.old left at }
 {
     'turns: for _ in 0..turns {
         if participant.next().is_none() {
@@ -276,12 +280,14 @@ pub(crate) fn session<L: Link, T: MemberTable, R: Rng, E: Ending>(
 ) -> Result<(), Cause>
     requires row { tally.old.failures < 64 }
     requires room { HasRoom (turns * 10 + 1) tally.old (L.value link.old) }
-    ensures serves { (made further : ℕ) × IsCut (E.may_end ending.old false) turns made tally.new.moment
-        × IsCut (E.may_end ending.old true) turns further tally.new.moment
+    ensures serves { (made further left_at : ℕ) × IsCut (E.known ending.old false left_at) turns made
+        × (left_at ≤ tally.new.moment) × IsCut (E.known ending.old true tally.new.moment) turns further
         × ((reader : Reader) (s : SessionState) → IsReader reader →
         Holds s participant.old (R.stream rng.old) tally.old → s.stage ≡ resting → s.turns ≡ made →
-        s.leaving ≡ false → Closes reader further s (L.value link.old) (L.value link.new) participant.new
-        (R.stream rng.new) tally.new (EndsAs result)) }
+        s.leaving ≡ false → s.pauses ≡ [] →
+        (pauses : List Pause) × AreHeeded (E.known ending.old) turns made pauses
+        × Closes reader further s (L.value link.old) (L.value link.new) participant.new
+        (R.stream rng.new) tally.new (EndsAs result) pauses) }
 {
     make_turns(link, participant, rng, tally, ending, false, turns, buf)?;
     if participant.next().is_none() {
@@ -303,11 +309,13 @@ fn leave<L: Link, T: MemberTable, R: Rng, E: Ending>(
 ) -> Result<(), Cause>
     requires row { tally.old.failures < 64 }
     requires room { HasRoom (turns * 5 + 1) tally.old (L.value link.old) }
-    ensures serves { (further : ℕ) × IsCut (E.may_end ending.old true) turns further tally.new.moment
+    ensures serves { (further : ℕ) × IsCut (E.known ending.old true tally.new.moment) turns further
         × ((reader : Reader) (s : SessionState) → IsReader reader →
-        Holds s participant.old (R.stream rng.old) tally.old → IsLeaveDue s →
-        Closes reader further s (L.value link.old) (L.value link.new) participant.new (R.stream rng.new) tally.new
-        (EndsAs result)) }
+        Holds s participant.old (R.stream rng.old) tally.old → IsLeaveDue s → (pauses : List Pause)
+        × ((most before : ℕ) → AreHeeded (E.known ending.old) most before (pause false tally.old.moment true ∷ s.pauses)
+        → AreHeeded (E.known ending.old) most before pauses)
+        × Closes reader further s (L.value link.old) (L.value link.new) participant.new (R.stream rng.new) tally.new
+        (EndsAs result) pauses) }
     ensures later { tally.old.moment ≤ tally.new.moment }
 {
     let word = rng.next_u32();

@@ -1,6 +1,6 @@
 //! Sessions that an ending ends.
 
-ghost use Rattle.std.specs.Prelude.{◌≤◌, ◌<◌, ◌^◌, true};
+ghost use Rattle.std.specs.Prelude.{◌≤◌, ◌<◌, ◌^◌, None};
 
 use super::log::Made;
 use super::memory_link::{Coming, MemoryLink};
@@ -33,7 +33,7 @@ impl Script {
 }
 
 impl Ending for Script {
-    ghost may_end = { λ script has_left at. true };
+    ghost known = { λ script has_left at. None };
 
     fn is_over(&mut self, moment: u64, has_left: bool) -> bool {
         let _ = self.asked.push((moment, has_left));

@@ -7,9 +7,9 @@ use Rattle.rtcp_serve.proofs.serving.serve.Goals as goal
 pub returns : goal.returns
 returns g c = record {
   serves = λ reader history reads stands.
-      let (made, further, leaves, waits, closes) = c.session-returned.ensures.serves in
-      let closed = closes reader (at_the_start history _ made) reads
-      (record { participant = stands; words = refl; tally = c.new-tally.ensures }) refl refl refl in
-      runs_whole _ _ made further _ c.from-most.ensures leaves waits
+      let (made, further, left_at, leaves, before, waits, closes) = c.session-returned.ensures.serves in
+      let (pauses, heeded, closed) = closes reader (at_the_start history _ made) reads
+      (record { participant = stands; words = refl; tally = c.new-tally.ensures }) refl refl refl refl in
+      runs_whole _ _ made further c.from-most.ensures leaves waits
       (runs_as closed _ _ (c.cause_of.ensures closed.reached closed.ends) c.end.ensures refl);
 }

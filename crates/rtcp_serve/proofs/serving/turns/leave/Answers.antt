@@ -2,6 +2,7 @@
 use Rattle.std.proofs.Common.{◌*◌, refl, sym, ap, ◌∙◌, subst, if◌then◌else◌, arith}
 use Rattle.rtcp_engine.specs.Views.{answer_value}
 use Rattle.rtcp_serve.specs.declared.serving.Cause.TheVariants.{Done}
+use Rattle.rtcp_serve.specs.Endings.{AreHeeded}
 use Rattle.rtcp_serve.specs.Serving.{resting, ended}
 use Rattle.rtcp_serve.specs.Sessions.{EndsAs, Reaches, led_to}
 use Rattle.rtcp_serve.proofs.LinkCalls.{IsClosed, closed_after, closed_at, closes, leave_told, led_as, stops, uncut_whole, walks_on}
@@ -11,16 +12,19 @@ pub returns-in_err-tell : goal.returns-in_err-tell
 returns-in_err-tell g c = record {
   serves = (
     c.args.turns,
-    uncut_whole _ _ _,
+    uncut_whole _ _,
     λ reader s reads holds due.
         let takes = c.leave-answer.ensures.takes in
         let (u, goes, walk) = leave_told reader c.args.turns s _ _ _ _ _ _ _ _ _ _ _ holds due c.next_u32-word.ensures
         (takes.answer s.history holds.participant) (takes.stands s.history holds.participant)
-        (c.tell.ensures.leads reader c.args.turns resting (ended Done) _ _) in
-        closes goes walk (stops
-        (λ r. Reaches (led_to resting (ended Done) (answer_value c.leave-answer.result)) r walk.reached)
-        (λ r. IsClosed c.args.turns walk.reached (EndsAs r)) c.from_residual.result c.in_err-tell.was
-        c.from_residual.ensures.1 (closed_at c.args.turns walk.reached) walk.ends),
+        (c.tell.ensures.leads reader c.args.turns resting (ended Done) _ _) in (
+          _,
+          λ most before heeded. heeded,
+          closes goes walk (stops
+              (λ r. Reaches (led_to resting (ended Done) (answer_value c.leave-answer.result)) r walk.reached)
+              (λ r. IsClosed c.args.turns walk.reached (EndsAs r)) c.from_residual.result c.in_err-tell.was
+              c.from_residual.ensures.1 (closed_at c.args.turns walk.reached) walk.ends),
+        ),
   );
   later = c.tell.ensures.later;
 }
@@ -42,9 +46,13 @@ returns-then-was_taken g c = let (further, cut, leads) = c.make_turns.ensures.le
         let rests = subst (λ r. Reaches stage r walk.reached) c.in_ok-tell.was walk.ends
         ∙ led_as resting (ended Done) c.leave-answer.result ∙ ap (λ b. if b then resting else ended Done)
         (sym c.is_ok-was_taken.ensures.value ∙ c.if-was_taken.true) in
-        let (left, more) = leads reader further walk.reached reads walk.holds rests walk.turns in
-        let whole = walks_on walk more refl in
-        closes goes whole (closed_after further whole.reached c.make_turns.result whole.ends whole.leaving),
+        let (left, pauses, heeds, more) = leads reader further walk.reached reads walk.holds rests walk.turns
+        walk.leaving in
+        let whole = walks_on walk more refl refl in (
+          pauses,
+          λ most before heeded. heeds most before (subst (AreHeeded _ most before) (sym walk.paused) heeded),
+          closes goes whole (closed_after further whole.reached c.make_turns.result whole.ends whole.leaving),
+        ),
   );
   later = omega (arith, c.tell.ensures.later, c.make_turns.ensures.later);
 }
@@ -53,7 +61,7 @@ pub returns-else-was_taken : goal.returns-else-was_taken
 returns-else-was_taken g c = record {
   serves = (
     c.args.turns,
-    uncut_whole _ _ _,
+    uncut_whole _ _,
     λ reader s reads holds due.
         let takes = c.leave-answer.ensures.takes in
         let (u, goes, walk) = leave_told reader c.args.turns s _ _ _ _ _ _ _ _ _ _ _ holds due c.next_u32-word.ensures
@@ -63,7 +71,7 @@ returns-else-was_taken g c = record {
         let refused = subst (λ r. Reaches stage r walk.reached) c.in_ok-tell.was walk.ends
         ∙ led_as resting (ended Done) c.leave-answer.result ∙ ap (λ b. if b then resting else ended Done)
         (sym c.is_ok-was_taken.ensures.value ∙ c.if-was_taken.false) in
-        closes goes walk (closed_at c.args.turns walk.reached refused),
+        (_, λ most before heeded. heeded, closes goes walk (closed_at c.args.turns walk.reached refused)),
   );
   later = c.tell.ensures.later;
 }

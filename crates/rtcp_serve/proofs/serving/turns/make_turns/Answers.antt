@@ -1,8 +1,8 @@
 -- Turn by turn, as long as the participant has not left and the ending is not met.
-use Rattle.std.proofs.Common.{◌≡◌, ◌+◌, ◌*◌, ◌-◌, inl, inr, is_some, not, refl, sym, ap, ◌∙◌, subst, arith, IsTrue}
+use Rattle.std.proofs.Common.{◌≡◌, ◌+◌, ◌*◌, ◌-◌, inl, inr, is_some, not, refl, sym, ap, ◌∙◌, subst, arith}
 use Rattle.rtcp_serve.specs.Serving.{resting}
 use Rattle.rtcp_serve.specs.Sessions.{HasTurn, Reaches, EndsTurns, next_at}
-use Rattle.rtcp_serve.proofs.LinkCalls.{cut_at, less_room, none_left, stops, uncut_whole, walks_as, walks_nowhere, walks_on, walks_to}
+use Rattle.rtcp_serve.proofs.LinkCalls.{answers_as, heeds_turn, less_room, none_left, stops, uncut_whole, walks_as, walks_nowhere, walks_on, walks_to}
 use Rattle.rtcp_serve.proofs.serving.turns.make_turns.Goals as goal
 
 pub turns-init : goal.turns-init
@@ -10,20 +10,22 @@ turns-init g c = record {
   row = c.requires.row;
   later = omega (arith);
   room = λ more room. less_room (more + 0) more _ _ (omega (arith)) room;
-  leads = λ reader total left s reads holds stage turns.
+  leads = λ reader total left s reads holds stage turns leaving.
       let walk = walks_nowhere reader total s _ _ _ (λ t. t.stage ≡ resting) _ holds stage in
-      walks_as (omega (arith, turns)) refl walk;
+      (s.pauses, λ most before heeded. heeded, walks_as (omega (arith, turns)) refl refl walk);
   ending = λ left at. refl;
 }
 
 pub returns-then-is_none-clause-leads : goal.returns-then-is_none-clause-leads
 returns-then-is_none-clause-leads g c = (
   c.args.turns,
-  uncut_whole _ _ _,
-  λ reader total s reads holds stage turns.
-      let walk = c.turns.invariant.leads reader total (c.args.turns - c.turns.counter) s reads holds stage
-      (omega (arith, turns, c.turns-test.true)) in (
+  uncut_whole _ _,
+  λ reader total s reads holds stage turns leaving.
+      let (pauses, heeds, walk) = c.turns.invariant.leads reader total (c.args.turns - c.turns.counter) s reads holds
+      stage (omega (arith, turns, c.turns-test.true)) leaving in (
         _,
+        pauses,
+        heeds,
         walks_to walk (
           walk.ends,
           inl (none_left (next_at walk.reached)
@@ -41,11 +43,14 @@ returns-then-is_none-clause-room g c = λ more room.
 pub returns-then-is_over-clause-leads : goal.returns-then-is_over-clause-leads
 returns-then-is_over-clause-leads g c = (
   c.turns.counter,
-  cut_at _ _ _ _ (omega (arith, c.turns-test.true)) (subst IsTrue (c.turns.invariant.ending _ _)
-      (c.is_over.ensures.over c.if-is_over.true)),
-  λ reader total s reads holds stage turns.
-      let walk = c.turns.invariant.leads reader total 0 s reads holds stage (omega (arith, turns)) in
-      (_, walks_to walk (walk.ends, inr walk.turns)),
+  record {
+    within = omega (arith, c.turns-test.true);
+    whole = inr (answers_as _ _ _ _ (c.turns.invariant.ending _ _) c.if-is_over.true c.is_over.ensures.answer);
+  },
+  λ reader total s reads holds stage turns leaving.
+      let (pauses, heeds, walk) = c.turns.invariant.leads reader total 0 s reads holds stage (omega (arith, turns))
+      leaving in
+      (_, pauses, heeds, walks_to walk (walk.ends, inr walk.turns)),
 )
 
 pub returns-then-is_over-clause-room : goal.returns-then-is_over-clause-room
@@ -63,19 +68,24 @@ turn-requires-clause-room g c = c.turns.invariant.room 5
 pub returns-in_err-turn-clause-leads : goal.returns-in_err-turn-clause-leads
 returns-in_err-turn-clause-leads g c = (
   c.args.turns,
-  uncut_whole _ _ _,
-  λ reader total s reads holds stage turns.
+  uncut_whole _ _,
+  λ reader total s reads holds stage turns leaving.
       let left = c.args.turns - (c.turns.counter + 1) in
-      let walk = c.turns.invariant.leads reader total (left + 1) s reads holds stage
-      (omega (arith, turns, c.turns-test.true)) in
+      let (pauses, heeds, walk) = c.turns.invariant.leads reader total (left + 1) s reads holds stage
+      (omega (arith, turns, c.turns-test.true)) leaving in
       let has : HasTurn left walk.reached = record {
         resting = walk.ends;
         there = ap is_some (sym (c.next.ensures.exact walk.reached.history walk.holds.participant)) ∙ c.is_none.ensures
             ∙ ap not c.if-is_none.false;
         turns = omega (arith, walk.turns);
       } in
-      let further = walks_on walk (c.turn.ensures.leads reader total left walk.reached reads walk.holds has) refl in (
+      let further = walks_on walk (c.turn.ensures.leads reader total left walk.reached reads walk.holds has) refl refl
+      in (
         left,
+        _,
+        λ most before heeded. heeds_turn _ most before _ _ _ _ _ _ (walk.leaving ∙ leaving) walk.holds.tally walk.paused
+            (answers_as _ _ _ _ (c.turns.invariant.ending _ _) c.if-is_over.false c.is_over.ensures.answer)
+            (heeds most before heeded),
         walks_to further (stops (λ r. Reaches resting r further.reached) (λ r. EndsTurns r further.reached)
             c.from_residual.result c.in_err-turn.was c.from_residual.ensures.1 (λ is. is) further.ends),
       ),
@@ -96,27 +106,34 @@ turns-preserved g c = record {
   room = λ more room. c.turn.ensures.room more
       (c.turns.invariant.room (more + 5)
       (less_room (more + (c.turns.counter + 1) * 5) (more + 5 + c.turns.counter * 5) _ _ (omega (arith)) room));
-  leads = λ reader total left s reads holds stage turns.
-      let walk = c.turns.invariant.leads reader total (left + 1) s reads holds stage (omega (arith, turns)) in
+  leads = λ reader total left s reads holds stage turns leaving.
+      let (pauses, heeds, walk) = c.turns.invariant.leads reader total (left + 1) s reads holds stage
+      (omega (arith, turns)) leaving in
       let has : HasTurn left walk.reached = record {
         resting = walk.ends;
         there = ap is_some (sym (c.next.ensures.exact walk.reached.history walk.holds.participant)) ∙ c.is_none.ensures
             ∙ ap not c.if-is_none.false;
         turns = omega (arith, walk.turns);
       } in
-      let further = walks_on walk (c.turn.ensures.leads reader total left walk.reached reads walk.holds has) refl in
-      walks_to further (subst (λ r. Reaches resting r further.reached) c.in_ok-turn.was further.ends);
+      let further = walks_on walk (c.turn.ensures.leads reader total left walk.reached reads walk.holds has) refl refl
+      in (
+        _,
+        λ most before heeded. heeds_turn _ most before _ _ _ _ _ _ (walk.leaving ∙ leaving) walk.holds.tally walk.paused
+            (answers_as _ _ _ _ (c.turns.invariant.ending _ _) c.if-is_over.false c.is_over.ensures.answer)
+            (heeds most before heeded),
+        walks_to further (subst (λ r. Reaches resting r further.reached) c.in_ok-turn.was further.ends),
+      );
   ending = λ left at. c.is_over.ensures.stays left at ∙ c.turns.invariant.ending left at;
 }
 
 pub returns-clause-leads : goal.returns-clause-leads
 returns-clause-leads g c = (
   c.args.turns,
-  uncut_whole _ _ _,
-  λ reader total s reads holds stage turns.
-      let walk = c.turns.invariant.leads reader total 0 s reads holds stage
-      (omega (arith, turns, c.turns.auto.counter-end)) in
-      (_, walks_to walk (walk.ends, inr walk.turns)),
+  uncut_whole _ _,
+  λ reader total s reads holds stage turns leaving.
+      let (pauses, heeds, walk) = c.turns.invariant.leads reader total 0 s reads holds stage
+      (omega (arith, turns, c.turns.auto.counter-end)) leaving in
+      (_, pauses, heeds, walks_to walk (walk.ends, inr walk.turns)),
 )
 
 pub returns-clause-room : goal.returns-clause-room

@@ -1,4 +1,5 @@
-use Rattle.std.proofs.Common.{◌≡◌, ◌≤◌, ◌<◌, ◌+◌, ◌*◌, ℕ, Bool}
+use Rattle.std.proofs.Common.{◌≡◌, ◌≤◌, ◌<◌, ◌+◌, ◌*◌, ℕ, Bool, List}
+use Rattle.rtcp_serve.specs.Endings.{AreHeeded, Pause}
 use Rattle.rtcp_serve.specs.Serving.{Reader, IsReader, SessionState, resting}
 use Rattle.rtcp_serve.specs.Sessions.{Holds, Walks}
 use Rattle.rtcp_serve.specs.Tallies.{HasRoom}
@@ -12,8 +13,11 @@ invariant-turns g l = record {
       HasRoom more l.tally (g.L.Link.value l.link);
   leads : (reader : Reader) (total left : ℕ) (s : SessionState) → IsReader reader →
       Holds s l.fn.participant (g.R.Rng.stream l.fn.rng) l.fn.tally → s.stage ≡ resting →
-      s.turns ≡ left + l.counter → Walks reader total s s (g.L.Link.value l.fn.link) (g.L.Link.value l.link)
-      l.participant (g.R.Rng.stream l.rng) l.tally (λ t. t.stage ≡ resting) left s.leaving;
+      s.turns ≡ left + l.counter → s.leaving ≡ l.fn.has_left → (pauses : List Pause)
+      × ((most before : ℕ) → AreHeeded (g.E.Ending.known l.fn.ending) most before s.pauses →
+      AreHeeded (g.E.Ending.known l.fn.ending) most before pauses)
+      × Walks reader total s s (g.L.Link.value l.fn.link) (g.L.Link.value l.link) l.participant
+      (g.R.Rng.stream l.rng) l.tally (λ t. t.stage ≡ resting) left s.leaving pauses;
   ending : (left : Bool) (at : ℕ) →
-      g.E.Ending.may_end l.ending left at ≡ g.E.Ending.may_end l.fn.ending left at;
+      g.E.Ending.known l.ending left at ≡ g.E.Ending.known l.fn.ending left at;
 }

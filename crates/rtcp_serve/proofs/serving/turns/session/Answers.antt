@@ -3,7 +3,7 @@ use Rattle.std.proofs.Common.{◌+◌, ◌*◌, true, is_some, not, refl, sym, a
 use Rattle.rtcp_serve.specs.declared.serving.Cause.TheVariants.{Done}
 use Rattle.rtcp_serve.specs.Serving.{ended}
 use Rattle.rtcp_serve.specs.Sessions.{EndsTurns, EndsAs, next_at}
-use Rattle.rtcp_serve.proofs.LinkCalls.{IsClosed, closed_at, closes, closes_on, cut_alike, gone_ends, less_room, none_left, stops, turns_left, uncut_whole}
+use Rattle.rtcp_serve.proofs.LinkCalls.{IsClosed, closed_at, closes, closes_on, cut_alike, gone_ends, heeded_since, leave_heeded, less_room, none_heeded, none_left, stops, turns_left, uncut_whole}
 use Rattle.rtcp_serve.proofs.serving.turns.session.Goals as goal
 
 pub returns-in_err-make_turns : goal.returns-in_err-make_turns
@@ -11,13 +11,18 @@ returns-in_err-make_turns g c = let (made, cut, leads) = c.make_turns.ensures.le
   serves = (
     made,
     c.args.turns,
+    c.make_turns.new.tally.moment,
     cut,
-    uncut_whole _ _ _,
-    λ reader s reads holds stage turns leaving.
-        let (left, walk) = leads reader c.args.turns s reads holds stage turns in
-        closes refl walk (stops (λ r. EndsTurns r walk.reached)
-        (λ r. IsClosed c.args.turns walk.reached (EndsAs r)) c.from_residual.result c.in_err-make_turns.was
-        c.from_residual.ensures.1 (closed_at c.args.turns walk.reached) walk.ends),
+    omega (arith),
+    uncut_whole _ _,
+    λ reader s reads holds stage turns leaving none_yet.
+        let (left, pauses, heeds, walk) = leads reader c.args.turns s reads holds stage turns leaving in (
+          pauses,
+          heeds c.args.turns made (none_heeded _ _ _ _ none_yet),
+          closes refl walk (stops (λ r. EndsTurns r walk.reached)
+              (λ r. IsClosed c.args.turns walk.reached (EndsAs r)) c.from_residual.result c.in_err-make_turns.was
+              c.from_residual.ensures.1 (closed_at c.args.turns walk.reached) walk.ends),
+        ),
   );
 }
 
@@ -26,15 +31,20 @@ returns-then-is_none g c = let (made, cut, leads) = c.make_turns.ensures.leads i
   serves = (
     made,
     c.args.turns,
+    c.make_turns.new.tally.moment,
     cut,
-    uncut_whole _ _ _,
-    λ reader s reads holds stage turns leaving.
-        let (left, walk) = leads reader c.args.turns s reads holds stage turns in
+    omega (arith),
+    uncut_whole _ _,
+    λ reader s reads holds stage turns leaving none_yet.
+        let (left, pauses, heeds, walk) = leads reader c.args.turns s reads holds stage turns leaving in
         let (rests, over) = subst (λ r. EndsTurns r walk.reached) c.in_ok-make_turns.was walk.ends in
         let none = none_left (next_at walk.reached)
         (ap is_some (sym (c.next.ensures.exact walk.reached.history walk.holds.participant)) ∙ c.is_none.ensures
-        ∙ ap not c.if-is_none.true) in
-        closes refl walk (ended Done, gone_ends c.args.turns walk.reached rests none, refl),
+        ∙ ap not c.if-is_none.true) in (
+          pauses,
+          heeds c.args.turns made (none_heeded _ _ _ _ none_yet),
+          closes refl walk (ended Done, gone_ends c.args.turns walk.reached rests none, refl),
+        ),
   );
 }
 
@@ -49,18 +59,27 @@ returns g c =
       serves = (
         made,
         further,
-        cut_alike _ _ _ _ _ _ (λ at. refl) c.leave.ensures.later cut,
-        cut_alike _ _ _ _ _ _ (c.make_turns.ensures.ending true) (omega (arith)) waits,
-        λ reader s reads holds stage turns leaving.
-            let (left, walk) = leads reader further s reads holds stage turns in
+        c.make_turns.new.tally.moment,
+        cut,
+        c.leave.ensures.later,
+        cut_alike (c.make_turns.ensures.ending true _) waits,
+        λ reader s reads holds stage turns leaving none_yet.
+            let (left, pauses, heeds, walk) = leads reader further s reads holds stage turns leaving in
             let (rests, over) = subst (λ r. EndsTurns r walk.reached) c.in_ok-make_turns.was walk.ends in
             let there = ap is_some (sym (c.next.ensures.exact walk.reached.history walk.holds.participant))
             ∙ c.is_none.ensures ∙ ap not c.if-is_none.false in
-            closes_on walk (closing reader walk.reached reads walk.holds (record {
+            let (all, heed_all, closed) = closing reader walk.reached reads walk.holds (record {
               resting = rests;
               there = there;
               turns = turns_left walk.reached there over;
               leaving = walk.leaving ∙ leaving;
-            })),
+            }) in
+            let before = leave_heeded _ c.args.turns made _ _ cut
+            (heeds c.args.turns made (none_heeded _ _ _ _ none_yet)) in
+            let known = c.make_turns.ensures.ending in (
+              all,
+              heeded_since _ _ _ _ _ _ _ _ known walk.paused (heed_all c.args.turns made) before,
+              closes_on walk closed,
+            ),
       );
     }

@@ -11,7 +11,7 @@ returns-in_err-hear-clause-leads g c = λ reader total left s reads holds has.
     let (moment, called, counts) = c.read_clock.ensures.called in
     let begun = turn_clocked reader total left moment s _ _ _ _ _ _ holds has called c.read_clock.ensures.told counts in
     let one = walks_on begun (c.hear.ensures.leads reader total begun.reached reads begun.holds begun.ends)
-    begun.turns in
+    begun.turns begun.paused in
     walks_to one (stops (λ r. Reaches (hearing RtpPort) r one.reached) (λ r. Reaches resting r one.reached)
     c.from_residual.result c.in_err-hear.was c.from_residual.ensures.1 (λ is. is) one.ends)
 
@@ -29,9 +29,9 @@ returns-in_err-hear-2-clause-leads g c = λ reader total left s reads holds has.
     let (moment, called, counts) = c.read_clock.ensures.called in
     let begun = turn_clocked reader total left moment s _ _ _ _ _ _ holds has called c.read_clock.ensures.told counts in
     let one = walks_on begun (c.hear.ensures.leads reader total begun.reached reads begun.holds begun.ends)
-    begun.turns in
+    begun.turns begun.paused in
     let at = subst (λ r. Reaches (hearing RtpPort) r one.reached) c.in_ok-hear.was one.ends in
-    let both = walks_on one (c.hear-2.ensures.leads reader total one.reached reads one.holds at) one.turns in
+    let both = walks_on one (c.hear-2.ensures.leads reader total one.reached reads one.holds at) one.turns one.paused in
     walks_to both (stops (λ r. Reaches deciding r both.reached) (λ r. Reaches resting r both.reached)
     c.from_residual-in_err-hear-2.result c.in_err-hear-2.was c.from_residual-in_err-hear-2.ensures.1 (λ is. is)
     both.ends)
@@ -52,11 +52,11 @@ returns-clause-leads g c = λ reader total left s reads holds has.
     let (moment, called, counts) = c.read_clock.ensures.called in
     let begun = turn_clocked reader total left moment s _ _ _ _ _ _ holds has called c.read_clock.ensures.told counts in
     let one = walks_on begun (c.hear.ensures.leads reader total begun.reached reads begun.holds begun.ends)
-    begun.turns in
+    begun.turns begun.paused in
     let at = subst (λ r. Reaches (hearing RtpPort) r one.reached) c.in_ok-hear.was one.ends in
-    let both = walks_on one (c.hear-2.ensures.leads reader total one.reached reads one.holds at) one.turns in
+    let both = walks_on one (c.hear-2.ensures.leads reader total one.reached reads one.holds at) one.turns one.paused in
     walks_on both (c.tick.ensures.leads reader total both.reached both.holds
-    (subst (λ r. Reaches deciding r both.reached) c.in_ok-hear-2.was both.ends)) both.turns
+    (subst (λ r. Reaches deciding r both.reached) c.in_ok-hear-2.was both.ends)) both.turns both.paused
 
 pub returns-clause-room : goal.returns-clause-room
 returns-clause-room g c = λ more room. c.tick.ensures.room more
