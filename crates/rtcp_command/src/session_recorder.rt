@@ -27,4 +27,7 @@ impl<W: Write, F: Write> Observer for SessionRecorder<W, F> {
             let _ = self.faults.write_all(b"record\n");
         }
     }
+
+    /// Records nothing: what becomes of a compound is no event.
+    fn sent(&mut self, _failed: bool) {}
 }

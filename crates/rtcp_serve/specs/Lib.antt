@@ -4,3 +4,4 @@ pub mod Tallies
 pub mod Serving
 pub mod Sessions
 pub mod Handing
+pub mod Observers
