@@ -1,6 +1,7 @@
 //! A link over two UDP sockets.
 
-ghost use Rattle.std.specs.Prelude.{◌≡◌, ◌≤◌, [], ◌∷◌, IfOk, IfSome};
+ghost use Rattle.std.specs.Prelude.{◌≡◌, ◌≢◌, ◌≤◌, [], ◌∷◌, IfOk, IfSome};
+ghost use Rattle.std.specs.Net.Socket.{v4_port};
 ghost use Rattle.rtcp_udp.specs.Senders.{sender_number};
 ghost use Rattle.rtcp_serve.specs.Links.{IsWithin, WereCalled, clock_read};
 
@@ -42,6 +43,8 @@ pub struct UdpLink<'r, R> {
     last: u64,
     rtp: UdpSocket,
     rtcp: UdpSocket,
+    /// Where RTP comes in, and where RTCP does.
+    endpoints: (SocketAddrV4, SocketAddrV4),
     peer: SocketAddr,
     /// Waits for either port. It reports what comes to a port after a receive found nothing queued there.
     poll: Poll,
@@ -54,11 +57,12 @@ pub struct UdpLink<'r, R> {
 }
 
 impl<'r, R: Net + Clock> UdpLink<'r, R> {
-    /// Binds the ports of a session, which begins now, and names where its compounds go.
+    /// Binds the ports of a session, which begins now, and names where its compounds go. A port of 0 is left to the
+    /// system to pick: `endpoints` tells which it is.
     ///
     /// # Errors
     ///
-    /// - [`BindFault::Io`] where a port cannot be bound or waited for, or the clock cannot be read.
+    /// - [`BindFault::Io`] where a port cannot be bound, waited for or told, or the clock cannot be read.
     /// - [`BindFault::Memory`] where memory is refused.
     pub fn bind(
         runtime: &'r R,
@@ -69,6 +73,8 @@ impl<'r, R: Net + Clock> UdpLink<'r, R> {
     ) -> Result<UdpLink<'r, R>, BindFault>
         ensures receives { IfOk result (λ link. link.failed_receives ≡ 0) }
         ensures sends { IfOk result (λ link. link.failed_sends ≡ 0) }
+        ensures rtp { v4_port rtp ≢ 0 → IfOk result (λ link. link.endpoints.0 ≡ rtp) }
+        ensures rtcp { v4_port rtcp ≢ 0 → IfOk result (λ link. link.endpoints.1 ≡ rtcp) }
     {
         let Ok(events) = Events::with_capacity(alloc, 2) else {
             return Err(BindFault::Memory);
@@ -79,6 +85,7 @@ impl<'r, R: Net + Clock> UdpLink<'r, R> {
         let (Ok(rtp), Ok(rtcp)) = (open(runtime, &poll, rtp), open(runtime, &poll, rtcp)) else {
             return Err(BindFault::Io);
         };
+        let ((rtp, rtp_at), (rtcp, rtcp_at)) = (rtp, rtcp);
         let Ok(began) = Instant::now(runtime) else {
             return Err(BindFault::Io);
         };
@@ -88,6 +95,7 @@ impl<'r, R: Net + Clock> UdpLink<'r, R> {
             last: 0,
             rtp,
             rtcp,
+            endpoints: (rtp_at, rtcp_at),
             peer: SocketAddr::V4(peer),
             poll,
             events,
@@ -95,6 +103,14 @@ impl<'r, R: Net + Clock> UdpLink<'r, R> {
             failed_receives: 0,
             failed_sends: 0,
         })
+    }
+
+    /// Where RTP comes in, and where RTCP does: as `bind` was asked, but for a port of 0, where it is the one that the
+    /// system picked.
+    pub fn endpoints(&self) -> (SocketAddrV4, SocketAddrV4)
+        ensures { result ≡ self.now.endpoints }
+    {
+        self.endpoints
     }
 }
 
@@ -157,12 +173,22 @@ impl<'r, R: Net + Clock> Link for UdpLink<'r, R> {
     ) {}
 }
 
-/// A socket at an address, for whose datagrams `poll` waits.
-fn open<R: Net>(runtime: &R, poll: &Poll, address: SocketAddrV4) -> io::Result<UdpSocket> {
+/// A socket at an address, for whose datagrams `poll` waits, and that address with the port that it has.
+fn open<R: Net>(
+    runtime: &R,
+    poll: &Poll,
+    address: SocketAddrV4,
+) -> io::Result<(UdpSocket, SocketAddrV4)>
+    ensures { v4_port address ≢ 0 → IfOk result (λ opened. opened.1 ≡ address) }
+{
     let mut socket = UdpSocket::bind(runtime, SocketAddr::V4(address))?;
     poll.registry()
         .register(&mut socket, Token(0), Interest::READABLE)?;
-    Ok(socket)
+    if address.port() != 0 {
+        return Ok((socket, address));
+    }
+    let picked = socket.local_addr()?.port();
+    Ok((socket, SocketAddrV4::new(*address.ip(), picked)))
 }
 
 /// What is queued at a socket, or `None` where nothing is.

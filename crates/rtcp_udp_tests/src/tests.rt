@@ -134,3 +134,29 @@ fn waits(rt: HostRuntime) {
     }
     panic!(rt; "no port is free");
 }
+
+/// A port of 0 is one that the system picks. It is told, and what is sent there comes.
+#[test]
+fn picked_ports(rt: HostRuntime) {
+    let alloc = rt.alloc();
+    let Ok(mut here) = UdpLink::bind(&rt, alloc, local(0), local(0), local(9)) else {
+        panic!(rt; "no port is free");
+    };
+    let (rtp, rtcp) = here.endpoints();
+    assert!(rt; rtp.port() != 0 && rtcp.port() != 0 && rtp.port() != rtcp.port());
+    assert_eq!(rt;
+        (*rtp.ip(), *rtcp.ip()),
+        (Ipv4Addr::LOCALHOST, Ipv4Addr::LOCALHOST)
+    );
+    let Ok(mut there) = UdpLink::bind(&rt, alloc, local(0), local(0), rtcp) else {
+        panic!(rt; "no port is free");
+    };
+    let (_, sender) = there.endpoints();
+    assert!(rt; there.send(&named(7)).is_ok());
+    let from = 0x7f00_0001 * 65_536 + u64::from(sender.port());
+    let mut buf = [0; 100];
+    assert_eq!(rt;
+        here.recv(Port::Rtcp, &mut buf, 200_000),
+        Received::Got(20, from)
+    );
+}
