@@ -43,11 +43,19 @@ impl Change {
         self.has_left && self.is_gone()
     }
 
-    /// Whether it took part, and was dropped without a BYE, since it was not heard for long (6.3.5).
-    pub fn timed_out(&self) -> bool
+    /// Whether it took part and was dropped without a BYE: silent for too long (6.3.5), or dismissed by its host.
+    pub fn went_without_bye(&self) -> bool
         ensures { result ≡ (not self.now.has_left && not (is_same self.now.was Away) && is_same self.now.is Away) }
     {
         !self.has_left && self.is_gone()
+    }
+
+    /// The former name of [`went_without_bye`](Change::went_without_bye), of which it is true only where the host
+    /// dismisses nobody.
+    pub fn timed_out(&self) -> bool
+        ensures { result ≡ (not self.now.has_left && not (is_same self.now.was Away) && is_same self.now.is Away) }
+    {
+        self.went_without_bye()
     }
 
     /// Whether it sends now, and did not before.

@@ -191,10 +191,11 @@ fn names_of_changes(rt: HostRuntime) {
         let names = [
             change.joined(),
             change.left(),
-            change.timed_out(),
+            change.went_without_bye(),
             change.began_to_send(),
             change.stopped_sending(),
         ];
         assert_eq!(rt; names, *wanted, "{change:?}");
+        assert_eq!(rt; change.timed_out(), change.went_without_bye());
     }
 }
