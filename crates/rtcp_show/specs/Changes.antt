@@ -1,6 +1,7 @@
 -- The lines of sources that joined, left, began or ceased to send, as `rtcp listen --show` writes them.
-use Rattle.std.specs.Prelude.{◌≡◌, ◌&&◌, ℕ, not, Bool, true, false, if◌then◌else◌, List, [], ◌∷◌, ◌++◌, map, codes, is_some, Ok, Err}
+use Rattle.std.specs.Prelude.{◌≡◌, ◌&&◌, ℕ, not, Bool, true, false, if◌then◌else◌, List, [], ◌∷◌, ◌++◌, map, codes, Ok, Err}
 use Rattle.std.specs.List.{flat_map}
+use Rattle.rtcp_engine.specs.Acts.{EventValue, rtcp_arrived, rtp_arrived, packet_sent, time_passed, leave_asked, settings_given, forget_asked}
 use Rattle.rtcp_engine.specs.Histories.{History, life_at, setup_at}
 use Rattle.rtcp_engine.specs.Lives.{WalksInLife}
 use Rattle.rtcp_engine.specs.Steps.{AnswerValue}
@@ -32,10 +33,44 @@ abbrev pub changes_text : (moment : ℕ) → (before after : List ListedValue) �
 changes_text moment before after =
     if rises_from 0 before && rises_from 0 after then flat_map (change_text moment) (changes before after) else []
 
--- An answer tells that others changed their roles, and the participant has not left.
-abbrev pub tells_of_others : AnswerValue → Bool
-tells_of_others (Ok step) = step.others_changed && is_some step.next
-tells_of_others (Err refusal) = false
+-- ---- When they are told
+
+abbrev pub is_leave : EventValue → Bool
+is_leave (leave_asked moment word) = true
+is_leave (rtcp_arrived moment peer word octets) = false
+is_leave (rtp_arrived moment peer word octets) = false
+is_leave (packet_sent moment timestamp octets) = false
+is_leave (time_passed moment first_word second_word) = false
+is_leave (settings_given moment settings) = false
+is_leave (forget_asked moment ssrc) = false
+
+abbrev pub is_dismissal : EventValue → Bool
+is_dismissal (forget_asked moment ssrc) = true
+is_dismissal (rtcp_arrived moment peer word octets) = false
+is_dismissal (rtp_arrived moment peer word octets) = false
+is_dismissal (packet_sent moment timestamp octets) = false
+is_dismissal (time_passed moment first_word second_word) = false
+is_dismissal (settings_given moment settings) = false
+is_dismissal (leave_asked moment word) = false
+
+abbrev pub others_changed_in : AnswerValue → Bool
+others_changed_in (Ok step) = step.others_changed
+others_changed_in (Err refusal) = false
+
+-- The answer says that others changed their roles, by an event after which the participant still lists them: from a
+-- leave on it lists nobody, though nobody has gone.
+abbrev pub lists_anew : EventValue → AnswerValue → Bool
+lists_anew event answer = others_changed_in answer && not (is_leave event)
+
+-- Whether lines say who changed. A source that the host dismissed has neither timed out nor said goodbye, and no other
+-- changes with it, so nothing is said of it.
+abbrev pub tells_of_others : EventValue → AnswerValue → Bool
+tells_of_others event answer = lists_anew event answer && not (is_dismissal event)
+
+-- ---- What is told
+
+abbrev pub told_changes : (told : Bool) → (moment : ℕ) → (before after : List ListedValue) → List ℕ
+told_changes told moment before after = if told then changes_text moment before after else []
 
 -- Nothing, where it is not told that others changed; else what changed between an earlier listing and the sources that
 -- are there after a history.
@@ -45,9 +80,9 @@ ShowsChanges true moment history before text =
     (states : List StateValue) × WalksInLife (setup_at history) (life_at history) states
     × (text ≡ changes_text moment before (map listed_of states))
 
--- What is kept of the sources to tell the next changes from: where it is told that others changed, those that are there
--- after a history, and else the listing that was kept before.
-abbrev pub KeepsListing : (told : Bool) → History → (before after : List ListedValue) → Type 0
+-- What is kept of the sources to tell the next changes from: where they are listed anew, those that are there after a
+-- history, and else the listing that was kept before.
+abbrev pub KeepsListing : (anew : Bool) → History → (before after : List ListedValue) → Type 0
 KeepsListing false history before after = after ≡ before
 KeepsListing true history before after =
     (states : List StateValue) × WalksInLife (setup_at history) (life_at history) states

@@ -1,8 +1,14 @@
--- What is kept of the packets of sources beside their table.
-use Rattle.std.specs.Prelude.{ℕ, None}
-use Rattle.std.specs.BTreeMap as map
+-- What is kept of the packets of sources beside their table: where they come from, and how many a second.
+use Rattle.std.specs.Prelude.{◌≡◌, ℕ, ℤ, pos, negsuc, ◌+◌, ◌-◌, ◌*◌, ◌/◌, ◌^◌, Bool, false, List, [], ◌∷◌, max, min, if◌then◌else◌, nat_eq, nat_le, is_some, Option, Some, None, Ok, Err, option_map}
+use Rattle.std.specs.BTreeMap as stored
 use Rattle.std.specs.Option.{option_map_or}
 use Rattle.std.specs.Ordering.{nat_cmp}
+use Rattle.rtcp_engine.specs.Acts.{EventValue, rtcp_arrived, rtp_arrived, packet_sent, time_passed, leave_asked, settings_given, forget_asked}
+use Rattle.rtcp_engine.specs.Steps.{AnswerValue}
+use Rattle.rtcp_members.specs.Told.{StateValue}
+use Rattle.rtcp_source.specs.Receptions.{ReceptionValue}
+use Rattle.rtcp_wire.specs.RtpHeads.{RtpValue, IsRtpHead}
+use Rattle.rtcp_wire.specs.Values.{RtcpPacket, sr, rr, sdes, bye, app, other}
 use Rattle.rtcp_show.specs.declared.flows.Flow.{Flow}
 use Rattle.rtcp_show.specs.declared.flows.Flows.{Flows}
 
@@ -11,4 +17,107 @@ no_flow = record { rtp_peer = None; rtcp_peer = None; counted = None; loss = Non
 
 -- what is kept of a source
 abbrev pub flow_in : Flows → (ssrc : ℕ) → Flow
-flow_in flows ssrc = option_map_or (λ flow. flow) (map.get nat_cmp flows.by_ssrc ssrc) no_flow
+flow_in flows ssrc = option_map_or (λ flow. flow) (stored.get nat_cmp flows.by_ssrc ssrc) no_flow
+
+-- ---- Where packets come from
+
+-- the peer of the datagram that an event brought
+abbrev pub peer_of_event : EventValue → ℕ
+peer_of_event (rtcp_arrived moment peer word octets) = peer
+peer_of_event (rtp_arrived moment peer word octets) = peer
+peer_of_event (packet_sent moment timestamp octets) = 0
+peer_of_event (time_passed moment first_word second_word) = 0
+peer_of_event (leave_asked moment word) = 0
+peer_of_event (settings_given moment settings) = 0
+peer_of_event (forget_asked moment ssrc) = 0
+
+-- whose RTP packet came with an event, where it was taken (RFC 3550, 5.1)
+abbrev pub IsMedia : (octets : List ℕ) → AnswerValue → (media : Option ℕ) → Type 0
+IsMedia octets (Ok step) media = (head : RtpValue) × IsRtpHead octets head × (media ≡ Some head.ssrc)
+IsMedia octets (Err refusal) media = media ≡ None
+
+abbrev pub IsMediaOf : EventValue → AnswerValue → (media : Option ℕ) → Type 0
+IsMediaOf (rtp_arrived moment peer word octets) answer media = IsMedia octets answer media
+IsMediaOf (rtcp_arrived moment peer word octets) answer media = media ≡ None
+IsMediaOf (packet_sent moment timestamp octets) answer media = media ≡ None
+IsMediaOf (time_passed moment first_word second_word) answer media = media ≡ None
+IsMediaOf (leave_asked moment word) answer media = media ≡ None
+IsMediaOf (settings_given moment settings) answer media = media ≡ None
+IsMediaOf (forget_asked moment ssrc) answer media = media ≡ None
+
+-- whose report a compound begins with
+abbrev pub reporter_of : List RtcpPacket → Option ℕ
+reporter_of [] = None
+reporter_of (sr sender blocks extension ∷ packets) = Some sender.ssrc
+reporter_of (rr ssrc blocks extension ∷ packets) = Some ssrc
+reporter_of (sdes chunks ∷ packets) = None
+reporter_of (bye ids reason ∷ packets) = None
+reporter_of (app subtype ssrc name content ∷ packets) = None
+reporter_of (other kind count body ∷ packets) = None
+
+abbrev pub is_source : Option ℕ → (ssrc : ℕ) → Bool
+is_source None ssrc = false
+is_source (Some source) ssrc = nat_eq source ssrc
+
+-- An RTP packet of this source came from the peer.
+abbrev pub with_rtp : (source : Option ℕ) → (peer ssrc : ℕ) → Flow → Flow
+with_rtp source peer ssrc flow = if is_source source ssrc then record flow { rtp_peer = Some peer } else flow
+
+-- A compound that begins with the report of this source came from the peer.
+abbrev pub with_rtcp : (source : Option ℕ) → (peer ssrc : ℕ) → Flow → Flow
+with_rtcp source peer ssrc flow = if is_source source ssrc then record flow { rtcp_peer = Some peer } else flow
+
+-- What is kept of a source after a datagram from a peer, where the participant lists it: a compound, or the RTP packet
+-- of a source.
+abbrev pub heard_if : (listed : Bool) → (peer : ℕ) → List RtcpPacket → (media : Option ℕ) → (ssrc : ℕ) → Flow → Flow
+heard_if listed peer packets media ssrc flow =
+    if listed then with_rtcp (reporter_of packets) peer ssrc (with_rtp media peer ssrc flow) else flow
+
+-- ---- How packets come, when the rows are due
+
+-- the packets lost, or none where more came than were expected
+abbrev pub lost_packets : ℤ → ℕ
+lost_packets (pos lost) = lost
+lost_packets (negsuc more) = 0
+
+-- The packets lost of all that were expected, which are those that came and those that were lost. In tenths of a per
+-- cent, rounded down.
+abbrev pub loss_of : ReceptionValue → ℕ
+loss_of reception =
+    lost_packets reception.lost * 1000 / max (reception.received + lost_packets reception.lost) 1
+
+-- Packets a second, in tenths and rounded down, by how many were counted before and are now, so many microseconds
+-- later. Where fewer are than were, the count began anew. Its numbers stay below 2^64.
+abbrev pub pace_between : (elapsed : ℕ) → (before now : Option ℕ) → Option ℕ
+pace_between elapsed None now = None
+pace_between elapsed (Some before) None = None
+pace_between elapsed (Some before) (Some now) =
+    if nat_le before now then Some (min ((now - before) * 10000000) (2 ^ 64 - 1) / elapsed) else None
+
+abbrev pub counted_in : StateValue → Option ℕ
+counted_in state = option_map (λ reception. reception.received) state.reception
+
+-- what is kept of a source that is looked at, so long after it was looked at before
+abbrev pub looked_at : (elapsed : ℕ) → StateValue → Flow → Flow
+looked_at elapsed state flow = record flow {
+  counted = counted_in state;
+  loss = option_map loss_of state.reception;
+  pace = pace_between elapsed flow.counted (counted_in state);
+}
+
+-- the time since the sources were looked at before, of at least a microsecond
+abbrev pub elapsed_since : (looked now : ℕ) → ℕ
+elapsed_since looked now = max (now - looked) 1
+
+-- What is kept of a source after all that are listed were looked at: nothing, if it is not listed.
+abbrev pub flow_looked : (elapsed : ℕ) → (told : Option StateValue) → Flow → Flow
+flow_looked elapsed None flow = no_flow
+flow_looked elapsed (Some state) flow = looked_at elapsed state flow
+
+-- What is kept of a source after an event with which a compound or an RTP packet came from a peer, and after which the
+-- rows are due or not.
+abbrev pub flow_told : (due : Bool) → (elapsed : ℕ) → (told : Option StateValue) → (peer : ℕ) → List RtcpPacket
+    → (media : Option ℕ) → (ssrc : ℕ) → Flow → Flow
+flow_told due elapsed told peer packets media ssrc flow =
+    let heard = heard_if (is_some told) peer packets media ssrc flow in
+    if due then flow_looked elapsed told heard else heard

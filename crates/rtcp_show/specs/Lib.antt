@@ -3,7 +3,9 @@ pub mod Wordings
 pub mod Headers
 pub mod Lines
 pub mod Changes
+pub mod Listings
 pub mod Notes
 pub mod Flows
 pub mod Rows
 pub mod Watchers
+pub mod Observations

@@ -28,6 +28,21 @@ abbrev pub ReadsAs : EventValue → List RtcpPacket → Type 0
 ReadsAs (rtcp_arrived moment peer word octets) packets = IsAccepted octets packets
 ReadsAs event packets = ⊥
 
+-- the packets of a datagram that was taken; of one that was refused there are none
+abbrev pub ArePackets : (octets : List ℕ) → AnswerValue → List RtcpPacket → Type 0
+ArePackets octets (Ok step) packets = IsAccepted octets packets
+ArePackets octets (Err refusal) packets = packets ≡ []
+
+-- the packets that came with an event, where they were taken
+abbrev pub HasPackets : EventValue → AnswerValue → List RtcpPacket → Type 0
+HasPackets (rtcp_arrived moment peer word octets) answer packets = ArePackets octets answer packets
+HasPackets (rtp_arrived moment peer word octets) answer packets = packets ≡ []
+HasPackets (packet_sent moment timestamp octets) answer packets = packets ≡ []
+HasPackets (time_passed moment first_word second_word) answer packets = packets ≡ []
+HasPackets (leave_asked moment word) answer packets = packets ≡ []
+HasPackets (settings_given moment settings) answer packets = packets ≡ []
+HasPackets (forget_asked moment ssrc) answer packets = packets ≡ []
+
 -- An RTCP datagram has the text of `check` where it was taken.
 abbrev pub ShowsRtcp : (shows : List RtcpPacket → List ℕ) → (moment peer : ℕ) → (octets : List ℕ) → AnswerValue →
     List ℕ → Type 0

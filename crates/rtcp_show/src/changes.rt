@@ -1,23 +1,116 @@
 //! The lines of sources whose roles changed.
 
-ghost use Rattle.std.specs.Prelude.{◌≡◌, ◌++◌, [], Bool, List, OnOk, map, true};
+ghost use Rattle.std.specs.Prelude.{◌≡◌, ◌++◌, [], Bool, List, ℕ, OnOk, map, true};
 ghost use Rattle.std.specs.List.{flat_map};
 ghost use Rattle.rtcp_engine.specs.Histories.{History, life_at, setup_at};
 ghost use Rattle.rtcp_engine.specs.Lives.{WalksInLife};
 ghost use Rattle.rtcp_engine.specs.States.{StandsAt};
 ghost use Rattle.rtcp_listing.specs.Differences.{changes, listed_of, rises_from};
 ghost use Rattle.rtcp_members.specs.ListViews.{state_value};
-ghost use Rattle.rtcp_show.specs.Changes.{change_text, changes_text, line_where};
+ghost use Rattle.rtcp_engine.specs.Views.{answer_value, event_value};
+ghost use Rattle.rtcp_show.specs.Changes.{KeepsListing, ShowsChanges, change_text, changes_text, is_dismissal, is_leave, line_where, lists_anew, tells_of_others, told_changes};
 
 use crate::numbers::push_moment;
-use rtcp_engine::Participant;
+use rtcp_engine::{Answer, Event, Participant};
 use rtcp_listing::{Change, Changes, is_rising};
 use rtcp_members::{MemberTable, SourceState};
 use rtcp_text::text::digits::push_word;
-use std::alloc::AllocError;
+use std::alloc::{AllocError, Global};
+use std::mem;
+
+/// The sources, as they were after the last event that changed a role.
+#[derive(Drop)]
+pub(crate) struct Roles {
+    listing: Vec<SourceState>,
+    /// Room for the next ones.
+    next: Vec<SourceState>,
+}
+
+impl Roles {
+    ghost use Rattle.rtcp_show.specs.Watchers.{listed_in};
+
+    /// Nobody is listed yet.
+    pub(crate) fn new(alloc: Global) -> Roles
+        ensures { listed_in result ≡ [] }
+    {
+        Roles {
+            listing: Vec::new(alloc),
+            next: Vec::new(alloc),
+        }
+    }
+
+    /// Lists the sources anew, and appends whose roles changed since they were listed last, if that is told.
+    pub(crate) fn compose<T: MemberTable>(
+        &mut self,
+        out: &mut Vec<u8>,
+        told: bool,
+        moment: u64,
+        participant: &Participant<T>,
+    ) -> Result<(), AllocError>
+        ensures composed { (history : History) → StandsAt participant.now history →
+            OnOk result ((changes : List ℕ) × ShowsChanges told moment history (listed_in self.old) changes
+            × (out.new.items ≡ out.old.items ++ changes)) }
+        ensures keeps { (history : History) → StandsAt participant.now history →
+            OnOk result (KeepsListing true history (listed_in self.old) (listed_in self.new)) }
+    {
+        self.next.clear();
+        push_listing(&mut self.next, participant)?;
+        push_if_told(out, told, moment, &self.listing, &self.next)?;
+        mem::swap(&mut self.listing, &mut self.next);
+        Ok(())
+    }
+}
+
+/// Whether the sources are listed anew after an event: its answer says that others changed their roles, and it is no
+/// leave, after which nobody is listed.
+pub(crate) fn lists_anew(event: &Event<'_>, answer: &Answer) -> bool
+    ensures { result ≡ lists_anew (event_value event.now) (answer_value answer.now) }
+{
+    match answer {
+        Ok(step) => step.others_changed && !is_leave(event),
+        Err(_) => false,
+    }
+}
+
+/// Whether lines say whose roles changed: not where the host dismissed a source.
+pub(crate) fn tells_of_others(event: &Event<'_>, answer: &Answer) -> bool
+    ensures { result ≡ tells_of_others (event_value event.now) (answer_value answer.now) }
+{
+    lists_anew(event, answer) && !is_dismissal(event)
+}
+
+/// Whether the host asked the participant to leave.
+fn is_leave(event: &Event<'_>) -> bool
+    ensures { result ≡ is_leave (event_value event.now) }
+{
+    match event {
+        Event::Leave { .. } => true,
+        Event::ArriveRtcp { .. }
+        | Event::ArriveRtp { .. }
+        | Event::SentRtp { .. }
+        | Event::Tick { .. }
+        | Event::Configure { .. }
+        | Event::Forget { .. } => false,
+    }
+}
+
+/// Whether the host said that a source is gone.
+fn is_dismissal(event: &Event<'_>) -> bool
+    ensures { result ≡ is_dismissal (event_value event.now) }
+{
+    match event {
+        Event::Forget { .. } => true,
+        Event::ArriveRtcp { .. }
+        | Event::ArriveRtp { .. }
+        | Event::SentRtp { .. }
+        | Event::Tick { .. }
+        | Event::Leave { .. }
+        | Event::Configure { .. } => false,
+    }
+}
 
 /// Appends the sources that the participant tells of to a list.
-pub(crate) fn push_listing<T: MemberTable>(
+fn push_listing<T: MemberTable>(
     listing: &mut Vec<SourceState>,
     participant: &Participant<T>,
 ) -> Result<(), AllocError>
@@ -31,6 +124,25 @@ pub(crate) fn push_listing<T: MemberTable>(
     Ok(())
 }
 
+/// Appends what changed between two listings, if that is told.
+fn push_if_told(
+    out: &mut Vec<u8>,
+    told: bool,
+    moment: u64,
+    before: &[SourceState],
+    after: &[SourceState],
+) -> Result<(), AllocError>
+    ensures { OnOk result (out.new.items ≡ out.old.items
+        ++ told_changes told moment (map (λ state. listed_of (state_value state)) before.now)
+        (map (λ state. listed_of (state_value state)) after.now)) }
+{
+    if told {
+        push_changes(out, moment, before, after)
+    } else {
+        Ok(())
+    }
+}
+
 /// Appends a line for each source that joined, left, began or ceased to send between two listings.
 ///
 /// - `4.500000 joined=00000007`: it is a member, and was none.
@@ -38,7 +150,7 @@ pub(crate) fn push_listing<T: MemberTable>(
 /// - `4.500000 stopped-sending=00000007`: it was a sender, and is none.
 /// - `4.500000 bye=00000007`: it was a member, and said goodbye.
 /// - `4.500000 timed-out=00000007`: it was a member, and was dropped without a goodbye.
-pub(crate) fn push_changes(
+fn push_changes(
     out: &mut Vec<u8>,
     moment: u64,
     before: &[SourceState],

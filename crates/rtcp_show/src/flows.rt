@@ -1,13 +1,19 @@
 //! What is kept of the packets of sources beside their table.
 
-ghost use Rattle.std.specs.Prelude.{◌≡◌};
-ghost use Rattle.rtcp_show.specs.Flows.{flow_in, no_flow};
+ghost use Rattle.std.specs.Prelude.{◌≡◌, ◌<◌, [], ℕ, Option, OnOk, if◌then◌else◌, nat_eq, option_map, unwrap_or};
+ghost use Rattle.rtcp_engine.specs.Histories.{History};
+ghost use Rattle.rtcp_engine.specs.States.{StandsAt};
+ghost use Rattle.rtcp_engine.specs.Views.{answer_value, event_value};
+ghost use Rattle.rtcp_members.specs.ListViews.{state_value};
+ghost use Rattle.rtcp_source.specs.Views.{reception_value};
+ghost use Rattle.rtcp_show.specs.Flows.{IsMedia, IsMediaOf, counted_in, elapsed_since, flow_in, flow_looked, heard_if, looked_at, loss_of, lost_packets, no_flow, pace_between, peer_of_event, reporter_of, with_rtcp, with_rtp};
+ghost use Rattle.rtcp_show.specs.Listings.{lists, told_of};
 
 use crate::notes::is_listed;
 use rtcp_engine::{Answer, Event, Participant};
 use rtcp_members::{MemberTable, SourceState};
 use rtcp_source::Reception;
-use rtcp_wire::{Compound, PacketView};
+use rtcp_wire::{Compound, PacketView, RtpHead};
 use std::alloc::{AllocError, Global};
 use std::collections::BTreeMap;
 
@@ -52,7 +58,10 @@ pub(crate) struct Flows {
 
 impl Flows {
     /// None yet.
-    pub(crate) fn new(alloc: Global) -> Flows {
+    pub(crate) fn new(alloc: Global) -> Flows
+        ensures none { (ssrc : ℕ) → flow_in result ssrc ≡ no_flow }
+        ensures looked { result.looked ≡ 0 }
+    {
         Flows {
             alloc,
             by_ssrc: BTreeMap::new(alloc),
@@ -71,42 +80,89 @@ impl Flows {
     }
 
     /// Keeps where a datagram that was taken came from, of a source that the participant tells of.
+    ///
+    /// # Errors
+    ///
+    /// `AllocError` where memory is refused. Then it is not kept.
     pub(crate) fn note<T: MemberTable>(
         &mut self,
         event: &Event<'_>,
         answer: &Answer,
         compound: &Option<Compound<'_>>,
         participant: &Participant<T>,
-    ) {
-        match (event, compound) {
-            (Event::ArriveRtp { peer, bytes, .. }, _) if answer.is_ok() => {
-                if let Some([a, b, c, d]) = bytes.get(8..12) {
-                    let ssrc = u32::from_be_bytes([*a, *b, *c, *d]);
-                    self.note_rtp(ssrc, *peer, participant);
-                }
-            }
-            (Event::ArriveRtcp { peer, .. }, Some(compound)) => {
-                if let Some(ssrc) = reporter(compound) {
-                    self.note_rtcp(ssrc, *peer, participant);
-                }
-            }
-            _ => {}
-        }
+    ) -> Result<(), AllocError>
+        ensures noted { (history : History) (media : Option ℕ) → StandsAt participant.now history →
+            IsMediaOf (event_value event.now) (answer_value answer.now) media →
+            OnOk result ((ssrc : ℕ) → flow_in self.new ssrc ≡ heard_if (lists history ssrc)
+            (peer_of_event (event_value event.now)) (unwrap_or compound.now []) media ssrc (flow_in self.old ssrc)) }
+        ensures looked { self.new.looked ≡ self.old.looked }
+    {
+        let peer = peer_of(event);
+        self.note_rtp(media_of(event, answer), peer, participant)?;
+        self.note_rtcp(reporter(compound), peer, participant)
     }
 
-    fn note_rtp<T: MemberTable>(&mut self, ssrc: u32, peer: u64, participant: &Participant<T>) {
+    /// Keeps where an RTP packet came from, if one did and the participant tells of its source.
+    fn note_rtp<T: MemberTable>(
+        &mut self,
+        source: Option<u32>,
+        peer: u64,
+        participant: &Participant<T>,
+    ) -> Result<(), AllocError>
+        ensures noted { (history : History) → StandsAt participant.now history → OnOk result ((ssrc : ℕ) →
+            flow_in self.new ssrc ≡ (if lists history ssrc then with_rtp source peer ssrc (flow_in self.old ssrc)
+            else flow_in self.old ssrc)) }
+        ensures looked { self.new.looked ≡ self.old.looked }
+    {
+        let Some(ssrc) = source else {
+            return Ok(());
+        };
         let flow = self.get(ssrc);
-        if flow.rtp_peer != Some(peer) && is_listed(ssrc, participant) {
-            let rtp_peer = Some(peer);
-            let _ = self.by_ssrc.insert(ssrc, Flow { rtp_peer, ..flow });
+        if flow.rtp_peer == Some(peer) {
+            return Ok(());
         }
+        if !is_listed(ssrc, participant) {
+            return Ok(());
+        }
+        let rtp_peer = Some(peer);
+        self.put(ssrc, Flow { rtp_peer, ..flow })
     }
 
-    fn note_rtcp<T: MemberTable>(&mut self, ssrc: u32, peer: u64, participant: &Participant<T>) {
+    /// Keeps where a report came from, if one did and the participant tells of its source.
+    fn note_rtcp<T: MemberTable>(
+        &mut self,
+        source: Option<u32>,
+        peer: u64,
+        participant: &Participant<T>,
+    ) -> Result<(), AllocError>
+        ensures noted { (history : History) → StandsAt participant.now history → OnOk result ((ssrc : ℕ) →
+            flow_in self.new ssrc ≡ (if lists history ssrc then with_rtcp source peer ssrc (flow_in self.old ssrc)
+            else flow_in self.old ssrc)) }
+        ensures looked { self.new.looked ≡ self.old.looked }
+    {
+        let Some(ssrc) = source else {
+            return Ok(());
+        };
         let flow = self.get(ssrc);
-        if flow.rtcp_peer != Some(peer) && is_listed(ssrc, participant) {
-            let rtcp_peer = Some(peer);
-            let _ = self.by_ssrc.insert(ssrc, Flow { rtcp_peer, ..flow });
+        if flow.rtcp_peer == Some(peer) {
+            return Ok(());
+        }
+        if !is_listed(ssrc, participant) {
+            return Ok(());
+        }
+        let rtcp_peer = Some(peer);
+        self.put(ssrc, Flow { rtcp_peer, ..flow })
+    }
+
+    /// Keeps the flow of a source.
+    fn put(&mut self, ssrc: u32, flow: Flow) -> Result<(), AllocError>
+        ensures kept { OnOk result ((other : ℕ) → flow_in self.new other
+            ≡ (if nat_eq ssrc other then flow else flow_in self.old other)) }
+        ensures looked { self.new.looked ≡ self.old.looked }
+    {
+        match self.by_ssrc.insert(ssrc, flow) {
+            Ok(_) => Ok(()),
+            Err(_) => Err(AllocError),
         }
     }
 
@@ -114,52 +170,147 @@ impl Flows {
     ///
     /// # Errors
     ///
-    /// `AllocError` where memory is refused. Then some of the flows are forgotten.
+    /// `AllocError` where memory is refused. Then the flows are those of before.
     pub(crate) fn look<T: MemberTable>(
         &mut self,
         now: u64,
         participant: &Participant<T>,
-    ) -> Result<(), AllocError> {
+    ) -> Result<(), AllocError>
+        ensures kept { (history : History) → StandsAt participant.now history →
+            OnOk result ((ssrc : ℕ) → flow_in self.new ssrc
+            ≡ flow_looked (elapsed_since self.old.looked now) (told_of history ssrc) (flow_in self.old ssrc)) }
+        ensures looked { self.new.looked ≡ now }
+    {
         let elapsed = now.saturating_sub(self.looked).max(1);
         self.looked = now;
-        let mut kept = BTreeMap::new(self.alloc);
+        let mut kept = Flows {
+            looked: now,
+            ..Flows::new(self.alloc)
+        };
         for state in participant.sources() {
-            let flow = looked_at(self.get(state.ssrc), &state, elapsed);
-            if kept.insert(state.ssrc, flow).is_err() {
-                return Err(AllocError);
-            }
+            kept.put(state.ssrc, looked_at(self.get(state.ssrc), &state, elapsed))?;
         }
-        self.by_ssrc = kept;
+        *self = kept;
         Ok(())
     }
 }
 
+/// The peer that a datagram came from: 0 where none came.
+fn peer_of(event: &Event<'_>) -> u64
+    ensures { result ≡ peer_of_event (event_value event.now) }
+{
+    match event {
+        Event::ArriveRtcp { peer, .. } | Event::ArriveRtp { peer, .. } => *peer,
+        Event::SentRtp { .. }
+        | Event::Tick { .. }
+        | Event::Leave { .. }
+        | Event::Configure { .. }
+        | Event::Forget { .. } => 0,
+    }
+}
+
+/// The source of an RTP packet, where one came and was taken.
+fn media_of(event: &Event<'_>, answer: &Answer) -> Option<u32>
+    ensures { (media : Option ℕ) → IsMediaOf (event_value event.now) (answer_value answer.now) media →
+        result ≡ media }
+{
+    match event {
+        Event::ArriveRtp { bytes, .. } => media_in(bytes, answer),
+        Event::ArriveRtcp { .. }
+        | Event::SentRtp { .. }
+        | Event::Tick { .. }
+        | Event::Leave { .. }
+        | Event::Configure { .. }
+        | Event::Forget { .. } => None,
+    }
+}
+
+/// The source of the RTP packet of a datagram, where it was taken.
+fn media_in(bytes: &[u8], answer: &Answer) -> Option<u32>
+    ensures { (media : Option ℕ) → IsMedia bytes.now (answer_value answer.now) media → result ≡ media }
+{
+    match answer {
+        Ok(_) => match RtpHead::read(bytes) {
+            Ok(head) => Some(head.ssrc()),
+            Err(_) => None,
+        },
+        Err(_) => None,
+    }
+}
+
 /// The flow of a source that is looked at, so many microseconds after the look before.
-fn looked_at(flow: Flow, state: &SourceState, elapsed: u64) -> Flow {
-    let counted = state.reception.map(|reception| reception.received);
+fn looked_at(flow: Flow, state: &SourceState, elapsed: u64) -> Flow
+    requires { 0 < elapsed }
+    ensures { result ≡ looked_at elapsed (state_value state.now) flow }
+{
+    let counted = counted_of(state);
     Flow {
         counted,
-        loss: state.reception.map(loss_of),
-        pace: match (flow.counted, counted) {
-            (Some(before), Some(now)) if before <= now => {
-                Some((now - before).saturating_mul(10_000_000) / elapsed.max(1))
-            }
-            _ => None,
-        },
+        loss: loss_of_source(state),
+        pace: pace_between(elapsed, flow.counted, counted),
         ..flow
+    }
+}
+
+/// How many packets are counted of a source, if one is.
+fn counted_of(state: &SourceState) -> Option<u64>
+    ensures { result ≡ counted_in (state_value state.now) }
+{
+    match state.reception {
+        Some(reception) => Some(reception.received),
+        None => None,
+    }
+}
+
+/// The loss of a source, if a packet of it is counted.
+fn loss_of_source(state: &SourceState) -> Option<u64>
+    ensures { result ≡ option_map loss_of (state_value state.now).reception }
+{
+    match state.reception {
+        Some(reception) => Some(loss_of(reception)),
+        None => None,
+    }
+}
+
+/// Packets a second, in tenths, by how many were counted before and are now, so many microseconds later.
+fn pace_between(elapsed: u64, before: Option<u64>, now: Option<u64>) -> Option<u64>
+    requires { 0 < elapsed }
+    ensures { result ≡ pace_between elapsed before now }
+{
+    let (Some(before), Some(now)) = (before, now) else {
+        return None;
+    };
+    if before <= now {
+        Some((now - before).saturating_mul(10_000_000) / elapsed)
+    } else {
+        None
     }
 }
 
 /// The packets lost of all that were expected, in tenths of a per cent, rounded down: none where more came than were
 /// expected.
-fn loss_of(reception: Reception) -> u64 {
-    let lost = u64::try_from(reception.lost).unwrap_or(0);
-    let expected = reception.received.saturating_add(lost);
-    lost.saturating_mul(1_000) / expected.max(1)
+fn loss_of(reception: Reception) -> u64
+    ensures { result ≡ loss_of (reception_value reception) }
+{
+    let lost = u128::from(lost_packets(reception.lost));
+    let expected = u128::from(reception.received) + lost;
+    (lost * 1_000 / expected.max(1)) as u64
 }
 
-/// Whose report a compound begins with.
-fn reporter(compound: &Compound<'_>) -> Option<u32> {
+/// The packets lost: none where more came than were expected.
+fn lost_packets(lost: i32) -> u32
+    ensures { result ≡ lost_packets lost }
+{
+    if lost < 0 { 0 } else { lost.unsigned_abs() }
+}
+
+/// Whose report a compound begins with, if there is a compound.
+fn reporter(compound: &Option<Compound<'_>>) -> Option<u32>
+    ensures { result ≡ reporter_of (unwrap_or compound.now []) }
+{
+    let Some(compound) = compound else {
+        return None;
+    };
     match compound.packets().next() {
         Some(PacketView::Sr(report)) => Some(report.ssrc),
         Some(PacketView::Rr(report)) => Some(report.ssrc),

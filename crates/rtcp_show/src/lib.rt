@@ -11,12 +11,15 @@
 //! `specs/` defines the texts: those of an event and its answer (`Lines`), and the row of a source (`Rows`).
 #![tactic(auto)]
 
+mod board;
 mod changes;
 mod flows;
 mod header;
+pub mod laws;
 mod lines;
 mod notes;
 mod numbers;
+mod page;
 mod rows;
 mod watcher;
 mod wording;

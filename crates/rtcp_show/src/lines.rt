@@ -1,11 +1,12 @@
 //! The lines of an event and its answer.
 
-ghost use Rattle.std.specs.Prelude.{◌≡◌, ◌++◌, List, ℕ, IfSome, OnOk, option_map};
+ghost use Rattle.std.specs.Prelude.{◌≡◌, ◌++◌, [], List, ℕ, IfSome, OnOk, option_map, unwrap_or};
 ghost use Rattle.rtcp_wire.specs.Grammar.{IsAccepted};
+ghost use Rattle.rtcp_wire.specs.Values.{RtcpPacket};
 ghost use Rattle.rtcp_engine.specs.Views.{answer_value, event_value, out_value, step_value};
 ghost use Rattle.rtcp_text.specs.Check.{IsAnswerBy};
 ghost use Rattle.rtcp_show.specs.Wordings.{shown_in};
-ghost use Rattle.rtcp_show.specs.Lines.{ReadsAs, ShowsAnswer, ShowsBoth, ShowsBothBy, ShowsEvent, ShowsOut, ShowsRtcp, changed_text, moment_of_event as moment_in, passing_text, refused_text, rtp_text, told_text, unsent_text};
+ghost use Rattle.rtcp_show.specs.Lines.{ArePackets, HasPackets, ReadsAs, ShowsAnswer, ShowsBoth, ShowsBothBy, ShowsEvent, ShowsOut, ShowsRtcp, changed_text, moment_of_event as moment_in, passing_text, refused_text, rtp_text, told_text, unsent_text};
 
 use crate::numbers::{push_moment, push_peer};
 use crate::wording::{Wording, push_compound, push_octets};
@@ -60,11 +61,33 @@ pub(crate) fn push_read_lines(
 
 /// The compound of an event, where it brought a datagram that was taken.
 pub(crate) fn compound_of<'a>(event: &Event<'a>, answer: &Answer) -> Option<Compound<'a>>
-    ensures { IfSome result (ReadsAs (event_value event.now)) }
+    ensures read { IfSome result (ReadsAs (event_value event.now)) }
+    ensures packets { (packets : List RtcpPacket) →
+        HasPackets (event_value event.now) (answer_value answer.now) packets → unwrap_or result [] ≡ packets }
 {
-    match (event, answer) {
-        (Event::ArriveRtcp { bytes, .. }, Ok(_)) => Compound::read(bytes).ok(),
-        _ => None,
+    match event {
+        Event::ArriveRtcp { bytes, .. } => compound_in(bytes, answer),
+        Event::ArriveRtp { .. }
+        | Event::SentRtp { .. }
+        | Event::Tick { .. }
+        | Event::Leave { .. }
+        | Event::Configure { .. }
+        | Event::Forget { .. } => None,
+    }
+}
+
+/// The compound of a datagram, where it was taken.
+fn compound_in<'a>(bytes: &'a [u8], answer: &Answer) -> Option<Compound<'a>>
+    ensures read { IfSome result (IsAccepted bytes.now) }
+    ensures packets { (packets : List RtcpPacket) → ArePackets bytes.now (answer_value answer.now) packets →
+        unwrap_or result [] ≡ packets }
+{
+    match answer {
+        Ok(_) => match Compound::read(bytes) {
+            Ok(compound) => Some(compound),
+            Err(_) => None,
+        },
+        Err(_) => None,
     }
 }
 

@@ -1,16 +1,23 @@
 //! What is kept of sources beside their table.
 
-ghost use Rattle.std.specs.Prelude.{◌≡◌};
+ghost use Rattle.std.specs.Prelude.{◌≡◌, ◌≤◌, [], ◌∷◌, ℕ, OnOk, None, Some, false, true, flat_map, if◌then◌else◌, nat_eq, unwrap_or};
 ghost use Rattle.std.specs.Borrow.{Bor};
-ghost use Rattle.std.specs.Option.{option_map_or};
-ghost use Rattle.rtcp_show.specs.Notes.{note_value, noted_in, nothing};
+ghost use Rattle.std.specs.Option.{option_map_or, option_or};
+ghost use Rattle.rtcp_engine.specs.Histories.{History, setup_at};
+ghost use Rattle.rtcp_engine.specs.States.{StandsAt};
+ghost use Rattle.rtcp_members.specs.Pending.{is_after};
+ghost use Rattle.rtcp_wire.specs.About.{blocks_about};
+ghost use Rattle.rtcp_wire.specs.Views.{block_value, packet_value};
+ghost use Rattle.rtcp_wire.specs.WriterViews.{item_ref_of};
+ghost use Rattle.rtcp_show.specs.Listings.{lists};
+ghost use Rattle.rtcp_show.specs.Notes.{cnames_by, cnames_of, cnames_of_chunk, cnames_of_packet, kept_if, named_if, names_report, note_value, noted_if, noted_in, nothing, stored_in, tripped_if, with_cnames};
 ghost use Rattle.rtcp_show.specs.declared.notes.Note.{Note as Noted};
 
 use arrayvec::ArrayVec;
 use rtcp_clock::round_trip;
 use rtcp_engine::Participant;
 use rtcp_members::MemberTable;
-use rtcp_wire::{CNAME, Chunk, Compound, PacketView, SourceDescription};
+use rtcp_wire::{Block, CNAME, Chunk, Compound, ItemRef, PacketView, SourceDescription};
 use std::alloc::{AllocError, Global};
 use std::collections::BTreeMap;
 
@@ -45,7 +52,9 @@ pub(crate) struct Notes {
 
 impl Notes {
     /// None yet.
-    pub(crate) fn new(alloc: Global) -> Notes {
+    pub(crate) fn new(alloc: Global) -> Notes
+        ensures { (ssrc : ℕ) → stored_in result ssrc ≡ None }
+    {
         Notes {
             alloc,
             by_ssrc: BTreeMap::new(alloc),
@@ -61,18 +70,25 @@ impl Notes {
 
     /// Keeps what a compound says of sources that the participant tells of: so what is kept is bounded as its table is.
     /// It arrived at this moment, by the middle 32 bits of an NTP timestamp.
+    ///
+    /// # Errors
+    ///
+    /// `AllocError` where memory is refused. Then what was noted of a source is lost.
     pub(crate) fn note<T: MemberTable>(
         &mut self,
         arrived: u32,
-        compound: &Compound<'_>,
+        compound: &Option<Compound<'_>>,
         participant: &Participant<T>,
-    ) {
-        self.note_trips(arrived, compound, participant);
-        for packet in compound.packets() {
-            if let PacketView::Sdes(description) = packet {
-                self.note_chunks(&description, participant);
-            }
-        }
+    ) -> Result<(), AllocError>
+        ensures { (history : History) → StandsAt participant.now history → OnOk result ((ssrc : ℕ) →
+            noted_in self.new ssrc ≡ noted_if (lists history ssrc) arrived (setup_at history).ssrc
+            (unwrap_or compound.now []) ssrc (noted_in self.old ssrc)) }
+    {
+        let Some(compound) = compound else {
+            return Ok(());
+        };
+        self.note_trips(arrived, compound, participant)?;
+        self.note_packets(compound, participant)
     }
 
     /// Keeps the round trips by the blocks about the participant that name one of its sender reports.
@@ -81,54 +97,192 @@ impl Notes {
         arrived: u32,
         compound: &Compound<'_>,
         participant: &Participant<T>,
-    ) {
-        for (reporter, block) in compound.about(participant.ssrc()) {
-            if block.lsr != 0 && is_listed(reporter, participant) {
-                self.set_trip(reporter, round_trip(arrived, block.lsr, block.dlsr));
-            }
+    ) -> Result<(), AllocError>
+        ensures { (history : History) → StandsAt participant.now history → OnOk result ((ssrc : ℕ) →
+            noted_in self.new ssrc ≡ tripped_if (lists history ssrc) arrived
+            (blocks_about (setup_at history).ssrc compound.now) ssrc (noted_in self.old ssrc)) }
+    {
+        for reported in compound.about(participant.ssrc()) {
+            self.note_block(arrived, reported.0, &reported.1, participant)?;
+        }
+        Ok(())
+    }
+
+    /// Keeps the round trip by a block about the participant, if it names one of its sender reports and the participant
+    /// tells of who reports.
+    fn note_block<T: MemberTable>(
+        &mut self,
+        arrived: u32,
+        reporter: u32,
+        block: &Block,
+        participant: &Participant<T>,
+    ) -> Result<(), AllocError>
+        ensures { (history : History) → StandsAt participant.now history → OnOk result ((ssrc : ℕ) →
+            noted_in self.new ssrc ≡ tripped_if (lists history ssrc) arrived ((reporter, block_value block.now) ∷ [])
+            ssrc (noted_in self.old ssrc)) }
+    {
+        if !names_report(block) {
+            return Ok(());
+        }
+        if !is_listed(reporter, participant) {
+            return Ok(());
+        }
+        self.set_trip(reporter, round_trip(arrived, block.lsr, block.dlsr))
+    }
+
+    /// Keeps the CNAMEs of a compound.
+    fn note_packets<T: MemberTable>(
+        &mut self,
+        compound: &Compound<'_>,
+        participant: &Participant<T>,
+    ) -> Result<(), AllocError>
+        ensures { (history : History) → StandsAt participant.now history → OnOk result ((ssrc : ℕ) →
+            noted_in self.new ssrc ≡ named_if (lists history ssrc) (cnames_of compound.now) ssrc
+            (noted_in self.old ssrc)) }
+    {
+        for packet in compound.packets() {
+            self.note_packet(&packet, participant)?;
+        }
+        Ok(())
+    }
+
+    /// Keeps the CNAMEs of a packet.
+    fn note_packet<T: MemberTable>(
+        &mut self,
+        packet: &PacketView<'_>,
+        participant: &Participant<T>,
+    ) -> Result<(), AllocError>
+        ensures { (history : History) → StandsAt participant.now history → OnOk result ((ssrc : ℕ) →
+            noted_in self.new ssrc ≡ named_if (lists history ssrc) (cnames_of_packet (packet_value packet.now)) ssrc
+            (noted_in self.old ssrc)) }
+    {
+        match packet {
+            PacketView::Sdes(description) => self.note_chunks(description, participant),
+            _ => Ok(()),
         }
     }
 
+    /// Keeps the CNAMEs of a source description.
     fn note_chunks<T: MemberTable>(
         &mut self,
         description: &SourceDescription<'_>,
         participant: &Participant<T>,
-    ) {
+    ) -> Result<(), AllocError>
+        ensures { (history : History) → StandsAt participant.now history → OnOk result ((ssrc : ℕ) →
+            noted_in self.new ssrc ≡ named_if (lists history ssrc) (flat_map cnames_of_chunk description.now) ssrc
+            (noted_in self.old ssrc)) }
+    {
         for chunk in description.chunks() {
-            if is_listed(chunk.id(), participant) {
-                self.note_cname(&chunk);
-            }
+            self.note_chunk(&chunk, participant)?;
+        }
+        Ok(())
+    }
+
+    /// Keeps the CNAMEs of a chunk, if the participant tells of its source.
+    fn note_chunk<T: MemberTable>(
+        &mut self,
+        chunk: &Chunk<'_>,
+        participant: &Participant<T>,
+    ) -> Result<(), AllocError>
+        ensures { (history : History) → StandsAt participant.now history → OnOk result ((ssrc : ℕ) →
+            noted_in self.new ssrc ≡ named_if (lists history ssrc) (cnames_of_chunk chunk.now) ssrc
+            (noted_in self.old ssrc)) }
+    {
+        if is_listed(chunk.id(), participant) {
+            self.note_items(chunk)
+        } else {
+            Ok(())
         }
     }
 
-    fn note_cname(&mut self, chunk: &Chunk<'_>) {
+    /// Keeps the CNAMEs of a chunk.
+    fn note_items(&mut self, chunk: &Chunk<'_>) -> Result<(), AllocError>
+        ensures { OnOk result ((ssrc : ℕ) →
+            noted_in self.new ssrc ≡ with_cnames (cnames_of_chunk chunk.now) ssrc (noted_in self.old ssrc)) }
+    {
         for item in chunk.items() {
-            if item.kind == CNAME {
-                self.set_cname(chunk.id(), item.text);
-            }
+            self.note_item(chunk.id(), &item)?;
+        }
+        Ok(())
+    }
+
+    /// Keeps an item of a source, if it is a CNAME.
+    fn note_item(&mut self, ssrc: u32, item: &ItemRef<'_>) -> Result<(), AllocError>
+        ensures { OnOk result ((other : ℕ) → noted_in self.new other
+            ≡ with_cnames (cnames_by ssrc (item_ref_of item.now ∷ [])) other (noted_in self.old other)) }
+    {
+        if item.kind == CNAME {
+            self.set_cname(ssrc, item.text)
+        } else {
+            Ok(())
         }
     }
 
-    /// Keeps the CNAME of a source. Where memory is refused it is lost, and what was known of the source with it.
-    fn set_cname(&mut self, ssrc: u32, text: &[u8]) {
+    /// Keeps the CNAME of a source.
+    ///
+    /// # Errors
+    ///
+    /// `AllocError` where memory is refused. Then what was known of the source is lost. So where the CNAME has more
+    /// than 255 octets, which no item has.
+    fn set_cname(&mut self, ssrc: u32, text: &[u8]) -> Result<(), AllocError>
+        ensures { OnOk result ((other : ℕ) → noted_in self.new other
+            ≡ (if nat_eq ssrc other then record (noted_in self.old other) { cname = Some text.now }
+            else noted_in self.old other)) }
+    {
         let mut cname = ArrayVec::new();
-        if cname.try_extend_from_slice(text).is_ok() {
-            let mut note = self.take(ssrc);
-            note.cname = Some(cname);
-            let _ = self.by_ssrc.insert(ssrc, note);
+        if cname.try_extend_from_slice(text).is_err() {
+            return Err(AllocError);
         }
+        let note = self.take(ssrc);
+        self.put(
+            ssrc,
+            Note {
+                cname: Some(cname),
+                trip: note.trip,
+            },
+        )
     }
 
-    /// Keeps the round trip of a source. Where memory is refused it is lost, and what was known of the source with it.
-    fn set_trip(&mut self, ssrc: u32, trip: u32) {
-        let mut note = self.take(ssrc);
-        note.trip = Some(trip);
-        let _ = self.by_ssrc.insert(ssrc, note);
+    /// Keeps the round trip of a source.
+    ///
+    /// # Errors
+    ///
+    /// `AllocError` where memory is refused. Then what was known of the source is lost.
+    fn set_trip(&mut self, ssrc: u32, trip: u32) -> Result<(), AllocError>
+        ensures { OnOk result ((other : ℕ) → noted_in self.new other
+            ≡ (if nat_eq ssrc other then record (noted_in self.old other) { trip = Some trip }
+            else noted_in self.old other)) }
+    {
+        let note = self.take(ssrc);
+        self.put(
+            ssrc,
+            Note {
+                cname: note.cname,
+                trip: Some(trip),
+            },
+        )
     }
 
     /// Takes the note of a source out, or a new one.
-    fn take(&mut self, ssrc: u32) -> Note {
-        self.by_ssrc.remove(&ssrc).unwrap_or(Note::new())
+    fn take(&mut self, ssrc: u32) -> Note
+        ensures taken { note_value result ≡ noted_in self.old ssrc }
+        ensures others { (other : ℕ) → nat_eq ssrc other ≡ false → stored_in self.new other ≡ stored_in self.old other }
+    {
+        match self.by_ssrc.remove(&ssrc) {
+            Some(note) => note,
+            None => Note::new(),
+        }
+    }
+
+    /// Keeps the note of a source.
+    fn put(&mut self, ssrc: u32, note: Note) -> Result<(), AllocError>
+        ensures { OnOk result ((other : ℕ) → stored_in self.new other
+            ≡ (if nat_eq ssrc other then Some note else stored_in self.old other)) }
+    {
+        match self.by_ssrc.insert(ssrc, note) {
+            Ok(_) => Ok(()),
+            Err(_) => Err(AllocError),
+        }
     }
 
     /// Forgets the notes of sources that are not there any more.
@@ -139,24 +293,55 @@ impl Notes {
     pub(crate) fn keep_listed<T: MemberTable>(
         &mut self,
         participant: &Participant<T>,
-    ) -> Result<(), AllocError> {
-        let mut kept = BTreeMap::new(self.alloc);
+    ) -> Result<(), AllocError>
+        ensures { (history : History) → StandsAt participant.now history →
+            OnOk result ((ssrc : ℕ) →
+            noted_in self.new ssrc ≡ kept_if (lists history ssrc) (noted_in self.old ssrc)) }
+    {
+        let mut kept = Notes::new(self.alloc);
         for state in participant.sources() {
-            if let Some(note) = self.by_ssrc.remove(&state.ssrc) {
-                if kept.insert(state.ssrc, note).is_err() {
-                    return Err(AllocError);
-                }
-            }
+            self.hand_to(&mut kept, state.ssrc)?;
         }
-        self.by_ssrc = kept;
+        *self = kept;
         Ok(())
+    }
+
+    /// Hands the note of a source to other notes, if there is one.
+    fn hand_to(&mut self, kept: &mut Notes, ssrc: u32) -> Result<(), AllocError>
+        ensures taken { (other : ℕ) → stored_in self.new other
+            ≡ (if nat_eq ssrc other then None else stored_in self.old other) }
+        ensures given { OnOk result ((other : ℕ) → stored_in kept.new other
+            ≡ (if nat_eq ssrc other then option_or (stored_in self.old other) (stored_in kept.old other)
+            else stored_in kept.old other)) }
+    {
+        match self.by_ssrc.remove(&ssrc) {
+            Some(note) => kept.put(ssrc, note),
+            None => Ok(()),
+        }
     }
 }
 
+/// Whether a block names a sender report of its subject: its LSR is not 0.
+fn names_report(block: &Block) -> bool
+    ensures { result ≡ names_report (block_value block.now) }
+{
+    block.lsr != 0
+}
+
 /// Whether the participant tells of a source.
-pub(crate) fn is_listed<T: MemberTable>(ssrc: u32, participant: &Participant<T>) -> bool {
-    match participant.source_above(ssrc.checked_sub(1)) {
+pub(crate) fn is_listed<T: MemberTable>(ssrc: u32, participant: &Participant<T>) -> bool
+    ensures { (history : History) → StandsAt participant.now history → result ≡ lists history ssrc }
+{
+    match participant.source_above(just_below(ssrc)) {
         Some(state) => state.ssrc == ssrc,
         None => false,
     }
+}
+
+/// The SSRC after which a source of this one comes first, if one is needed for that.
+fn just_below(ssrc: u32) -> Option<u32>
+    ensures behind { is_after result ssrc ≡ true }
+    ensures first { (other : ℕ) → is_after result other ≡ true → ssrc ≤ other }
+{
+    if ssrc == 0 { None } else { Some(ssrc - 1) }
 }

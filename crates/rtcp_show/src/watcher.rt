@@ -1,37 +1,31 @@
 //! What observes a session and writes what it sees.
 
-ghost use Rattle.std.specs.Prelude.{◌≡◌, ◌+◌, ◌*◌, ◌++◌, ℕ, List, IfSome, OnOk, Ok, true};
+ghost use Rattle.std.specs.Prelude.{◌≡◌, ◌+◌, ◌*◌, ◌∷◌, [], List, IfErr, IsOk, is_ok, None, OnOk, Some, false, true};
 ghost use Rattle.std.specs.Io.KnownBytes.{Appends};
 ghost use Rattle.std.specs.Net.Addr.{ipv4_bits};
 ghost use Rattle.std.specs.Net.Socket.{v4_ip, v4_port};
 ghost use Rattle.rtcp_engine.specs.Histories.{History};
 ghost use Rattle.rtcp_engine.specs.States.{StandsAt};
 ghost use Rattle.rtcp_engine.specs.Views.{answer_value, event_value};
-ghost use Rattle.rtcp_show.specs.Changes.{KeepsListing, ShowsChanges, tells_of_others};
-ghost use Rattle.rtcp_show.specs.Wordings.{shown_in};
+ghost use Rattle.rtcp_text.specs.declared.fault.TextFault.{TextFault as Fault};
+ghost use Rattle.rtcp_show.specs.Watchers.{IsOutFault, arrival_at};
+ghost use Rattle.rtcp_show.specs.Lines.{moment_of_event as moment_in, unsent_text};
 ghost use Rattle.rtcp_show.specs.declared.wording.Wording.TheVariants.{Brief};
-ghost use Rattle.rtcp_show.specs.Lines.{ReadsAs, ShowsBothBy, moment_of_event as moment_in, unsent_text};
 
-use crate::changes::{push_changes, push_listing};
-use crate::flows::Flows;
-use crate::lines::{compound_of, moment_of, push_read_lines, push_unsent};
-use crate::notes::Notes;
-use crate::numbers::{number_of_endpoint, push_moment};
-use crate::rows::push_sources;
+use crate::board::Board;
+use crate::changes::Roles;
+use crate::lines::{compound_of, moment_of};
+use crate::numbers::number_of_endpoint;
+use crate::page::Page;
 use crate::wording::Wording;
 use rtcp_clock::ntp_of;
 use rtcp_engine::{Answer, Event, Participant};
-use rtcp_members::{MemberTable, SourceState};
+use rtcp_members::MemberTable;
 use rtcp_serve::Observer;
 use rtcp_text::TextFault;
-use rtcp_wire::Compound;
 use std::alloc::{AllocError, Global};
 use std::io::Write;
-use std::mem;
 use std::net::SocketAddrV4;
-
-/// Microseconds in a second.
-const SECOND: u64 = 1_000_000;
 
 /// What a watcher knows of a session from its start.
 #[derive(Clone, Copy, Debug)]
@@ -50,27 +44,18 @@ pub(crate) struct Terms {
 #[derive(Drop)]
 pub struct Watcher<W> {
     terms: Terms,
-    notes: Notes,
-    flows: Flows,
-    writer: W,
-    /// What is to be written next, kept from part to part.
-    text: Vec<u8>,
-    /// The counts and the rows that were written last.
-    rows: Vec<u8>,
-    /// Room for the next ones.
-    next_rows: Vec<u8>,
-    /// The last second in which the sources were looked at.
-    second: u64,
-    /// The moment of the last event.
+    page: Page<W>,
+    roles: Roles,
+    board: Board,
+    /// The moment of the last event that it was told as an observer.
     moment: u64,
-    /// The sources, as they were after the last event that changed a role.
-    listing: Vec<SourceState>,
-    /// Room for the next ones.
-    next_listing: Vec<SourceState>,
+    /// The first fault of what it was told as an observer.
+    fault: Option<TextFault>,
 }
 
 impl<W: Drop> Watcher<W> {
-    ghost use Rattle.rtcp_show.specs.Watchers.{terms_of, writer_of};
+    ghost use Rattle.rtcp_show.specs.Observations.{Knows};
+    ghost use Rattle.rtcp_show.specs.Watchers.{fault_of, listing_of, rows_of, terms_of, writer_of};
 
     /// A watcher of a session that begins now, whose moment 0 has this NTP timestamp. Compounds go to `to`.
     pub fn new(alloc: Global, ntp_base: u64, to: SocketAddrV4, writer: W) -> Watcher<W>
@@ -80,6 +65,10 @@ impl<W: Drop> Watcher<W> {
           wording = Brief;
         } }
         ensures writer { writer_of result ≡ writer }
+        ensures listing { listing_of result ≡ [] }
+        ensures rows { rows_of result ≡ [] }
+        ensures knows { Knows result [] }
+        ensures fault { fault_of result ≡ None }
     {
         Watcher {
             terms: Terms {
@@ -87,27 +76,17 @@ impl<W: Drop> Watcher<W> {
                 to: number_of_endpoint(to),
                 wording: Wording::Brief,
             },
-            notes: Notes::new(alloc),
-            flows: Flows::new(alloc),
-            writer,
-            text: Vec::new(alloc),
-            rows: Vec::new(alloc),
-            next_rows: Vec::new(alloc),
-            second: 0,
+            page: Page::new(alloc, writer),
+            roles: Roles::new(alloc),
+            board: Board::new(alloc),
             moment: 0,
-            listing: Vec::new(alloc),
-            next_listing: Vec::new(alloc),
+            fault: None,
         }
     }
 
     /// The same watcher, which shows the packets of datagrams in this wording.
     pub fn with_wording(self, wording: Wording) -> Watcher<W>
-        ensures terms { terms_of result ≡ record {
-          ntp_base = (terms_of self).ntp_base;
-          to = (terms_of self).to;
-          wording = wording;
-        } }
-        ensures writer { writer_of result ≡ writer_of self }
+        ensures { result ≡ record self { terms = record (terms_of self) { wording = wording } } }
     {
         let terms = Terms {
             wording,
@@ -115,21 +94,30 @@ impl<W: Drop> Watcher<W> {
         };
         Watcher { terms, ..self }
     }
+
+    /// The first fault of what the watcher was told as an observer: `None` where all was written.
+    pub fn fault(&self) -> Option<TextFault>
+        ensures { result ≡ fault_of self.now }
+    {
+        self.fault
+    }
 }
 
 impl<W: Write> Watcher<W> {
-    ghost use Rattle.rtcp_show.specs.Watchers.{ShowsSources, ShowsThose, held_by, listing_of, terms_of, writer_of};
+    ghost use Rattle.rtcp_show.specs.Observations.{IsRead, Knows, Observation};
+    ghost use Rattle.rtcp_show.specs.Watchers.{Watches, fault_of, held_by, moment_told, terms_of, writer_of};
 
     /// The writer.
     pub fn into_inner(self) -> W
         ensures { result ≡ writer_of self }
     {
-        self.writer
+        self.page.writer
     }
 
     /// Writes the lines of an event of the session and its answer, a line for each source whose role changed
     /// ([`push_change`](crate::push_change)), and who is there where another second has begun.
-    /// `participant` is that of the session, after the event.
+    /// `participant` is that of the session, after the event. It lists nobody from its leave on: then no role has
+    /// changed, and of a source that the host dismissed no line says so.
     ///
     /// # Errors
     ///
@@ -143,122 +131,31 @@ impl<W: Write> Watcher<W> {
         answer: &Answer,
         participant: &Participant<T>,
     ) -> Result<(), TextFault>
+        ensures watches { (history : History) → StandsAt participant.now history →
+            OnOk result (Watches W.contents (event_value event.now) (answer_value answer.now) history self.old
+            self.new) }
+        ensures knows { (seen : Observation) (earlier : List Observation) → StandsAt participant.now seen.history →
+            seen.event ≡ event_value event.now → seen.answer ≡ answer_value answer.now → IsRead seen →
+            Knows self.old earlier → OnOk result (Knows self.new (seen ∷ earlier)) }
+        ensures fault { IfErr result IsOutFault }
         ensures terms { terms_of self.new ≡ terms_of self.old }
-        ensures written { (history : History) → StandsAt participant.now history →
-            OnOk result ((lines changes those : List ℕ)
-            × ShowsBothBy (shown_in (terms_of self.old).wording) (terms_of self.old).to (event_value event.now)
-            (answer_value answer.now) lines
-            × ShowsChanges (tells_of_others (answer_value answer.now)) (moment_in (event_value event.now)) history
-            (listing_of self.old) changes
-            × ShowsThose (moment_in (event_value event.now)) history those
-            × Appends (held_by W.contents self.old) (held_by W.contents self.new) (lines ++ (changes ++ those))) }
-        ensures keeps { (history : History) → StandsAt participant.now history →
-            OnOk result (KeepsListing (tells_of_others (answer_value answer.now)) history (listing_of self.old)
-            (listing_of self.new)) }
+        ensures told { fault_of self.new ≡ fault_of self.old }
     {
         let now = moment_of(event);
         let compound = compound_of(event, answer);
-        let shown = self.show_event(event, answer, &compound);
-        if let Some(compound) = &compound {
-            let arrived = (ntp_of(self.terms.ntp_base, now) / 65_536 % (1 << 32)) as u32;
-            self.notes.note(arrived, compound, participant);
-        }
-        self.flows.note(event, answer, &compound, participant);
-        let standing = self.show_standing(now, answer, participant);
-        match shown {
-            Ok(()) => standing,
-            Err(fault) => Err(fault),
-        }
-    }
-
-    /// Writes whose roles changed, and who is there.
-    fn show_standing<T: MemberTable>(
-        &mut self,
-        now: u64,
-        answer: &Answer,
-        participant: &Participant<T>,
-    ) -> Result<(), TextFault>
-        ensures terms { terms_of self.new ≡ terms_of self.old }
-        ensures written { (history : History) → StandsAt participant.now history →
-            OnOk result ((changes those : List ℕ)
-            × ShowsChanges (tells_of_others (answer_value answer.now)) now history (listing_of self.old) changes
-            × ShowsThose now history those
-            × Appends (held_by W.contents self.old) (held_by W.contents self.new) (changes ++ those)) }
-        ensures keeps { (history : History) → StandsAt participant.now history →
-            OnOk result (KeepsListing (tells_of_others (answer_value answer.now)) history (listing_of self.old)
-            (listing_of self.new)) }
-    {
-        let changed = self.show_changes(now, answer, participant);
-        let listed = self.show_sources(now, participant);
-        match changed {
-            Ok(()) => listed,
-            Err(fault) => Err(fault),
-        }
-    }
-
-    /// Writes whose roles changed since the sources were listed last, where the answer says that some did. A
-    /// participant that has left tells of nobody.
-    fn show_changes<T: MemberTable>(
-        &mut self,
-        now: u64,
-        answer: &Answer,
-        participant: &Participant<T>,
-    ) -> Result<(), TextFault>
-        ensures terms { terms_of self.new ≡ terms_of self.old }
-        ensures written { (history : History) → StandsAt participant.now history →
-            OnOk result ((changes : List ℕ)
-            × ShowsChanges (tells_of_others (answer_value answer.now)) now history (listing_of self.old) changes
-            × Appends (held_by W.contents self.old) (held_by W.contents self.new) changes) }
-        ensures keeps { (history : History) → StandsAt participant.now history →
-            OnOk result (KeepsListing (tells_of_others (answer_value answer.now)) history (listing_of self.old)
-            (listing_of self.new)) }
-    {
-        match answer {
-            Ok(step) if step.others_changed && step.next.is_some() => {
-                self.write_changes(now, participant)
-            }
-            _ => Ok(()),
-        }
-    }
-
-    /// Writes whose roles changed since the sources were listed last.
-    fn write_changes<T: MemberTable>(
-        &mut self,
-        now: u64,
-        participant: &Participant<T>,
-    ) -> Result<(), TextFault>
-        ensures terms { terms_of self.new ≡ terms_of self.old }
-        ensures written { (history : History) → StandsAt participant.now history →
-            OnOk result ((changes : List ℕ) × ShowsChanges true now history (listing_of self.old) changes
-            × Appends (held_by W.contents self.old) (held_by W.contents self.new) changes) }
-        ensures keeps { (history : History) → StandsAt participant.now history →
-            OnOk result (KeepsListing true history (listing_of self.old) (listing_of self.new)) }
-    {
-        match self.compose_changes(now, participant) {
-            Ok(()) => self.write(),
-            Err(AllocError) => Err(TextFault::Memory),
-        }
-    }
-
-    /// Composes whose roles changed since the sources were listed last, and lists them.
-    fn compose_changes<T: MemberTable>(
-        &mut self,
-        now: u64,
-        participant: &Participant<T>,
-    ) -> Result<(), AllocError>
-        ensures terms { terms_of self.new ≡ terms_of self.old }
-        ensures writer { writer_of self.new ≡ writer_of self.old }
-        ensures composed { (history : History) → StandsAt participant.now history →
-            OnOk result (ShowsChanges true now history (listing_of self.old) self.new.text.items) }
-        ensures keeps { (history : History) → StandsAt participant.now history →
-            OnOk result (KeepsListing true history (listing_of self.old) (listing_of self.new)) }
-    {
-        self.text.clear();
-        self.next_listing.clear();
-        push_listing(&mut self.next_listing, participant)?;
-        push_changes(&mut self.text, now, &self.listing, &self.next_listing)?;
-        mem::swap(&mut self.listing, &mut self.next_listing);
-        Ok(())
+        let terms = self.terms;
+        let shown = self
+            .page
+            .show_event(terms.wording, terms.to, event, answer, &compound);
+        let arrived = arrival(terms.ntp_base, now);
+        let noted = self
+            .board
+            .note(arrived, event, answer, &compound, participant);
+        let changed = self
+            .page
+            .show_changes(&mut self.roles, event, answer, participant);
+        let listed = self.page.show_sources(&mut self.board, now, participant);
+        shown.and(or_memory(noted)).and(changed).and(listed)
     }
 
     /// Writes that the compound of the event before was not handed to the network, at this moment.
@@ -268,130 +165,83 @@ impl<W: Write> Watcher<W> {
     /// - [`TextFault::Write`] where a call of the writer fails.
     /// - [`TextFault::Memory`] where memory is refused.
     pub fn watch_unsent(&mut self, moment: u64) -> Result<(), TextFault>
-        ensures terms { terms_of self.new ≡ terms_of self.old }
         ensures written { OnOk result (Appends (held_by W.contents self.old) (held_by W.contents self.new)
             (unsent_text moment (terms_of self.old).to)) }
-    {
-        self.text.clear();
-        match push_unsent(&mut self.text, moment, self.terms.to) {
-            Ok(()) => self.write(),
-            Err(AllocError) => Err(TextFault::Memory),
-        }
-    }
-
-    /// Writes the lines of an event and its answer.
-    fn show_event(
-        &mut self,
-        event: &Event<'_>,
-        answer: &Answer,
-        compound: &Option<Compound<'_>>,
-    ) -> Result<(), TextFault>
-        requires { IfSome compound.now (ReadsAs (event_value event.now)) }
+        ensures fault { IfErr result IsOutFault }
         ensures terms { terms_of self.new ≡ terms_of self.old }
-        ensures listing { listing_of self.new ≡ listing_of self.old }
-        ensures written { OnOk result ((lines : List ℕ)
-            × ShowsBothBy (shown_in (terms_of self.old).wording) (terms_of self.old).to (event_value event.now)
-            (answer_value answer.now) lines
-            × Appends (held_by W.contents self.old) (held_by W.contents self.new) lines) }
+        ensures told { fault_of self.new ≡ fault_of self.old }
     {
-        self.text.clear();
-        let terms = self.terms;
-        match push_read_lines(
-            &mut self.text,
-            terms.wording,
-            terms.to,
-            event,
-            answer,
-            compound,
-        ) {
-            Ok(()) => self.write(),
-            Err(AllocError) => Err(TextFault::Memory),
-        }
-    }
-
-    /// Writes who is there, if another second has begun and it is not as it was written last.
-    fn show_sources<T: MemberTable>(
-        &mut self,
-        now: u64,
-        participant: &Participant<T>,
-    ) -> Result<(), TextFault>
-        ensures terms { terms_of self.new ≡ terms_of self.old }
-        ensures listing { listing_of self.new ≡ listing_of self.old }
-        ensures written { (history : History) → StandsAt participant.now history →
-            OnOk result ((those : List ℕ) × ShowsThose now history those
-            × Appends (held_by W.contents self.old) (held_by W.contents self.new) those) }
-    {
-        if now / SECOND <= self.second {
-            return Ok(());
-        }
-        self.second = now / SECOND;
-        let _ = self.notes.keep_listed(participant);
-        let _ = self.flows.look(now, participant);
-        match self.compose(now, participant) {
-            Ok(true) => self.write(),
-            Ok(false) => Ok(()),
-            Err(AllocError) => Err(TextFault::Memory),
-        }
-    }
-
-    /// Composes who is there, and says whether that is not as it was written last.
-    fn compose<T: MemberTable>(
-        &mut self,
-        now: u64,
-        participant: &Participant<T>,
-    ) -> Result<bool, AllocError>
-        ensures terms { terms_of self.new ≡ terms_of self.old }
-        ensures writer { writer_of self.new ≡ writer_of self.old }
-        ensures listing { listing_of self.new ≡ listing_of self.old }
-        ensures composed { (history : History) → StandsAt participant.now history →
-            result ≡ Ok true → ShowsSources now history self.new.text.items }
-    {
-        self.next_rows.clear();
-        push_sources(&mut self.next_rows, participant, &self.notes, &self.flows)?;
-        if self.next_rows == self.rows {
-            return Ok(false);
-        }
-        self.text.clear();
-        push_moment(&mut self.text, now)?;
-        self.text.push(b' ')?;
-        self.text.extend_from_slice(&self.next_rows)?;
-        mem::swap(&mut self.rows, &mut self.next_rows);
-        Ok(true)
-    }
-
-    /// Writes what was composed.
-    fn write(&mut self) -> Result<(), TextFault>
-        ensures terms { terms_of self.new ≡ terms_of self.old }
-        ensures listing { listing_of self.new ≡ listing_of self.old }
-        ensures written { OnOk result
-            (Appends (held_by W.contents self.old) (held_by W.contents self.new) self.old.text.items) }
-    {
-        if self.writer.write_all(&self.text).is_err() {
-            return Err(TextFault::Write);
-        }
-        match self.writer.flush() {
-            Ok(()) => Ok(()),
-            Err(_) => Err(TextFault::Write),
-        }
+        self.page.show_unsent(moment, self.terms.to)
     }
 }
 
 impl<W: Write> Observer for Watcher<W> {
-    /// Writes what is to be shown. What cannot be written is lost.
+    ghost use Rattle.rtcp_show.specs.Observations.{IsRead, Knows, Observation};
+    ghost use Rattle.rtcp_show.specs.Watchers.{Watches, fault_of, held_by, moment_told, terms_of};
+
+    /// Writes what is to be shown, of refused events too. What cannot be written is lost, and its fault is kept.
     fn told<T: MemberTable>(
         &mut self,
         event: &Event<'_>,
         answer: &Answer,
         participant: &Participant<T>,
-    ) {
+    )
+        ensures watches { (history : History) → StandsAt participant.now history → fault_of self.new ≡ None →
+            Watches W.contents (event_value event.now) (answer_value answer.now) history self.old self.new }
+        ensures knows { (seen : Observation) (earlier : List Observation) → StandsAt participant.now seen.history →
+            seen.event ≡ event_value event.now → seen.answer ≡ answer_value answer.now → IsRead seen →
+            Knows self.old earlier → fault_of self.new ≡ None → Knows self.new (seen ∷ earlier) }
+        ensures moment { moment_told self.new ≡ moment_in (event_value event.now) }
+        ensures terms { terms_of self.new ≡ terms_of self.old }
+        ensures lasting { (fault : Fault) → fault_of self.old ≡ Some fault → fault_of self.new ≡ Some fault }
+    {
+        let shown = self.watch(event, answer, participant);
         self.moment = moment_of(event);
-        let _ = self.watch(event, answer, participant);
+        self.fault = first_fault(self.fault, shown);
     }
 
-    /// Writes that a send failed, at the moment of the event before.
-    fn sent(&mut self, failed: bool) {
+    /// Writes that a send failed, at the moment of the event before. What cannot be written is lost, and its fault is
+    /// kept.
+    fn sent(&mut self, failed: bool)
+        ensures told { failed ≡ true → fault_of self.new ≡ None →
+            Appends (held_by W.contents self.old) (held_by W.contents self.new)
+            (unsent_text (moment_told self.old) (terms_of self.old).to) }
+        ensures untold { failed ≡ false → self.new ≡ self.old }
+        ensures terms { terms_of self.new ≡ terms_of self.old }
+        ensures lasting { (fault : Fault) → fault_of self.old ≡ Some fault → fault_of self.new ≡ Some fault }
+    {
         if failed {
-            let _ = self.watch_unsent(self.moment);
+            let shown = self.watch_unsent(self.moment);
+            self.fault = first_fault(self.fault, shown);
         }
+    }
+}
+
+/// When an event came, by the middle 32 bits of its NTP timestamp.
+fn arrival(ntp_base: u64, now: u64) -> u32
+    ensures { result ≡ arrival_at ntp_base now }
+{
+    (ntp_of(ntp_base, now) / 65_536 % (1 << 32)) as u32
+}
+
+/// The same, where memory may have been refused.
+fn or_memory(noted: Result<(), AllocError>) -> Result<(), TextFault>
+    ensures ok { is_ok result ≡ is_ok noted }
+    ensures fault { IfErr result IsOutFault }
+{
+    match noted {
+        Ok(()) => Ok(()),
+        Err(AllocError) => Err(TextFault::Memory),
+    }
+}
+
+/// The first fault, after another result.
+fn first_fault(fault: Option<TextFault>, shown: Result<(), TextFault>) -> Option<TextFault>
+    ensures lasting { (found : Fault) → fault ≡ Some found → result ≡ Some found }
+    ensures whole { result ≡ None → IsOk shown }
+{
+    match (fault, shown) {
+        (None, Err(found)) => Some(found),
+        _ => fault,
     }
 }

@@ -1,57 +1,54 @@
--- The lines of the event, and then whose roles changed and who is there. Between them notes alone are written.
-use Rattle.std.proofs.Common.{◌≡◌, ◌++◌, ◌∙◌, ap, List, ℕ}
-use Rattle.std.proofs.KnownBytes.{Appends-trans}
-use Rattle.std.proofs.lemmas.Result.{on_ok_weaker}
-use Rattle.std.specs.Io.KnownBytes.{Appends}
+-- The lines of the event, what it tells of sources, whose roles changed, and who is there.
+use Rattle.std.proofs.Common.{◌∙◌, refl, sym}
+use Rattle.rtcp_show.specs.declared.watcher.Watcher.{Watcher}
 use Rattle.rtcp_engine.specs.Views.{answer_value, event_value}
-use Rattle.rtcp_show.specs.Lines.{ShowsBothBy, moment_of_event}
-use Rattle.rtcp_show.specs.Changes.{ShowsChanges, tells_of_others}
-use Rattle.rtcp_show.specs.Wordings.{shown_in}
-use Rattle.rtcp_show.specs.Watchers.{ShowsThose, held_by, listing_of, terms_of, writer_of}
-use Rattle.rtcp_show.proofs.watcher.Watcher.watch.Goals.{in-Some, in_default}
+use Rattle.rtcp_show.proofs.ObservationLemmas.{known_on}
+use Rattle.rtcp_show.proofs.WatchLemmas.{all_ok, at_ok, watched}
 use Rattle.rtcp_show.proofs.watcher.Watcher.watch.Goals as goal
 
-pub returns-in-Ok-clause-written : goal.returns-in-Ok-clause-written
-returns-in-Ok-clause-written g c = λ history stands.
-    let at_first = held_by g.W.Write.contents c.args.self.now in
-    let between = held_by g.W.Write.contents c.show_event-shown.new.self in
-    let in_the_end = held_by g.W.Write.contents c.show_standing-standing.new.self in
-    let Lines : List ℕ → Type 0 =
-    ShowsBothBy (shown_in (terms_of c.args.self.now).wording) (terms_of c.args.self.now).to
-    (event_value c.args.event.now) (answer_value c.args.answer.now) in
-    let moment = moment_of_event (event_value c.args.event.now) in
-    let Changes : List ℕ → Type 0 =
-    ShowsChanges (tells_of_others (answer_value c.args.answer.now)) moment history (listing_of c.args.self.now) in
-    let Those : List ℕ → Type 0 = ShowsThose moment history in
-    let first : (lines : List ℕ) × Lines lines × Appends at_first between lines = c.in-Ok.ensures.written in
-    let same : writer_of c.match-compound.self ≡ writer_of c.show_event-shown.new.self = elim c.match-compound.branch [
-      | in-Some noted ↦ ap writer_of noted.self-is
-      | in_default none ↦ ap writer_of none.self-is
-    ] in
-    let listed : listing_of c.match-compound.self ≡ listing_of c.args.self.now = elim c.match-compound.branch [
-      | in-Some noted ↦ ap listing_of noted.self-is ∙ c.show_event-shown.ensures.listing
-      | in_default none ↦ ap listing_of none.self-is ∙ c.show_event-shown.ensures.listing
-    ] in
-    let step : (changes : List ℕ) × (those : List ℕ) × Changes changes × Those those
-    × Appends between in_the_end (changes ++ those)
-    → (lines : List ℕ) × (changes : List ℕ) × (those : List ℕ) × Lines lines × Changes changes × Those those
-    × Appends at_first in_the_end (lines ++ (changes ++ those)) =
-    λ given. (
-      first.0,
-      given.0,
-      given.1,
-      first.1,
-      given.2,
-      given.3,
-      Appends-trans at_first between in_the_end first.0 (given.0 ++ given.1) first.2 given.4,
-    ) in
-    on_ok_weaker c.show_standing-standing.result step
-    (rw (c.moment_of-now.ensures, same, listed) at (c.show_standing-standing.ensures.written history stands))
+pub returns-clause-watches : goal.returns-clause-watches
+returns-clause-watches g c = λ history stands. rw (c.and-3.ensures, c.and-2.ensures, c.and.ensures)
+    (all_ok c.show_event-shown.result c.or_memory.result c.show_changes-changed.result c.show_sources-listed.result
+    (λ lined kept told listed.
+    let event = event_value c.args.event.now in
+    let answer = answer_value c.args.answer.now in
+    let board = c.note-noted.new.self in
+    let noted = sym c.or_memory.ensures.ok ∙ kept in
+    let shown = at_ok c.show_event-shown.result lined c.show_event-shown.ensures.written in
+    let changed = at_ok c.show_changes-changed.result told (c.show_changes-changed.ensures.written history stands) in
+    let listing = at_ok c.show_changes-changed.result told (c.show_changes-changed.ensures.keeps history stands) in
+    let written = at_ok c.show_sources-listed.result listed c.show_sources-listed.ensures.written in
+    let rows = at_ok c.show_sources-listed.result listed (c.show_sources-listed.ensures.keeps history stands) in
+    let looks = at_ok c.show_sources-listed.result listed (c.show_sources-listed.ensures.looks history stands) in
+    watched event answer history c.args.self.now _ c.show_event-shown.new.self c.show_changes-changed.new.self board
+    shown
+    (record {
+      noted = λ packets has ssrc. rw (
+        c.arrival-arrived.ensures,
+        c.moment_of-now.ensures,
+        c.compound_of-compound.ensures.packets packets has,
+      )
+          at (at_ok c.note-noted.result noted (c.note-noted.ensures.noted history stands) ssrc);
+      flowing = λ packets media has comes ssrc. rw (c.compound_of-compound.ensures.packets packets has)
+          at (at_ok c.note-noted.result noted (c.note-noted.ensures.flowing history media stands comes) ssrc);
+      looked = c.note-noted.ensures.looked;
+      rows = c.note-noted.ensures.rows;
+      second = c.note-noted.ensures.second;
+    })
+    changed listing (rw c.moment_of-now.ensures at written) (rw c.moment_of-now.ensures at rows)
+    (rw c.moment_of-now.ensures at looks) (rw c.moment_of-now.ensures at c.show_sources-listed.ensures.second)))
 
-pub returns-in-Ok-clause-keeps : goal.returns-in-Ok-clause-keeps
-returns-in-Ok-clause-keeps g c = λ history stands.
-    let listed : listing_of c.match-compound.self ≡ listing_of c.args.self.now = elim c.match-compound.branch [
-      | in-Some noted ↦ ap listing_of noted.self-is ∙ c.show_event-shown.ensures.listing
-      | in_default none ↦ ap listing_of none.self-is ∙ c.show_event-shown.ensures.listing
-    ] in
-    rw listed at (c.show_standing-standing.ensures.keeps history stands)
+pub returns-clause-knows : goal.returns-clause-knows
+returns-clause-knows g c = λ seen earlier stands event answer read knows.
+    let before = c.args.self.now in
+    let after : Watcher g.row.W.Denot = record {
+      terms = before.terms;
+      page = c.show_sources-listed.new.self;
+      roles = c.show_changes-changed.new.roles;
+      board = c.show_sources-listed.new.board;
+      moment = before.moment;
+      fault = before.fault;
+    } in
+    known_on {W = g.row.W.Denot} g.W.Write.contents c.and-3.result (event_value c.args.event.now)
+    (answer_value c.args.answer.now) seen earlier before after event answer read refl knows
+    (returns-clause-watches g c seen.history stands)

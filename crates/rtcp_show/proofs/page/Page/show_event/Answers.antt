@@ -4,16 +4,16 @@ use Rattle.std.specs.Io.KnownBytes.{Appends}
 use Rattle.rtcp_engine.specs.Views.{answer_value, event_value}
 use Rattle.rtcp_show.specs.Lines.{ShowsBothBy}
 use Rattle.rtcp_show.specs.Wordings.{shown_in}
-use Rattle.rtcp_show.specs.Watchers.{held_by, terms_of}
-use Rattle.rtcp_show.proofs.watcher.Watcher.show_event.Goals as goal
+use Rattle.rtcp_show.specs.Watchers.{held_on}
+use Rattle.rtcp_show.proofs.page.Page.show_event.Goals as goal
 
 pub returns-in-Ok-clause-written : goal.returns-in-Ok-clause-written
 returns-in-Ok-clause-written g c =
-    let held = held_by g.W.Write.contents c.args.self.now in
-    let holds = held_by g.W.Write.contents c.write.new.self in
+    let held = held_on g.W.Write.contents c.args.self.now in
+    let holds = held_on g.W.Write.contents c.write.new.self in
     let text = c.push_read_lines.new.out.items in
     let Says : List ℕ → Type 0 =
-    ShowsBothBy (shown_in (terms_of c.args.self.now).wording) (terms_of c.args.self.now).to
+    ShowsBothBy (shown_in c.args.wording) c.args.to
     (event_value c.args.event.now) (answer_value c.args.answer.now) in
     let given : (lines : List ℕ) × Says lines × (text ≡ c.clear.new.self.items ++ lines) = c.in-Ok.ensures in
     let same : text ≡ given.0 = given.2 ∙ ap (λ xs. xs ++ given.0) c.clear.ensures.items in

@@ -1,0 +1,159 @@
+-- What a watcher writes and keeps, one part after the other.
+use Rattle.std.proofs.Common.{◌≡◌, ◌++◌, ◌∙◌, ap, ℕ, List, Bool, true, false, if◌then◌else◌, Option, Result, Ok, Err, OnOk, refl, sym}
+use Rattle.std.specs.Result.{is_ok, result_and}
+use Rattle.std.proofs.lemmas.Bool.{false≢true}
+use Rattle.std.proofs.KnownBytes.{Appends-trans}
+use Rattle.std.specs.Io.KnownBytes.{Appends}
+use Rattle.rtcp_engine.specs.Acts.{EventValue}
+use Rattle.rtcp_engine.specs.Histories.{History, setup_at}
+use Rattle.rtcp_engine.specs.Steps.{AnswerValue}
+use Rattle.rtcp_wire.specs.Values.{RtcpPacket}
+use Rattle.rtcp_show.specs.declared.board.Board.{Board}
+use Rattle.rtcp_show.specs.declared.page.Page.{Page}
+use Rattle.rtcp_show.specs.declared.watcher.Watcher.{Watcher}
+use Rattle.rtcp_show.specs.Changes.{KeepsListing, ShowsChanges, lists_anew, tells_of_others}
+use Rattle.rtcp_show.specs.Flows.{IsMediaOf, elapsed_since, flow_in, flow_looked, heard_if, peer_of_event}
+use Rattle.rtcp_show.specs.Lines.{HasPackets, ShowsBothBy, moment_of_event}
+use Rattle.rtcp_show.specs.Listings.{lists, told_of}
+use Rattle.rtcp_show.specs.Notes.{kept_if, noted_if, noted_in}
+use Rattle.rtcp_show.specs.Watchers.{KeepsRows, LooksIf, Watches, arrival_at, held_on, is_due, listed_in, news_text, second_after, terms_of}
+use Rattle.rtcp_show.specs.Observations.{Knows, Observation}
+use Rattle.rtcp_show.specs.Wordings.{shown_in}
+use Rattle.rtcp_text.specs.declared.fault.TextFault.{TextFault}
+
+-- ---- Results
+
+pub at_ok : {T E P : Type 0} (r : Result T E) → is_ok r ≡ true → OnOk r P → P
+at_ok (Ok x) ok given = given
+at_ok (Err e) ok given = absurd (false≢true ok)
+
+-- What holds where all four are well holds where their conjunction is.
+pub all_ok :
+    {T E P : Type 0} (a b c d : Result T E)
+    → (is_ok a ≡ true → is_ok b ≡ true → is_ok c ≡ true → is_ok d ≡ true → P)
+    → OnOk (result_and (result_and (result_and a b) c) d) P
+all_ok (Ok a) (Ok b) (Ok c) (Ok d) given = given refl refl refl refl
+all_ok (Ok a) (Ok b) (Ok c) (Err e) given = tt
+all_ok (Ok a) (Ok b) (Err e) d given = tt
+all_ok (Ok a) (Err e) c d given = tt
+all_ok (Err e) b c d given = tt
+
+pub first_ok : {T E : Type 0} (P : Type 0) (a b : Result T E) → OnOk a P → OnOk (result_and a b) P
+first_ok P (Ok a) (Ok b) given = given
+first_ok P (Ok a) (Err e) given = tt
+first_ok P (Err e) b given = tt
+
+pub second_ok : {T E : Type 0} (P : Type 0) (a b : Result T E) → OnOk b P → OnOk (result_and a b) P
+second_ok P (Ok a) b given = given
+second_ok P (Err e) b given = tt
+
+-- ---- What is kept
+
+-- what an event tells of sources, before the rows are due
+pub record Notes
+    (event : EventValue) (answer : AnswerValue) (history : History) (arrived : ℕ) (before after : Board) : Type 0 where
+  pub noted : (packets : List RtcpPacket) → HasPackets event answer packets → (ssrc : ℕ) →
+      noted_in after.notes ssrc ≡ noted_if (lists history ssrc) arrived (setup_at history).ssrc packets ssrc
+      (noted_in before.notes ssrc)
+  pub flowing : (packets : List RtcpPacket) (media : Option ℕ) → HasPackets event answer packets →
+      IsMediaOf event answer media → (ssrc : ℕ) →
+      flow_in after.flows ssrc ≡ heard_if (lists history ssrc) (peer_of_event event) packets media ssrc
+      (flow_in before.flows ssrc)
+  pub looked : after.flows.looked ≡ before.flows.looked
+  pub rows : after.rows ≡ before.rows
+  pub second : after.second ≡ before.second
+
+looked_notes :
+    (due : Bool) (now : ℕ) (history : History) (before after : Board) → LooksIf due now history before after →
+    (ssrc : ℕ)
+    → noted_in after.notes ssrc
+    ≡ (if due then kept_if (lists history ssrc) (noted_in before.notes ssrc) else noted_in before.notes ssrc)
+looked_notes true now history before after looks ssrc = looks.notes ssrc
+looked_notes false now history before after stays ssrc = stays.notes ssrc
+
+looked_flows :
+    (due : Bool) (now : ℕ) (history : History) (before after : Board) → LooksIf due now history before after →
+    (ssrc : ℕ)
+    → flow_in after.flows ssrc
+    ≡ (if due then flow_looked (elapsed_since before.flows.looked now) (told_of history ssrc)
+    (flow_in before.flows ssrc)
+    else flow_in before.flows ssrc)
+looked_flows true now history before after looks ssrc = looks.flows ssrc
+looked_flows false now history before after stays ssrc = stays.flows ssrc
+
+looked_then :
+    (due : Bool) (now : ℕ) (history : History) (before after : Board) → LooksIf due now history before after
+    → after.flows.looked ≡ (if due then now else before.flows.looked)
+looked_then true now history before after looks = looks.looked
+looked_then false now history before after stays = stays.looked
+
+-- ---- The whole
+
+pub watched :
+    {W : Type 0} {contents : W → Option (List ℕ)} (event : EventValue) (answer : AnswerValue) (history : History)
+    (before after : Watcher W) (lined told : Page W) (noted : Board)
+    → (lines : List ℕ) × ShowsBothBy (shown_in (terms_of before).wording) (terms_of before).to event answer lines
+    × Appends (held_on contents before.page) (held_on contents lined) lines
+    → Notes event answer history (arrival_at (terms_of before).ntp_base (moment_of_event event)) before.board noted
+    → (changes : List ℕ) × ShowsChanges (tells_of_others event answer) (moment_of_event event) history
+    (listed_in before.roles) changes × Appends (held_on contents lined) (held_on contents told) changes
+    → KeepsListing (lists_anew event answer) history (listed_in before.roles) (listed_in after.roles)
+    → Appends (held_on contents told) (held_on contents after.page)
+    (news_text (is_due noted.second (moment_of_event event)) (moment_of_event event) noted.rows.items
+    after.board.rows.items)
+    → KeepsRows (is_due noted.second (moment_of_event event)) history after.board noted.rows.items
+    after.board.rows.items
+    → LooksIf (is_due noted.second (moment_of_event event)) (moment_of_event event) history noted after.board
+    → after.board.second ≡ second_after noted.second (moment_of_event event)
+    → Watches contents event answer history before after
+watched {contents = contents} event answer history before after lined told noted shown notes changed listed written
+    rows looks second =
+    let moment = moment_of_event event in
+    let news = news_text (is_due noted.second moment) moment noted.rows.items after.board.rows.items in
+    let items = ap (λ rows. rows.items) notes.rows in
+    record {
+      lines = shown.0;
+      changes = changed.0;
+      shows = shown.1;
+      tells = changed.1;
+      writes = rw (sym notes.second, sym items)
+          (Appends-trans (held_on contents before.page) (held_on contents lined) (held_on contents after.page) shown.0
+          (changed.0 ++ news) shown.2
+          (Appends-trans (held_on contents lined) (held_on contents told) (held_on contents after.page) changed.0 news
+          changed.2 written));
+      listing = listed;
+      rows = rw (sym notes.second, sym items) rows;
+      second = second ∙ ap (λ s. second_after s moment) notes.second;
+      looked = rw (sym notes.second, sym notes.looked) (looked_then _ moment history noted after.board looks);
+      notes = λ packets says ssrc.
+          rw (sym notes.second, sym (notes.noted packets says ssrc))
+          (looked_notes (is_due noted.second moment) moment history noted after.board looks ssrc);
+      flows = λ packets media says comes ssrc.
+          rw (sym notes.second, sym notes.looked, sym (notes.flowing packets media says comes ssrc))
+          (looked_flows (is_due noted.second moment) moment history noted after.board looks ssrc);
+    }
+
+-- What an observer keeps beside that changes nothing of it.
+pub watched_by :
+    {W : Type 0} {contents : W → Option (List ℕ)} {event : EventValue} {answer : AnswerValue} {history : History}
+    {before : Watcher W} (middle : Watcher W) (moment : ℕ) (fault : Option TextFault)
+    → Watches contents event answer history before middle
+    → Watches contents event answer history before (record middle { moment = moment; fault = fault })
+watched_by middle moment fault w = record {
+  lines = w.lines;
+  changes = w.changes;
+  shows = w.shows;
+  tells = w.tells;
+  writes = w.writes;
+  listing = w.listing;
+  rows = w.rows;
+  second = w.second;
+  looked = w.looked;
+  notes = w.notes;
+  flows = w.flows;
+}
+
+pub known_by :
+    {W : Type 0} {all : List Observation} (middle : Watcher W) (moment : ℕ) (fault : Option TextFault)
+    → Knows middle all → Knows (record middle { moment = moment; fault = fault }) all
+known_by middle moment fault k = record { second = k.second; looked = k.looked; notes = k.notes; flows = k.flows }

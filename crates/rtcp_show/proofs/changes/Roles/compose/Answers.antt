@@ -1,0 +1,41 @@
+-- The sources are listed, and what changed is told.
+use Rattle.std.proofs.Common.{Bool, true, false, List, ℕ, map, refl}
+use Rattle.rtcp_engine.specs.Histories.{History, life_at, setup_at}
+use Rattle.rtcp_engine.specs.Lives.{WalksInLife}
+use Rattle.rtcp_listing.specs.Differences.{ListedValue, listed_of}
+use Rattle.rtcp_members.specs.ListViews.{state_value}
+use Rattle.rtcp_members.specs.Told.{StateValue}
+use Rattle.rtcp_show.specs.Changes.{ShowsChanges, told_changes}
+use Rattle.rtcp_show.specs.Watchers.{listed_in}
+use Rattle.rtcp_show.proofs.LineLemmas.{map_twice}
+use Rattle.rtcp_show.proofs.changes.Roles.compose.Goals as goal
+
+shown :
+    (told : Bool) (moment : ℕ) (history : History) (before : List ListedValue) (states : List StateValue)
+    → WalksInLife (setup_at history) (life_at history) states
+    → ShowsChanges told moment history before (told_changes told moment before (map listed_of states))
+shown true moment history before states walk = (states, walk, refl)
+shown false moment history before states walk = refl
+
+pub returns-clause-composed : goal.returns-clause-composed
+returns-clause-composed g c = λ history stands.
+    let listed = c.push_listing.new.listing.items in
+    let states = map state_value listed in
+    let before = listed_in c.args.self.now in (
+      told_changes c.args.told c.args.moment before (map listed_of states),
+      shown c.args.told c.args.moment history before states (c.in_ok-push_listing.ensures history stands),
+      rw (
+        map_twice state_value listed_of listed,
+        c.in_ok-push_if_told.ensures,
+        c.deref.ensures.value,
+        c.deref-2.ensures.value,
+      ) refl,
+    )
+
+pub returns-clause-keeps : goal.returns-clause-keeps
+returns-clause-keeps g c = λ history stands.
+    let listed = c.push_listing.new.listing.items in (
+      map state_value listed,
+      c.in_ok-push_listing.ensures history stands,
+      rw (map_twice state_value listed_of listed, c.swap.ensures.x_after) refl,
+    )

@@ -1,0 +1,3 @@
+-- Rows of what a watcher keeps, worked out by hand.
+mod KeptRows
+mod ChangeRows

@@ -1,0 +1,23 @@
+-- Where the sources are not listed anew, nothing is told.
+use Rattle.std.proofs.Common.{◌≡◌, ◌&&◌, ◌∙◌, [], Bool, List, ℕ, ap, false, not, refl, subst, sym}
+use Rattle.std.proofs.KnownBytes.{Appends-nil}
+use Rattle.rtcp_engine.specs.Histories.{History}
+use Rattle.rtcp_engine.specs.Views.{event_value}
+use Rattle.rtcp_listing.specs.Differences.{ListedValue}
+use Rattle.rtcp_show.specs.Changes.{ShowsChanges, is_dismissal}
+use Rattle.rtcp_show.proofs.page.Page.show_changes.Goals as goal
+
+untold : (told : Bool) → (moment : ℕ) → (history : History) → (before : List ListedValue) → told ≡ false
+    → ShowsChanges told moment history before []
+untold told moment history before none =
+    subst (λ told. ShowsChanges told moment history before []) (sym none) refl
+
+pub returns-then-not-lists_anew-clause-written : goal.returns-then-not-lists_anew-clause-written
+returns-then-not-lists_anew-clause-written g c = λ history stands. (
+  [],
+  untold _ _ history _ (
+      ap (λ anew. anew && not (is_dismissal (event_value c.args.event.now)))
+      (sym c.lists_anew.ensures ∙ c.if-not-lists_anew.true)
+      ),
+  Appends-nil _,
+)

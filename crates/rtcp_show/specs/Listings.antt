@@ -1,0 +1,32 @@
+-- What the participant tells of a source, by its SSRC.
+use Rattle.std.specs.Prelude.{ℕ, Bool, true, false, List, [], ◌∷◌, if◌then◌else◌, nat_eq, is_some, Option, Some, None, option_map}
+use Rattle.std.specs.Option.{option_or}
+use Rattle.rtcp_engine.specs.Histories.{History, life_at, setup_at}
+use Rattle.rtcp_engine.specs.Leaving.{Life, present, backing_off, gone}
+use Rattle.rtcp_engine.specs.Setups.{Setup}
+use Rattle.rtcp_members.specs.Stays.{stay_of}
+use Rattle.rtcp_members.specs.Told.{StateValue, told_in_stay}
+
+abbrev pub takes_part : Life → Bool
+takes_part (present outcome) = true
+takes_part (backing_off outcome backoff) = false
+takes_part (gone outcome) = false
+
+-- what is told of a source, if it is listed: of nobody from a leave on
+abbrev pub told_in_life : Setup → Life → (ssrc : ℕ) → Option StateValue
+told_in_life setup (present outcome) ssrc =
+    option_map (told_in_stay ssrc) (stay_of setup.capacity outcome.trace ssrc)
+told_in_life setup (backing_off outcome backoff) ssrc = None
+told_in_life setup (gone outcome) ssrc = None
+
+abbrev pub told_of : History → (ssrc : ℕ) → Option StateValue
+told_of history ssrc = told_in_life (setup_at history) (life_at history) ssrc
+
+-- whether it is listed
+abbrev pub lists : History → (ssrc : ℕ) → Bool
+lists history ssrc = is_some (told_of history ssrc)
+
+-- what a listing has of a source, if it is there
+abbrev pub state_in : List StateValue → (ssrc : ℕ) → Option StateValue
+state_in [] ssrc = None
+state_in (state ∷ states) ssrc = option_or (state_in states ssrc) (if nat_eq state.ssrc ssrc then Some state else None)

@@ -1,0 +1,145 @@
+//! Who is there, once a second.
+
+ghost use Rattle.std.specs.Prelude.{◌≡◌, ◌++◌, [], ℕ, Option, OnOk, true, unwrap_or};
+ghost use Rattle.rtcp_engine.specs.Histories.{History, setup_at};
+ghost use Rattle.rtcp_engine.specs.States.{StandsAt};
+ghost use Rattle.rtcp_engine.specs.Views.{answer_value, event_value};
+ghost use Rattle.rtcp_show.specs.Flows.{IsMediaOf, flow_in, heard_if, no_flow, peer_of_event};
+ghost use Rattle.rtcp_show.specs.Listings.{lists};
+ghost use Rattle.rtcp_show.specs.Notes.{noted_if, noted_in, nothing};
+ghost use Rattle.rtcp_show.specs.Watchers.{news_text};
+
+use crate::flows::Flows;
+use crate::notes::Notes;
+use crate::numbers::push_moment;
+use crate::rows::push_sources;
+use rtcp_engine::{Answer, Event, Participant};
+use rtcp_members::MemberTable;
+use rtcp_wire::Compound;
+use std::alloc::{AllocError, Global};
+use std::mem;
+
+/// Microseconds in a second.
+const SECOND: u64 = 1_000_000;
+
+/// What is kept of the sources beside their table, and the rows that were written last.
+#[derive(Drop)]
+pub(crate) struct Board {
+    notes: Notes,
+    flows: Flows,
+    /// The counts and the rows that were written last.
+    rows: Vec<u8>,
+    /// Room for the next ones.
+    next_rows: Vec<u8>,
+    /// The last second in which they were due.
+    second: u64,
+}
+
+impl Board {
+    ghost use Rattle.rtcp_show.specs.Watchers.{KeepsRows, LooksIf, is_due, second_after};
+
+    /// Nothing is kept yet.
+    pub(crate) fn new(alloc: Global) -> Board
+        ensures rows { result.rows.items ≡ [] }
+        ensures second { result.second ≡ 0 }
+        ensures looked { result.flows.looked ≡ 0 }
+        ensures noted { (ssrc : ℕ) → noted_in result.notes ssrc ≡ nothing }
+        ensures flowing { (ssrc : ℕ) → flow_in result.flows ssrc ≡ no_flow }
+    {
+        Board {
+            notes: Notes::new(alloc),
+            flows: Flows::new(alloc),
+            rows: Vec::new(alloc),
+            next_rows: Vec::new(alloc),
+            second: 0,
+        }
+    }
+
+    /// Keeps what an event tells of sources that the participant lists. It came at this moment, by the middle 32 bits
+    /// of an NTP timestamp.
+    pub(crate) fn note<T: MemberTable>(
+        &mut self,
+        arrived: u32,
+        event: &Event<'_>,
+        answer: &Answer,
+        compound: &Option<Compound<'_>>,
+        participant: &Participant<T>,
+    ) -> Result<(), AllocError>
+        ensures noted { (history : History) → StandsAt participant.now history → OnOk result ((ssrc : ℕ) →
+            noted_in self.new.notes ssrc ≡ noted_if (lists history ssrc) arrived (setup_at history).ssrc
+            (unwrap_or compound.now []) ssrc (noted_in self.old.notes ssrc)) }
+        ensures flowing { (history : History) (media : Option ℕ) → StandsAt participant.now history →
+            IsMediaOf (event_value event.now) (answer_value answer.now) media →
+            OnOk result ((ssrc : ℕ) → flow_in self.new.flows ssrc ≡ heard_if (lists history ssrc)
+            (peer_of_event (event_value event.now)) (unwrap_or compound.now []) media ssrc
+            (flow_in self.old.flows ssrc)) }
+        ensures looked { self.new.flows.looked ≡ self.old.flows.looked }
+        ensures rows { self.new.rows ≡ self.old.rows }
+        ensures second { self.new.second ≡ self.old.second }
+    {
+        let noted = self.notes.note(arrived, compound, participant);
+        let flowing = self.flows.note(event, answer, compound, participant);
+        noted.and(flowing)
+    }
+
+    /// Appends who is there, where that is due and is not as it was written last. What is kept of sources that are not
+    /// listed is then forgotten.
+    pub(crate) fn compose<T: MemberTable>(
+        &mut self,
+        out: &mut Vec<u8>,
+        now: u64,
+        participant: &Participant<T>,
+    ) -> Result<(), AllocError>
+        ensures written { OnOk result (out.new.items ≡ out.old.items
+            ++ news_text (is_due self.old.second now) now self.old.rows.items self.new.rows.items) }
+        ensures keeps { (history : History) → StandsAt participant.now history →
+            OnOk result (KeepsRows (is_due self.old.second now) history self.new self.old.rows.items
+            self.new.rows.items) }
+        ensures looks { (history : History) → StandsAt participant.now history →
+            OnOk result (LooksIf (is_due self.old.second now) now history self.old self.new) }
+        ensures second { self.new.second ≡ second_after self.old.second now }
+    {
+        if now / SECOND <= self.second {
+            return Ok(());
+        }
+        self.second = now / SECOND;
+        self.look(now, participant)?;
+        self.next_rows.clear();
+        push_sources(&mut self.next_rows, participant, &self.notes, &self.flows)?;
+        push_news(out, now, &self.rows, &self.next_rows)?;
+        mem::swap(&mut self.rows, &mut self.next_rows);
+        Ok(())
+    }
+
+    /// Looks at the sources, and forgets what is kept of others.
+    fn look<T: MemberTable>(
+        &mut self,
+        now: u64,
+        participant: &Participant<T>,
+    ) -> Result<(), AllocError>
+        ensures looks { (history : History) → StandsAt participant.now history →
+            OnOk result (LooksIf true now history self.old self.new) }
+        ensures rows { self.new.rows ≡ self.old.rows }
+        ensures second { self.new.second ≡ self.old.second }
+    {
+        self.notes.keep_listed(participant)?;
+        self.flows.look(now, participant)
+    }
+}
+
+/// Appends the rows with their moment, where they are not those before.
+fn push_news(
+    out: &mut Vec<u8>,
+    now: u64,
+    before: &Vec<u8>,
+    after: &Vec<u8>,
+) -> Result<(), AllocError>
+    ensures { OnOk result (out.new.items ≡ out.old.items ++ news_text true now before.now.items after.now.items) }
+{
+    if after == before {
+        return Ok(());
+    }
+    push_moment(out, now)?;
+    out.push(b' ')?;
+    out.extend_from_slice(after)
+}
