@@ -5,6 +5,7 @@ use rtcp_engine::{Answer, Event, Participant};
 use rtcp_members::SortedTable;
 use rtcp_serve::Observer;
 use rtcp_show::{Watcher, Wording};
+use rtcp_text::TextFault;
 use std::alloc::Global;
 use std::io;
 use std::io::{ErrorKind, Write};
@@ -81,6 +82,11 @@ impl<W: Write + Drop> Watched<W> {
         let answer = self.participant.leave(now, 0);
         self.watch(&Event::Leave { now, w: 0 }, &answer);
     }
+
+    fn forget(&mut self, now: u64, ssrc: u32) {
+        let answer = self.participant.forget(now, ssrc);
+        self.watch(&Event::Forget { now, ssrc }, &answer);
+    }
 }
 
 /// A report of source 7 with a block about the participant: it names a sender report of the moment 2 seconds, and half
@@ -141,6 +147,49 @@ fn session(rt: HostRuntime) -> Result<(), Fail> {
     assert_eq!(rt; watched.unwritten, 0);
     let text = watched.watcher.into_inner();
     assert_eq!(rt; text.as_slice(), SESSION.as_bytes());
+    Ok(())
+}
+
+/// The end of what is written of 60 sources, the last of which is 3c, and of a leave half a second later.
+const LEFT: &str = "\
+source=0000003c sends=no cname=\"a\" peer=127.0.0.1:5007
+11.000000 members=1 senders=0
+";
+
+/// Whoever leaves among 60 members waits with its BYE. It lists nobody then, but nobody has timed out.
+#[test]
+fn leaves_many(rt: HostRuntime) -> Result<(), Fail> {
+    let mut watched = Watched::new(rt.alloc(), Vec::new(rt.alloc()))?;
+    for source in 1..61 {
+        watched.rtcp(100_000, &named(source));
+    }
+    watched.tick(10_000_000);
+    watched.leave(10_500_000);
+    assert_eq!(rt; watched.participant.members(), 1);
+    watched.tick(11_000_000);
+    let text = watched.watcher.into_inner();
+    assert!(rt; text.ends_with(LEFT.as_bytes()));
+    Ok(())
+}
+
+const DISMISSED: &str = "\
+0.100000 in 127.0.0.1:5007 ok RR(00000007,[],0) SDES([00000007{1=61}])
+0.100000 joined=00000007
+1.000000 members=2 senders=0
+source=00000007 sends=no cname=\"a\" peer=127.0.0.1:5007
+2.000000 members=1 senders=0
+";
+
+/// A source that the host dismissed has not timed out: it is not listed any more.
+#[test]
+fn dismissed(rt: HostRuntime) -> Result<(), Fail> {
+    let mut watched = Watched::new(rt.alloc(), Vec::new(rt.alloc()))?;
+    watched.rtcp(100_000, &named(7));
+    watched.tick(1_000_000);
+    watched.forget(1_000_001, 7);
+    watched.forget(2_000_000, 7);
+    let text = watched.watcher.into_inner();
+    same(&rt, &text, DISMISSED.as_bytes(), "dismissed");
     Ok(())
 }
 
@@ -244,6 +293,25 @@ impl Write for Full {
     fn flush(&mut self) -> io::Result<()> {
         Ok(())
     }
+}
+
+/// The first fault of what an observer is told is kept.
+#[test]
+fn faults(rt: HostRuntime) -> Result<(), Fail> {
+    let mut watched = Watched::new(rt.alloc(), Full)?;
+    assert_eq!(rt; watched.watcher.fault(), None);
+    let event = Event::Tick {
+        now: 500_000,
+        w1: 0,
+        w2: 0,
+    };
+    watched
+        .watcher
+        .told(&event, &taken(None, None), &watched.participant);
+    assert_eq!(rt; watched.watcher.fault(), None);
+    watched.watcher.sent(true);
+    assert_eq!(rt; watched.watcher.fault(), Some(TextFault::Write));
+    Ok(())
 }
 
 /// Where nothing can be written, the session goes on.
