@@ -138,8 +138,8 @@ class Shown:
             self.note_peer(self.rtcp_peers, octets[4:8], int(fields[0]))
         if taken and kind == b"rtp":
             self.note_peer(self.rtp_peers, bytes.fromhex(fields[2].decode())[8:12], int(fields[0]))
-        if taken and self.participant.is_present():
-            self.show_changes(now)
+        if taken and self.participant.is_present():  # from its leave on, waiting with its BYE too, it lists nobody
+            self.show_changes(now, is_told=kind != b"forget")
         if moment // SECOND > self.second:
             self.second = moment // SECOND
             self.elapsed, self.looked = max(1, moment - self.looked), moment
@@ -187,8 +187,8 @@ class Shown:
         peer = self.rtp_peers.get(ssrc, self.rtcp_peers.get(ssrc))
         return text + (f" peer={peer_text(peer)}" if peer is not None else "")
 
-    def show_changes(self, now):
-        """Who joined, left, began or ceased to send."""
+    def show_changes(self, now, is_told):
+        """Who joined, left, began or ceased to send, unless the host dismissed a source."""
         role = lambda source: (1 + source.counts_as_sender()) if source.is_member() else 0  # 0 away, 1 member, 2 sender
         roles = {ssrc: role(source) for ssrc, source in self.listed().items()}
         for ssrc in sorted(self.roles | roles):
@@ -197,7 +197,7 @@ class Shown:
             gone = was and not now_is
             lines = {"joined": not was and now_is, "began-sending": was < 2 == now_is,
                      "stopped-sending": now_is < 2 == was, "bye": gone and has_left, "timed-out": gone and not has_left}
-            self.lines += [f"{now} {word}={ssrc:08x}" for word, so in lines.items() if so]
+            self.lines += [f"{now} {word}={ssrc:08x}" for word, so in lines.items() if so and is_told]
         self.roles = roles
 
     def row(self, ssrc):
