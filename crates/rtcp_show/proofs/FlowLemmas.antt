@@ -1,12 +1,11 @@
 -- What is kept of sources while a listing is gone through: what the sources that are left bring it to.
-use Rattle.std.proofs.Common.{◌≡◌, ℕ, Bool, true, false, List, ◌∷◌, if◌then◌else◌, nat_eq, is_some, Option, Some, None, refl, sym, subst, ap, ◌∙◌}
+use Rattle.std.proofs.Common.{◌≡◌, ℕ, Bool, true, false, List, if◌then◌else◌, nat_eq, is_some, Option, Some, None, refl, sym, ap, ◌∙◌}
 use Rattle.std.specs.Option.{option_map_or, option_or}
 use Rattle.rtcp_members.specs.Told.{StateValue}
 use Rattle.rtcp_show.specs.declared.flows.Flow.{Flow}
 use Rattle.rtcp_show.specs.declared.notes.Note.{Note}
 use Rattle.rtcp_wire.specs.Values.{RtcpPacket}
-use Rattle.rtcp_show.specs.Flows.{flow_looked, heard_if, is_source, looked_at, no_flow, reporter_of, with_rtcp, with_rtp}
-use Rattle.rtcp_show.specs.Listings.{state_in}
+use Rattle.rtcp_show.specs.Flows.{flow_looked, heard_if, looked_at, no_flow, reporter_of, with_rtcp, with_rtp}
 use Rattle.rtcp_show.specs.Notes.{kept_if, note_value, nothing}
 use Rattle.rtcp_show.proofs.ListingLemmas.{by_same}
 
@@ -17,31 +16,6 @@ abbrev pub flow_to_come : (elapsed : ℕ) → (rest : Option StateValue) → (be
 flow_to_come elapsed None before kept = kept
 flow_to_come elapsed (Some state) before kept = looked_at elapsed state before
 
-here_or_later :
-    (elapsed : ℕ) (test : Bool) (rest : Option StateValue) (state : StateValue) (before kept : Flow)
-    → flow_to_come elapsed rest before (if test then looked_at elapsed state before else kept)
-    ≡ flow_to_come elapsed (option_or rest (if test then Some state else None)) before kept
-here_or_later elapsed true None state before kept = refl
-here_or_later elapsed false None state before kept = refl
-here_or_later elapsed test (Some later) state before kept = refl
-
-pub looked_next :
-    (elapsed : ℕ) (state : StateValue) (rest : List StateValue) (before kept after : ℕ → Flow)
-    → ((ssrc : ℕ) → after ssrc ≡ (if nat_eq state.ssrc ssrc then looked_at elapsed state (before state.ssrc)
-    else kept ssrc)) → (ssrc : ℕ)
-    → flow_to_come elapsed (state_in rest ssrc) (before ssrc) (after ssrc)
-    ≡ flow_to_come elapsed (state_in (state ∷ rest) ssrc) (before ssrc) (kept ssrc)
-looked_next elapsed state rest before kept after put ssrc = by_same state.ssrc ssrc
-    (λ test same.
-    let there : after ssrc ≡ looked_at elapsed state (before ssrc) =
-    put ssrc ∙ ap (λ t. if t then looked_at elapsed state (before state.ssrc) else kept ssrc) test
-    ∙ ap (λ s. looked_at elapsed state (before s)) same in
-    rw (there, test) (here_or_later elapsed true (state_in rest ssrc) state (before ssrc) (kept ssrc)))
-    (λ test.
-    let there : after ssrc ≡ kept ssrc =
-    put ssrc ∙ ap (λ t. if t then looked_at elapsed state (before state.ssrc) else kept ssrc) test in
-    rw (there, test) (here_or_later elapsed false (state_in rest ssrc) state (before ssrc) (kept ssrc)))
-
 -- ---- Notes
 
 -- what stays of a note in the end, if the rest of a listing has its source or not
@@ -49,58 +23,7 @@ abbrev pub note_to_come : (rest : Bool) → (left kept : Option Note) → Option
 note_to_come false left kept = kept
 note_to_come true left kept = option_or left kept
 
-handed :
-    (test : Bool) (rest : Option StateValue) (state : StateValue) (left kept : Option Note)
-    → note_to_come (is_some rest) (if test then None else left) (if test then option_or left kept else kept)
-    ≡ note_to_come (is_some (option_or rest (if test then Some state else None))) left kept
-handed true None state left kept = refl
-handed true (Some later) state left kept = refl
-handed false None state left kept = refl
-handed false (Some later) state left kept = refl
-
-pub kept_next :
-    (state : StateValue) (rest : List StateValue) (left left_after kept kept_after : ℕ → Option Note)
-    → ((ssrc : ℕ) → left_after ssrc ≡ (if nat_eq state.ssrc ssrc then None else left ssrc))
-    → ((ssrc : ℕ) → kept_after ssrc ≡ (if nat_eq state.ssrc ssrc then option_or (left ssrc) (kept ssrc)
-    else kept ssrc)) → (ssrc : ℕ)
-    → note_to_come (is_some (state_in rest ssrc)) (left_after ssrc) (kept_after ssrc)
-    ≡ note_to_come (is_some (state_in (state ∷ rest) ssrc)) (left ssrc) (kept ssrc)
-kept_next state rest left left_after kept kept_after taken given ssrc =
-    rw (taken ssrc, given ssrc) (handed (nat_eq state.ssrc ssrc) (state_in rest ssrc) state (left ssrc) (kept ssrc))
-
 -- ---- Where packets come from
-
-pub no_source :
-    (listed : Bool) (set : Flow → Flow) (ssrc : ℕ) (flow : Flow)
-    → flow ≡ (if listed then (if is_source None ssrc then set flow else flow) else flow)
-no_source true set ssrc flow = refl
-no_source false set ssrc flow = refl
-
-pub same_peer :
-    (listed : ℕ → Bool) (set : Flow → Flow) (source : ℕ) (flows : ℕ → Flow) → set (flows source) ≡ flows source
-    → (ssrc : ℕ)
-    → flows ssrc ≡ (if listed ssrc then (if nat_eq source ssrc then set (flows ssrc) else flows ssrc) else flows ssrc)
-same_peer listed set source flows is ssrc =
-    let inner : flows ssrc ≡ (if nat_eq source ssrc then set (flows ssrc) else flows ssrc) = by_same source ssrc
-    (λ test same. rw test (sym (subst (λ s. set (flows s) ≡ flows s) same is))) (λ test. rw test refl) in
-    elim (listed ssrc) as (λ t.
-    flows ssrc ≡ (if t then (if nat_eq source ssrc then set (flows ssrc) else flows ssrc) else flows ssrc)) [
-      | true ↦ inner
-      | false ↦ refl
-    ]
-
-pub unlisted_peer :
-    (listed : ℕ → Bool) (set : Flow → Flow) (source : ℕ) (flows : ℕ → Flow) → listed source ≡ false → (ssrc : ℕ)
-    → flows ssrc ≡ (if listed ssrc then (if nat_eq source ssrc then set (flows ssrc) else flows ssrc) else flows ssrc)
-unlisted_peer listed set source flows never ssrc = by_same source ssrc
-    (λ test same. ap (λ t.
-    if t then (if nat_eq source ssrc then set (flows ssrc) else flows ssrc) else flows ssrc)
-    (sym never ∙ ap listed same))
-    (λ test. elim (listed ssrc) as (λ t.
-    flows ssrc ≡ (if t then (if nat_eq source ssrc then set (flows ssrc) else flows ssrc) else flows ssrc)) [
-      | true ↦ rw test refl
-      | false ↦ refl
-    ])
 
 pub listed_peer :
     (listed : ℕ → Bool) (set : Flow → Flow) (source : ℕ) (flows : ℕ → Flow) → listed source ≡ true → (ssrc : ℕ)

@@ -1,7 +1,6 @@
 mod examples
 pub mod LineLemmas
 pub mod ListingLemmas
-pub mod StoreLemmas
 pub mod NoteLemmas
 pub mod FlowLemmas
 pub mod ObservationLemmas

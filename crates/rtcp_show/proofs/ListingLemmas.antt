@@ -1,13 +1,13 @@
--- Whom the participant tells of, by what it tells above an SSRC, and by all that it tells.
-use Rattle.std.proofs.Common.{◌≡◌, ◌<◌, ◌≤◌, ℕ, Bool, true, false, List, [], ◌∷◌, nat_eq, nat_lt, is_some, Option, Some, None, option_map, refl, subst, ap, ◌∙◌, arith}
+-- Whom the participant tells of, by all that it tells.
+use Rattle.std.proofs.Common.{◌≡◌, ◌<◌, ◌≤◌, ℕ, true, false, List, [], ◌∷◌, nat_eq, nat_lt, Option, Some, None, option_map, refl, subst, ap, ◌∙◌, arith}
 use Rattle.std.specs.Option.{option_or}
 use Rattle.std.proofs.lemmas.Bool.Decides.{nat_tests}
 use Rattle.rtcp_engine.specs.Leaving.{Life, present, backing_off, gone}
-use Rattle.rtcp_engine.specs.Lives.{TellsInLife, WalksInLife}
+use Rattle.rtcp_engine.specs.Lives.{WalksInLife}
 use Rattle.rtcp_engine.specs.Setups.{Setup}
 use Rattle.rtcp_members.specs.Pending.{is_after}
 use Rattle.rtcp_members.specs.Stays.{stay_of}
-use Rattle.rtcp_members.specs.Told.{IsWalk, StateValue, TellsAbove, told_in_stay}
+use Rattle.rtcp_members.specs.Told.{IsWalk, StateValue, told_in_stay}
 use Rattle.rtcp_members.specs.Traces.{TraceStep}
 use Rattle.rtcp_show.specs.Listings.{state_in, told_in_life}
 
@@ -29,32 +29,6 @@ by_order {P} a b less upto = elim (nat_lt b a) as (λ t. nat_lt b a ≡ t → P)
 or_none : {A : Type 0} → (o : Option A) → option_or o None ≡ o
 or_none None = refl
 or_none (Some x) = refl
-
--- ---- By what is told above an SSRC
-
-abbrev pub is_told_here : (ssrc : ℕ) → Option StateValue → Bool
-is_told_here ssrc None = false
-is_told_here ssrc (Some state) = nat_eq state.ssrc ssrc
-
-pub listed_by_next :
-    (capacity : ℕ) (trace : List TraceStep) (after : Option ℕ) (ssrc : ℕ) (told : Option StateValue)
-    → is_after after ssrc ≡ true → ((x : ℕ) → is_after after x ≡ true → ssrc ≤ x) → TellsAbove after capacity trace told
-    → is_some (option_map (told_in_stay ssrc) (stay_of capacity trace ssrc)) ≡ is_told_here ssrc told
-listed_by_next capacity trace after ssrc None behind first none = rw (none ssrc behind) refl
-listed_by_next capacity trace after ssrc (Some state) behind first next = by_same state.ssrc ssrc
-    (λ test same. rw (subst (λ s. stay_of capacity trace s ≡ Some next.stay) same next.present, test) refl)
-    (λ test. let further : ssrc ≤ state.ssrc = first state.ssrc next.above in
-    let apart : ssrc < state.ssrc = grind (arith, nat_tests) in
-    rw (next.least ssrc behind apart, test) refl)
-
-pub listed_in_life :
-    (setup : Setup) (life : Life) (after : Option ℕ) (ssrc : ℕ) (told : Option StateValue)
-    → is_after after ssrc ≡ true → ((x : ℕ) → is_after after x ≡ true → ssrc ≤ x) → TellsInLife setup after life told
-    → is_some (told_in_life setup life ssrc) ≡ is_told_here ssrc told
-listed_in_life setup (present outcome) after ssrc told behind first tells =
-    listed_by_next setup.capacity outcome.trace after ssrc told behind first tells
-listed_in_life setup (backing_off outcome backoff) after ssrc told behind first none = rw none refl
-listed_in_life setup (gone outcome) after ssrc told behind first none = rw none refl
 
 -- ---- By all that is told
 

@@ -25,11 +25,6 @@ pub named-append :
 named-append true xs ys ssrc note = cnames-append xs ys ssrc note
 named-append false xs ys ssrc note = refl
 
--- Nothing is named.
-pub named-nil : (listed : Bool) (ssrc : ℕ) (note : NoteValue) → named_if listed [] ssrc note ≡ note
-named-nil true ssrc note = refl
-named-nil false ssrc note = refl
-
 -- ---- The first, and then the others
 
 newest_first :
@@ -43,48 +38,7 @@ newest_first f test x rest ssrc before = elim (test x) as (λ t.
       | false ↦ refl
     ]
 
-pub cnames_first :
-    (own : ℕ) (x : ItemValue) (rest : List ItemValue) (ssrc : ℕ) (note : NoteValue)
-    → with_cnames (cnames_by own (x ∷ rest)) ssrc note
-    ≡ with_cnames (cnames_by own rest) ssrc (with_cnames (cnames_by own (x ∷ [])) ssrc note)
-cnames_first own x rest ssrc note =
-    ap (λ cname. record note { cname = cname })
-    (newest_first (λ item. (own, item.text)) is_cname x rest ssrc note.cname)
-
-pub tripped_first :
-    (listed : Bool) (arrived : ℕ) (x : ℕ × ReportBlock) (rest : List (ℕ × ReportBlock)) (ssrc : ℕ) (note : NoteValue)
-    → tripped_if listed arrived (x ∷ rest) ssrc note
-    ≡ tripped_if listed arrived rest ssrc (tripped_if listed arrived (x ∷ []) ssrc note)
-tripped_first true arrived x rest ssrc note =
-    ap (λ trip. record note { trip = trip }) (newest_first (trip_of arrived) has_lsr x rest ssrc note.trip)
-tripped_first false arrived x rest ssrc note = refl
-
-pub tripped-nil :
-    (listed : Bool) (arrived ssrc : ℕ) (note : NoteValue) → tripped_if listed arrived [] ssrc note ≡ note
-tripped-nil true arrived ssrc note = refl
-tripped-nil false arrived ssrc note = refl
-
 -- ---- One thing
-
-with_cname : (own : ℕ) (text : List ℕ) (ssrc : ℕ) (note : NoteValue)
-    → (if nat_eq own ssrc then record note { cname = Some text } else note)
-    ≡ with_cnames ((own, text) ∷ []) ssrc note
-with_cname own text ssrc note = elim (nat_eq own ssrc) as (λ t.
-    (if t then record note { cname = Some text } else note)
-    ≡ record note { cname = if t then Some text else note.cname }) [ true ↦ refl | false ↦ refl ]
-
-pub named_item :
-    (own : ℕ) (item : ItemValue) (ssrc : ℕ) (note : NoteValue) → is_cname item ≡ true
-    → (if nat_eq own ssrc then record note { cname = Some item.text } else note)
-    ≡ with_cnames (cnames_by own (item ∷ [])) ssrc note
-named_item own item ssrc note is = with_cname own item.text ssrc note
-    ∙ ap (λ t. with_cnames (map (λ (i : ItemValue). (own, i.text)) (if t then item ∷ [] else [])) ssrc note) (sym is)
-
-pub other_item :
-    (own : ℕ) (item : ItemValue) (ssrc : ℕ) (note : NoteValue) → is_cname item ≡ false
-    → note ≡ with_cnames (cnames_by own (item ∷ [])) ssrc note
-other_item own item ssrc note is =
-    ap (λ t. with_cnames (map (λ (i : ItemValue). (own, i.text)) (if t then item ∷ [] else [])) ssrc note) (sym is)
 
 -- The items of a source say nothing of another.
 others_stay :
@@ -123,14 +77,6 @@ listed_chunk listed own items ssrc note holds = by_same own ssrc
 
 -- ---- One block
 
-pub without_lsr :
-    (listed : Bool) (arrived : ℕ) (x : ℕ × ReportBlock) (ssrc : ℕ) (note : NoteValue) → has_lsr x ≡ false
-    → note ≡ tripped_if listed arrived (x ∷ []) ssrc note
-without_lsr true arrived x ssrc note never =
-    ap (λ t. record note { trip = newest_of ssrc (map (trip_of arrived) (if t then x ∷ [] else [])) note.trip })
-    (sym never)
-without_lsr false arrived x ssrc note never = refl
-
 tripped_other :
     (listed : Bool) (arrived : ℕ) (x : ℕ × ReportBlock) (ssrc : ℕ) (note : NoteValue) → nat_eq x.0 ssrc ≡ false
     → note ≡ tripped_if listed arrived (x ∷ []) ssrc note
@@ -140,13 +86,6 @@ tripped_other true arrived x ssrc note other = elim (has_lsr x) as (λ t.
       | false ↦ refl
     ]
 tripped_other false arrived x ssrc note other = refl
-
-pub unlisted_block :
-    (listed : ℕ → Bool) (arrived : ℕ) (x : ℕ × ReportBlock) (ssrc : ℕ) (note : NoteValue) → listed x.0 ≡ false
-    → note ≡ tripped_if (listed ssrc) arrived (x ∷ []) ssrc note
-unlisted_block listed arrived x ssrc note never = by_same x.0 ssrc
-    (λ test same. ap (λ t. tripped_if t arrived (x ∷ []) ssrc note) (sym never ∙ ap listed same))
-    (λ test. tripped_other (listed ssrc) arrived x ssrc note test)
 
 pub listed_block :
     (listed : ℕ → Bool) (arrived : ℕ) (x : ℕ × ReportBlock) (ssrc : ℕ) (note : NoteValue) → listed x.0 ≡ true
@@ -167,11 +106,6 @@ pub noted_both :
 noted_both true arrived own packets ssrc before between after first second =
     second ∙ ap (with_cnames (cnames_of packets) ssrc) first
 noted_both false arrived own packets ssrc before between after first second = second ∙ first
-
-pub noted_nothing :
-    (listed : Bool) (arrived own ssrc : ℕ) (note : NoteValue) → note ≡ noted_if listed arrived own [] ssrc note
-noted_nothing true arrived own ssrc note = refl
-noted_nothing false arrived own ssrc note = refl
 
 -- What the rest names follows what one part of a list named.
 pub named_on :
