@@ -19,7 +19,7 @@ Show what RTCP datagrams are, or why they are refused.
 Pipe in one datagram a line, its octets in hex of either case: for instance the UDP payloads
 that tshark prints of a capture.
 
-    tshark -r call.pcap -Y rtcp -T fields -e udp.payload | rtcp check
+    tshark -r call.pcap -Y 'rtcp && !icmp' -T fields -e udp.payload | rtcp check
 
 One line comes out for each line that goes in: ok and the packets, or the first fault and the
 offset of the packet that has it.
