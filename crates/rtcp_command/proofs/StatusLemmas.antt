@@ -11,7 +11,7 @@ use Rattle.rtcp_text.specs.declared.counted.Counted.{Counted}
 use Rattle.rtcp_text.specs.Lines.{Writes, Wrote}
 use Rattle.rtcp_text.specs.Counted.{inner_of}
 use Rattle.rtcp_command.specs.declared.fault.RunFault.{RunFault}
-use Rattle.rtcp_command.specs.declared.fault.RunFault.TheVariants.{Config, Text, Link, Record, Random, Read, Write, Memory}
+use Rattle.rtcp_command.specs.declared.fault.RunFault.TheVariants.{Config, Text, Link, Record, NoRegularFile, Random, Read, Write, Memory}
 use Rattle.rtcp_command.specs.Status.{fault_status, replay_fault, text_fault}
 
 pub refuses : (fault : RunFault) → fault_status fault ≡ 2
@@ -21,6 +21,7 @@ refuses (Config error) two = inl (error, refl)
 refuses (Text line fault) two = inr (line, fault, refl)
 refuses Link two = absurd (cc two)
 refuses Record two = absurd (cc two)
+refuses NoRegularFile two = absurd (cc two)
 refuses Random two = absurd (cc two)
 refuses Read two = absurd (cc two)
 refuses Write two = absurd (cc two)

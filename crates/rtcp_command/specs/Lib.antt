@@ -2,6 +2,7 @@ pub mod EndText
 pub mod Options
 pub mod Endpoints
 pub mod Groups
+pub mod Ports
 pub mod Listening
 pub mod ReplayCommand
 pub mod Orders

@@ -4,7 +4,7 @@ use Rattle.rtcp_serve.specs.declared.serving.Cause.{Cause}
 use Rattle.rtcp_serve.specs.declared.serving.Cause.TheVariants.{Done, LinkDown, Limit}
 use Rattle.rtcp_serve.specs.declared.serving.End.{End}
 use Rattle.rtcp_command.specs.declared.fault.RunFault.{RunFault}
-use Rattle.rtcp_command.specs.declared.fault.RunFault.TheVariants.{Config, Text, Link, Record, Random, Read, Write, Memory}
+use Rattle.rtcp_command.specs.declared.fault.RunFault.TheVariants.{Config, Text, Link, Record, NoRegularFile, Random, Read, Write, Memory}
 use Rattle.rtcp_command.specs.declared.orders.OrderFault.{OrderFault}
 use Rattle.rtcp_command.specs.declared.orders.OrderFault.TheVariants.{Clap, Option as BadOption, Memory as NoMemory}
 use Rattle.rtcp_text.specs.declared.fault.ReplayFault.{ReplayFault}
@@ -31,6 +31,7 @@ fault_status (Config error) = 2
 fault_status (Text line fault) = 2
 fault_status Link = 1
 fault_status Record = 1
+fault_status NoRegularFile = 1
 fault_status Random = 1
 fault_status Read = 1
 fault_status Write = 1

@@ -24,6 +24,8 @@ pub enum RunFault {
     Link,
     /// The file of a record could not be created.
     Record,
+    /// What is to be overwritten by a record is no regular file.
+    NoRegularFile,
     /// The system's generator could not be read.
     Random,
     /// A call of the reader failed.
@@ -44,6 +46,7 @@ pub(crate) fn fail<F: Write>(fault: RunFault, faults: &mut F) -> u8
         RunFault::Config(_) | RunFault::Text { .. } => 2,
         RunFault::Link
         | RunFault::Record
+        | RunFault::NoRegularFile
         | RunFault::Random
         | RunFault::Read
         | RunFault::Write
@@ -58,6 +61,7 @@ impl fmt::Display for RunFault {
             RunFault::Text { line, fault } => write!(f, "line {line}: {fault}"),
             RunFault::Link => f.write_str("link"),
             RunFault::Record => f.write_str("record"),
+            RunFault::NoRegularFile => f.write_str("record no regular file"),
             RunFault::Random => f.write_str("random"),
             RunFault::Read => f.write_str("read"),
             RunFault::Write => f.write_str("write"),

@@ -18,8 +18,9 @@
 //! assert_eq!(rt; faults.as_slice(), b"line 1: X4 Hex\n".as_slice());
 //! ```
 //!
-//! `specs/` defines the meaning of options (`Options`, `Listening`, `Endpoints`), what is written (`Orders`), the line
-//! at the end of a session (`EndText`) and the exit statuses (`Status`). `laws` states that an endpoint has one text.
+//! `specs/` defines the meaning of options (`Options`, `Listening`, `Endpoints`), what is written (`Orders`), the lines
+//! before and after a session (`Groups`, `Ports`, `EndText`) and the exit statuses (`Status`). `laws` states that an
+//! endpoint has one text.
 #![tactic(auto)]
 
 pub mod command;
@@ -32,6 +33,7 @@ pub mod listen;
 mod options;
 pub mod order;
 mod orders;
+pub mod ports;
 pub mod replay_command;
 pub mod session_recorder;
 

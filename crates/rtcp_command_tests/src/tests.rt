@@ -15,6 +15,7 @@ mod example;
 mod failing;
 mod groups;
 mod options;
+mod ports;
 mod recordings;
 mod records;
 mod replays;

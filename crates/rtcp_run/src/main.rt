@@ -19,6 +19,7 @@ use record_file::RecordFile;
 use rtcp_command::ends::end_line;
 use rtcp_command::groups::group_warnings;
 use rtcp_command::order::refuse;
+use rtcp_command::ports::picked_ports;
 use rtcp_command::replay_command::replay_line;
 use rtcp_command::session_recorder::SessionRecorder;
 pub use rtcp_command::{
@@ -38,6 +39,7 @@ use std::alloc::Global;
 use std::env;
 use std::fs::{self, File};
 use std::io::{BufWriter, Read, Write};
+use std::net::SocketAddrV4;
 use std::process::ExitCode;
 use stop_file::StopFile;
 
@@ -93,8 +95,8 @@ fn run_text(rt: &HostRuntime, order: TextOrder) -> u8 {
 ///
 /// # Errors
 ///
-/// Each of [`RunFault`]. A generator that cannot be read is found first, then a refused configuration, both before the
-/// file is created, and that before a port is bound.
+/// Each of [`RunFault`]. A generator that cannot be read is found first, then a refused configuration, both before a
+/// port is bound, and that before the file is created. No line is written before.
 fn run_listen(rt: &HostRuntime, order: ListenOrder) -> Result<End, RunFault>
     requires { (1 ≤ order.turns) × (order.turns ≤ 1000000) }
 {
@@ -107,6 +109,8 @@ fn run_listen(rt: &HostRuntime, order: ListenOrder) -> Result<End, RunFault>
         return Err(RunFault::Config(error));
     }
     let table = table_of(alloc, order.config.capacity)?;
+    let link = bound(rt, &order)?;
+    tell_ports(rt, &order, link.endpoints())?;
     let recorder = match &order.recording {
         Some(file) => Some(SessionRecorder {
             recorder: begin_record(rt, &order, word, file)?,
@@ -116,13 +120,12 @@ fn run_listen(rt: &HostRuntime, order: ListenOrder) -> Result<End, RunFault>
     };
     let closing = closing(rt, &order, word)?;
     let watcher = if order.show {
-        write_header(rt, &order)?;
+        write_header(rt, &order, link.endpoints())?;
         let watcher = Watcher::new(alloc, order.config.ntp_base, order.peer, rt.stderr());
         Some(watcher.with_wording(wording(&order)))
     } else {
         None
     };
-    let link = bound(rt, &order)?;
     let participant = Participant::with_table(order.config, table, word);
     let warnings = group_warnings(alloc, order.rtp, order.rtcp).map_err(|_| RunFault::Memory)?;
     let _ = rt.stderr().write_all(&warnings);
@@ -150,15 +153,20 @@ fn table_of(alloc: Global, capacity: u32) -> Result<HeapTable, RunFault>
     }
 }
 
-/// Writes the line before those of a session that is shown to standard error. A failed write is ignored.
+/// Writes the line before those of a session that is shown to standard error, with the endpoints that were bound. A
+/// failed write is ignored.
 ///
 /// # Errors
 ///
 /// [`RunFault::Memory`] where memory is refused.
-fn write_header(rt: &HostRuntime, order: &ListenOrder) -> Result<(), RunFault> {
+fn write_header(
+    rt: &HostRuntime,
+    order: &ListenOrder,
+    bound: (SocketAddrV4, SocketAddrV4),
+) -> Result<(), RunFault> {
     let mut line = Vec::new(rt.alloc());
     let (ssrc, cname) = (order.config.ssrc, &order.config.cname);
-    push_header(&mut line, ssrc, cname, order.rtp, order.rtcp, order.peer).map_err(
+    push_header(&mut line, ssrc, cname, bound.0, bound.1, order.peer).map_err(
         |_| RunFault::Memory,
     )?;
     let _ = rt.stderr().write_all(&line);
@@ -223,6 +231,23 @@ fn bound<'r>(rt: &'r HostRuntime, order: &ListenOrder) -> Result<UdpLink<'r, Hos
         Ok(link) => Ok(link),
         Err(fault) => Err(run_fault(fault)),
     }
+}
+
+/// Writes to standard error which ports the system picked, where an order leaves them to it. A failed write is ignored.
+///
+/// # Errors
+///
+/// [`RunFault::Memory`] where memory is refused.
+fn tell_ports(
+    rt: &HostRuntime,
+    order: &ListenOrder,
+    bound: (SocketAddrV4, SocketAddrV4),
+) -> Result<(), RunFault> {
+    let lines = picked_ports(rt.alloc(), (order.rtp, order.rtcp), bound).map_err(
+        |_| RunFault::Memory,
+    )?;
+    let _ = rt.stderr().write_all(&lines);
+    Ok(())
 }
 
 /// The most turns that an order lets a session make before the leave.
@@ -303,7 +328,7 @@ fn write_end(rt: &HostRuntime, end: &End) -> Result<(), RunFault> {
 ///
 /// # Errors
 ///
-/// - [`RunFault::Record`] where the file cannot be created, or is there already and is not to be overwritten.
+/// - Those of [`created`].
 /// - [`RunFault::Memory`] where memory is refused.
 fn begin_record(
     rt: &HostRuntime,
@@ -311,15 +336,27 @@ fn begin_record(
     word: u32,
     file: &str,
 ) -> Result<Recorder<RecordFile>, RunFault> {
-    let created = if order.overwrites {
-        fs::create(rt, file)
-    } else {
-        File::create_new(rt, file)
-    };
-    let writer = RecordFile::new(created.map_err(|_| RunFault::Record)?);
+    let writer = RecordFile::new(created(rt, file, order.overwrites)?);
     let line = replay_line(rt.alloc(), &order.config, word, file).map_err(|_| RunFault::Memory)?;
     let _ = rt.stderr().write_all(&line);
     Ok(Recorder::new(rt.alloc(), writer))
+}
+
+/// The file of a record, which begins empty. A pipe or a device is not opened: that of a pipe waits for its reader, and
+/// a write to it may wait too.
+///
+/// # Errors
+///
+/// - [`RunFault::NoRegularFile`] where something is to be overwritten that is no regular file.
+/// - [`RunFault::Record`] where the file cannot be created, or is there already and is not to be overwritten.
+fn created(rt: &HostRuntime, file: &str, overwrites: bool) -> Result<File, RunFault> {
+    if !overwrites {
+        return File::create_new(rt, file).map_err(|_| RunFault::Record);
+    }
+    match fs::metadata(rt, file) {
+        Ok(there) if !there.is_file() => Err(RunFault::NoRegularFile),
+        _ => fs::create(rt, file).map_err(|_| RunFault::Record),
+    }
 }
 
 /// The fault of a session whose link was not bound.

@@ -16,13 +16,13 @@ const ABOUT: &str = "Take part in a session over UDP";
 const LONG: &str = "\
 Take part in a session over UDP.
 
-RTP and RTCP come in at a port each, and reports go from the port of RTCP to the peer. In a turn
-the participant takes at most one datagram from each port, and sends what is due; where neither
-has one it waits until one comes, for at most 20 milliseconds. After the last turn, once
---seconds N have passed, or within half a second once the file of --stop is there, it leaves:
-without a word if it has sent no report, else with a BYE. Where more than 50 are known that BYE
-waits for its turn, in at most as many turns again and as long again, and may not go out. It sends
-no RTP.
+RTP and RTCP come in at a port each, and reports go from the port of RTCP to the peer. Where a port
+is 0 the system picks one, and a line on standard error tells which. In a turn the participant
+takes at most one datagram from each port, and sends what is due; where neither has one it waits
+until one comes, for at most 20 milliseconds. After the last turn, once --seconds N have passed, or
+within half a second once the file of --stop is there, it leaves: without a word if it has sent no
+report, else with a BYE. Where more than 50 are known that BYE waits for its turn, in at most as
+many turns again and as long again, and may not go out. It sends no RTP.
 
 In a collision, where a datagram names the participant's own SSRC, it takes another one at random
 and sends a BYE for the old one if it has reported under it: once for each sender of such
@@ -91,7 +91,7 @@ jitter of report blocks is in units of the RTP timestamp, and otherwise in milli
 With --record FILE each event that the participant is told is written to the file as it happens,
 as a line that rtcp replay reads. The command that plays it again is written to standard error
 at the start, and with --show once more at the end. A file that is there already is refused without
---force.
+--force, and what is no regular file, as a pipe, with it too.
 
 The status is 0 at Done and Limit, 2 if the command line, an option or the configuration was
 refused, and 1 at LinkDown and if a port could not be bound, or writing or memory failed.";

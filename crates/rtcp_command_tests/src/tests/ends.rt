@@ -56,6 +56,7 @@ fn statuses(rt: HostRuntime) {
         (RunFault::Config(ConfigError::Cname), 2, "config C1 Cname\n"),
         (RunFault::Link, 1, "link\n"),
         (RunFault::Record, 1, "record\n"),
+        (RunFault::NoRegularFile, 1, "record no regular file\n"),
         (RunFault::Write, 1, "write\n"),
         (RunFault::Memory, 1, "memory\n"),
     ];
