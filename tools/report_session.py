@@ -186,7 +186,7 @@ class Session:
         self.table = Table(options["capacity"])
         self._bandwidths, self._clocks = (options["sender-bw"], options["receiver-bw"]), options["clock"]
         self.shares = [(0, *self._bandwidths)]  # moments at which the host gave settings, and both bandwidths
-        self._pace = *self._bandwidths, 0  # bandwidths by which checks go too, and until when
+        self._pace = participant.Pace()
         self._calls = {b"rtcp": self._rtcp, b"rtp": self._rtp, b"sent": self._sent, b"tick": self._tick,
                        b"leave": self._leave, b"configure": self._configure, b"forget": self._forget}
         self._told: set[tuple[int, int]] = set()  # the SSRC and the LSR of each sender report
@@ -254,16 +254,12 @@ class Session:
         minimum = MINIMUM if self.reports else SHORT_MINIMUM
         return participant.deterministic_interval(members, senders, is_sender, self.average, *bandwidths, minimum)
 
-    def _paced(self, moment: int) -> tuple[int, int]:
-        """The bandwidths that a check goes by."""
-        senders, others, until = self._pace
-        if moment >= until:
-            return self._bandwidths
-        return min(self._bandwidths[0], senders), min(self._bandwidths[1], others)
+    def _receiver_interval(self, bandwidths: tuple[int, int]) -> int:
+        _, members, senders = self.counts[-1]  # before the call
+        return self._interval(members, senders, False, bandwidths)
 
     def _check_interval(self, moment: int) -> int:
-        _, members, senders = self.counts[-1]  # before the call
-        return self._interval(members, senders, False, self._paced(moment))
+        return self._receiver_interval(self._pace.of_check(moment, self._bandwidths))
 
     def _rate_of(self, kind: int) -> int:
         return next((rate for one, rate in self._clocks if one == kind), self.options["rate"])
@@ -389,9 +385,7 @@ class Session:
     def _configure(self, _: Answer, moment: int, *fields: bytes) -> None:
         given = int(fields[0]), int(fields[1])
         if self.leave is None and given != self._bandwidths:
-            _, members, senders = self.counts[-1]  # before the call
-            end = moment + 5 * self._interval(members, senders, False, self._bandwidths)
-            self._pace = *self._paced(moment), max(self._pace[2], end)
+            self._pace.note(moment, self._bandwidths, self._receiver_interval(self._bandwidths))
         self._clocks = participant.NUMBERS["clocks"](fields[2])
         self._bandwidths = given
         self.shares.append((moment, *self._bandwidths))

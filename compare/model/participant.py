@@ -73,6 +73,21 @@ def drawn_interval(deterministic, word):
     return rounded_up(deterministic * (2**31 + word) * 100_000, 2**32 * 121_828)
 
 
+class Pace:
+    """The bandwidths before they changed: until five of their intervals have passed, checks go by the lesser ones."""
+
+    def __init__(self):
+        self.former, self.until = None, 0
+
+    def of_check(self, moment, present):
+        """The bandwidths that a check goes by."""
+        return present if moment >= self.until else tuple(map(min, present, self.former))
+
+    def note(self, moment, present, interval):
+        """The present bandwidths change, by which a receiver's interval is this one."""
+        self.former, self.until = self.of_check(moment, present), max(self.until, moment + 5 * interval)
+
+
 # One source
 
 
@@ -239,7 +254,7 @@ class Participant:
         self.ssrc, self.rate = options["ssrc"], options["rate"]  # the SSRC is the present identifier
         self.clocks, self.items = options["clock"], options["items"]
         self.bandwidths = options["sender-bw"], options["receiver-bw"]
-        self.pace = *self.bandwidths, 0  # bandwidths by which checks go too, and until when
+        self.pace = Pace()
         self.earlier = []  # the identifiers before it
         self.listed = []  # the peers whose datagrams changed it
         self.packets_before, self.reports_before = 0, 0  # how many were sent before the last change
@@ -279,13 +294,7 @@ class Participant:
     def check_interval(self, moment):
         """The interval by which a check goes, as a receiver's. For a while after settings were given it goes by the
         bandwidths before these too: by the lesser ones."""
-        return self.interval(is_sender=False, bandwidths=self.paced(moment))
-
-    def paced(self, moment):
-        sender_bw, receiver_bw, until = self.pace
-        if moment >= until:
-            return self.bandwidths
-        return min(self.bandwidths[0], sender_bw), min(self.bandwidths[1], receiver_bw)
+        return self.interval(is_sender=False, bandwidths=self.pace.of_check(moment, self.bandwidths))
 
     def rate_of(self, kind):
         """The units a second of the clock of a payload type."""
@@ -438,8 +447,7 @@ class Participant:
         if fault:
             raise Refusal("E8 Settings: " + fault)
         if self.is_present() and self.bandwidths != (sender_bw, receiver_bw):
-            end = moment + 5 * self.interval(is_sender=False)
-            self.pace = *self.paced(moment), max(self.pace[2], end)
+            self.pace.note(moment, self.bandwidths, self.interval(is_sender=False))
         self.bandwidths, self.clocks, self.items = (sender_bw, receiver_bw), clocks, items
         return self.end_call(moment)
 
