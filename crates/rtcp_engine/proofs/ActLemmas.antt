@@ -6,24 +6,27 @@ use Rattle.rtcp_engine.specs.declared.pace.Pace.{Pace}
 use Rattle.rtcp_engine.specs.declared.refusal.Refusal.{Refusal}
 use Rattle.rtcp_engine.specs.declared.step.Step.{Step}
 use Rattle.rtcp_engine.specs.declared.step.Told.{Told}
+use Rattle.rtcp_engine.specs.declared.step.Written.{Written}
 use Rattle.rtcp_engine.specs.Setups.{Setup, SettingsValue, settings_of, with_settings}
-use Rattle.rtcp_engine.specs.Acts.{Act, configured, moment_of}
+use Rattle.rtcp_engine.specs.Acts.{Act, EventValue, IsActOfEvent, configured, moment_of}
 use Rattle.rtcp_engine.specs.Leaving.{Backoff, Life, present, backing_off, gone, leaving_count}
 use Rattle.rtcp_engine.specs.Lives.{lived, others_moved_by, others_moved_into, out_by, out_while_backing_off, out_while_present, step_into, while_backing_off, while_present}
 use Rattle.rtcp_engine.specs.Outcomes.{Outcome}
 use Rattle.rtcp_engine.specs.Changes.{NewIdentifier, Session, bye_of_change, change_by, changed_by}
 use Rattle.rtcp_engine.specs.Histories.{History, life_at, session_at, settings_after, setup_after, setup_at, with_act}
 use Rattle.rtcp_engine.specs.Refusals.{refusal_after, refusal_of_content}
-use Rattle.rtcp_engine.specs.Answers.{answer_of, step_by}
-use Rattle.rtcp_engine.specs.Promises.{Spares, Takes as Promised}
-use Rattle.rtcp_engine.specs.States.{State, Acts, Agrees, Does, StandsStill, IsAt, IsIn, IsPaceOf, MovesOthers, Stays, ParticipantValue, PhaseValue, StandsAt, Waits, called, leaving, over, refusal_by, taking_part, with_settings_in}
+use Rattle.rtcp_engine.specs.Answers.{answer_of, followed_by, step_by}
+use Rattle.rtcp_engine.specs.Promises.{Answers, Replies, SaysStanding, Spares, Takes as Promised}
+use Rattle.rtcp_engine.specs.Runs.{IsAnsweredInTime}
+use Rattle.rtcp_engine.specs.States.{State, Acts, Agrees, Does, StandsStill, IsAt, IsIn, IsPaceOf, KeepsCapacity, MovesOthers, Stays, ParticipantValue, PhaseValue, StandsAt, Waits, called, leaving, over, refusal_by, taking_part, with_settings_in}
 use Rattle.rtcp_engine.specs.Steps.{AnswerValue, OutValue, StepValue, answer_unless}
 use Rattle.rtcp_engine.specs.Taken.{HasWords}
-use Rattle.rtcp_engine.specs.Views.{answer_value, reply_value}
+use Rattle.rtcp_engine.specs.Views.{LeavesRest, answer_value, reply_value, told_value}
 use Rattle.rtcp_engine.proofs.Agreeing.{calls_agree, with_own}
 use Rattle.rtcp_engine.proofs.LifeLemmas.{is_taking_part, is_leaving, leaving_members}
 use Rattle.rtcp_engine.proofs.AnswerLemmas.{refusal_is, refused_answer, taken_history, whole_refused}
 use Rattle.rtcp_engine.proofs.RolesChanged.{none_since}
+use Rattle.rtcp_engine.proofs.Waiting.{answered_in_time}
 
 -- ---- Phases
 
@@ -314,17 +317,27 @@ pub answered : (h : History) (act : Act) (step : StepValue) → refusal_after h 
     Ok step ≡ answer_of h act
 answered h act step none is = ap Ok is ∙ sym (ap (λ (r : Option Refusal). answer_unless r (step_by h act)) none)
 
+-- What is answered as the history says is answered in time.
+pub promised : {p q : ParticipantValue} {act : Act} {given : AnswerValue} →
+    ((h : History) → StandsAt p h → given ≡ answer_of h act) →
+    ((h : History) → StandsAt p h → StandsAt q (followed_by h act)) → Promised p act given q
+promised {p} {q} {act} {given} answer stands = record {
+  answer = answer;
+  stands = stands;
+  not_too_late = λ h at. subst (IsAnsweredInTime h act) (sym (answer h at))
+      (answered_in_time h act (stands h at).is_history);
+}
+
 -- an act that changes no identifier
 pub takes : {p q : ParticipantValue} {act : Act} {out : Option OutValue} {moved : Bool} (step : StepValue) →
     ((h : History) → StandsAt p h → IsTaken h act None) → Acts (called (moment_of act) p) q act out moved →
     IsStepOf q out moved step
     → HasWords act → Promised p act (Ok step) q
-takes {p} {q} {act} {out} {moved} step plainly acts is_step words = record {
-  answer = λ h stands. answered h act step (plainly h stands).taken
-      ((λ i. record step { changed = unchanged h stands i }) ∙ acted_step h None None step (plainly h stands)
-      stands.session acts (after h stands) refl is_step);
-  stands = λ h stands. subst (StandsAt q) (taken_history h act (plainly h stands).taken) (after h stands);
-}
+takes {p} {q} {act} {out} {moved} step plainly acts is_step words = promised
+    (λ h stands. answered h act step (plainly h stands).taken
+    ((λ i. record step { changed = unchanged h stands i }) ∙ acted_step h None None step (plainly h stands)
+    stands.session acts (after h stands) refl is_step))
+    (λ h stands. subst (StandsAt q) (taken_history h act (plainly h stands).taken) (after h stands))
   where
     after : (h : History) → StandsAt p h → StandsAt q (with_act h act)
     after h stands = acted_stands h None stands (plainly h stands) words stands.session refl acts
@@ -335,17 +348,8 @@ takes {p} {q} {act} {out} {moved} step plainly acts is_step words = record {
 
 pub refuses : (p : ParticipantValue) (act : Act) (reason : Refusal) →
     ((h : History) → StandsAt p h → refusal_after h act ≡ Some reason) → Promised p act (Err reason) p
-refuses p act reason is = record {
-  answer = λ h stands. refused_answer h act reason (is h stands);
-  stands = λ h stands. whole_refused p h act reason (is h stands) stands;
-}
-
--- a call that is refused, whatever it tells
-pub call_refused : {p : ParticipantValue} (act : Act) {reason : Refusal} → refusal_by (moment_of act) p ≡ Some reason →
-    Promised p act (Err reason) p
-call_refused {p} act {reason} same =
-    refuses p act reason (λ h stands. refusal_is p h act (Some reason) (refusal_of_content (session_at h) act) stands
-    same refl)
+refuses p act reason is = promised (λ h stands. refused_answer h act reason (is h stands))
+    (λ h stands. whole_refused p h act reason (is h stands) stands)
 
 -- a call that is refused for what it tells
 pub content_refused : (p : ParticipantValue) (act : Act) (reason : Refusal) → refusal_by (moment_of act) p ≡ None →
@@ -363,13 +367,58 @@ plain_call p act none datagram unchanged h stands =
       changes = unchanged (session_at h);
     }
 
--- the same answer, with a compound of its own in place of octets of the caller's
-pub retold : {p q : ParticipantValue} {act : Act} {one other : AnswerValue} → other ≡ one → Promised p act one q →
-    Promised p act other q
-retold {p} {q} {act} same promised = subst (λ (given : AnswerValue). Promised p act given q) (sym same) promised
+-- ---- The event of a call
 
-pub respared : {p q : ParticipantValue} (octets : List ℕ) (reply : Result Told Refusal) (answer : Result Step Refusal) →
-    answer_value answer ≡ reply_value octets reply → Spares p reply q → Spares p answer q
-respared octets reply (Ok step) same spares = record { within = spares.within; refused = tt }
-respared octets (Err reason) (Err refusal) same spares = record { within = spares.within; refused = spares.refused }
-respared octets (Ok told) (Err refusal) same spares = absurd cc
+-- the one act of an event without a datagram
+pub alone : {p q : ParticipantValue} {act : Act} {given : AnswerValue} → Promised p act given q → (other : Act) →
+    other ≡ act → Promised p other given q
+alone {p} {q} {act} {given} takes other is = subst (λ (act : Act). Promised p act given q) (sym is) takes
+
+-- No compound leaves the octets as they were.
+pub leaves_all : {octets : List ℕ} → LeavesRest octets octets None
+leaves_all = record { fits = omega arith; room = omega arith; rest = refl }
+
+-- a call that is taken
+pub replied : {p q : ParticipantValue} {event : EventValue} {before after : List ℕ} {told : Told}
+    {written : Option Written} →
+    ((act : Act) → IsActOfEvent event act → Promised p act (Ok (told_value after told)) q) →
+    KeepsCapacity q.presence → SaysStanding told.standing q → told.out ≡ written → LeavesRest before after written →
+    Replies p event before after (Ok told) q
+replied {before} {after} takes within standing out leaves = record {
+  takes = takes;
+  spares = record { within = within; refused = tt };
+  tells = record { standing = standing; leaves = subst (LeavesRest before after) (sym out) leaves };
+}
+
+-- one that is refused
+pub refused : {p : ParticipantValue} {event : EventValue} {octets : List ℕ} {reason : Refusal} →
+    ((act : Act) → IsActOfEvent event act → Promised p act (Err reason) p) → KeepsCapacity p.presence →
+    Replies p event octets octets (Err reason) p
+refused takes within = record {
+  takes = takes;
+  spares = record { within = within; refused = refl };
+  tells = record { standing = tt; leaves = leaves_all };
+}
+
+-- one that is refused, whatever it tells
+pub call_refused : {p : ParticipantValue} {event : EventValue} {octets : List ℕ} {moment : ℕ} {reason : Refusal} →
+    ((act : Act) → IsActOfEvent event act → moment_of act ≡ moment) → refusal_by moment p ≡ Some reason →
+    KeepsCapacity p.presence → Replies p event octets octets (Err reason) p
+call_refused {p} {event} {octets} {moment} {reason} at same = refused (λ act is.
+    refuses p act reason (λ h stands. refusal_is p h act (Some reason) (refusal_of_content (session_at h) act) stands
+    (subst (λ (m : ℕ). refusal_by m p ≡ Some reason) (sym (at act is)) same) refl))
+
+-- the same answer, with a compound of its own in place of octets of the caller's
+pub with_compound : {p q : ParticipantValue} {event : EventValue} {before after : List ℕ}
+    (reply : Result Told Refusal) (answer : Result Step Refusal) → answer_value answer ≡ reply_value after reply →
+    Replies p event before after reply q → Answers p event answer q
+with_compound {p} {q} {event} {before} {after} reply answer same replies = record {
+  takes = λ act is. subst (λ (given : AnswerValue). Promised p act given q) (sym same) (replies.takes act is);
+  spares = spared reply answer same replies.spares;
+}
+  where
+    spared : (reply : Result Told Refusal) (answer : Result Step Refusal) →
+        answer_value answer ≡ reply_value after reply → Spares p reply q → Spares p answer q
+    spared reply (Ok step) same spares = record { within = spares.within; refused = tt }
+    spared (Err reason) (Err refusal) same spares = record { within = spares.within; refused = spares.refused }
+    spared (Ok told) (Err refusal) same spares = absurd cc

@@ -1,12 +1,16 @@
 -- A datagram that was read: whether it is refused, and whether it changes the identifier.
-use Rattle.std.proofs.Common.{◌≡◌, ℕ, ◌&&◌, not, Bool, true, false, List, map, Option, Some, None, Err, if◌then◌else◌, refl, sym, ap, ◌∙◌}
+use Rattle.std.proofs.Common.{◌≡◌, ℕ, ◌&&◌, not, Bool, true, false, List, map, Option, Some, None, Result, Err, if◌then◌else◌, refl, sym, ap, ◌∙◌, subst}
+use Rattle.rtcp_wire.specs.Values.{RtcpPacket}
+use Rattle.rtcp_wire.specs.RtpHeads.{RtpValue}
+use Rattle.rtcp_wire.specs.declared.fault.WireFault.{WireFault}
+use Rattle.rtcp_wire.specs.declared.rtp.fault.RtpFault.{RtpFault}
 use Rattle.std.specs.Option.{option_or}
 use Rattle.rtcp_engine.specs.declared.arrival.Arrival.{Arrival}
 use Rattle.rtcp_engine.specs.declared.arrival.Arrival.TheVariants.{Rtcp, Rtp}
 use Rattle.rtcp_engine.specs.declared.changes.IdentifierChange.{IdentifierChange}
 use Rattle.rtcp_engine.specs.declared.refusal.Refusal.{Refusal}
 use Rattle.rtcp_engine.specs.declared.refusal.Refusal.TheVariants.{OwnSsrc}
-use Rattle.rtcp_engine.specs.Acts.{Datagram, arrived}
+use Rattle.rtcp_engine.specs.Acts.{Act, Datagram, IsActOfEvent, IsReading, IsRtpReading, arrived, rtcp_arrived, rtcp_came, rtp_arrived, rtp_came}
 use Rattle.rtcp_engine.specs.Identities.{may_change}
 use Rattle.rtcp_engine.specs.Changes.{NewIdentifier, Session, changing_peers, is_about, new_identifier}
 use Rattle.rtcp_engine.specs.Histories.{History, session_at}
@@ -14,9 +18,11 @@ use Rattle.rtcp_engine.specs.Promises.{Takes as Promised}
 use Rattle.rtcp_engine.specs.Refusals.{fault_in, refusal_after, refusal_if, refusal_of_content}
 use Rattle.rtcp_engine.specs.Setups.{Setup}
 use Rattle.rtcp_engine.specs.States.{ParticipantValue, StandsAt, refusal_by}
+use Rattle.rtcp_engine.specs.Steps.{AnswerValue}
 use Rattle.rtcp_engine.specs.Views.{datagram_of}
 use Rattle.rtcp_engine.proofs.ActLemmas.{IsTaken, refuses}
 use Rattle.rtcp_engine.proofs.AnswerLemmas.{refusal_is}
+use Rattle.rtcp_engine.proofs.LawLemmas.{one_reading-once, one_reading-rtp_once}
 
 -- one that was read has no fault
 no_fault : (arrival : Arrival) → fault_in (datagram_of arrival) ≡ None
@@ -87,3 +93,22 @@ pub may_is : (p : ParticipantValue) (h : History) (peer : ℕ) → StandsAt p h 
 may_is p h peer stands = ap (λ (changes : List IdentifierChange). may_change
     (map (λ (change : IdentifierChange). change.peer) changes)
     peer) stands.session.changes
+
+-- ---- The event
+
+-- Octets say one thing, so the event of a datagram is one act.
+pub as_compound : {p q : ParticipantValue} {moment peer word : ℕ} {octets : List ℕ} {given : AnswerValue}
+    (reading : Result (List RtcpPacket) WireFault) → IsReading octets reading →
+    Promised p (rtcp_came moment peer word octets reading) given q → (act : Act) →
+    IsActOfEvent (rtcp_arrived moment peer word octets) act → Promised p act given q
+as_compound {p} {q} {moment} {peer} {word} {octets} {given} reading reads takes act (other, is, same) =
+    subst (λ (act : Act). Promised p act given q)
+    (ap (rtcp_came moment peer word octets) (one_reading-once octets reading other reads is) ∙ sym same) takes
+
+pub as_packet : {p q : ParticipantValue} {moment peer word : ℕ} {octets : List ℕ} {given : AnswerValue}
+    (reading : Result RtpValue RtpFault) → IsRtpReading octets reading →
+    Promised p (rtp_came moment peer word reading) given q → (act : Act) →
+    IsActOfEvent (rtp_arrived moment peer word octets) act → Promised p act given q
+as_packet {p} {q} {moment} {peer} {word} {octets} {given} reading reads takes act (other, is, same) =
+    subst (λ (act : Act). Promised p act given q)
+    (ap (rtp_came moment peer word) (one_reading-rtp_once octets reading other reads is) ∙ sym same) takes

@@ -15,13 +15,13 @@ use Rattle.rtcp_engine.specs.Lives.{bye_out, lived, out_by, report_out}
 use Rattle.rtcp_engine.specs.Outcomes.{Outcome}
 use Rattle.rtcp_engine.specs.Refusals.{refusal_after, refusal_in}
 use Rattle.rtcp_engine.specs.Reporting.{bye_octets}
-use Rattle.rtcp_engine.specs.Runs.{AnsweredInTime, AreRefusals, AreRefusalsForgotten, EndAtGoodbye, HandsOver, HasCompound, IsAnsweredInTime, IsRefusalForgotten, handed_over, is_bye, says_goodbye, taken_since}
+use Rattle.rtcp_engine.specs.Runs.{AnsweredInTime, AreRefusals, AreRefusalsForgotten, EndAtGoodbye, HandsOver, IsRefusalForgotten, handed_over, is_bye, says_goodbye, taken_since}
 use Rattle.rtcp_engine.specs.Sent.{Sent, deciding_interval, handed_out, sent_at}
 use Rattle.rtcp_engine.specs.Setups.{Setup}
 use Rattle.rtcp_engine.specs.Spacing.{AreBounded, first_leave}
 use Rattle.rtcp_engine.specs.Steps.{AnswerValue, answer_unless}
-use Rattle.rtcp_engine.specs.Taken.{HasWords, IsHistory}
-use Rattle.rtcp_engine.proofs.Waiting.{in_time_after}
+use Rattle.rtcp_engine.specs.Taken.{IsHistory}
+use Rattle.rtcp_engine.proofs.Waiting.{answered_in_time, one_less}
 use Rattle.rtcp_engine.proofs.LawLemmas.{answers_hand_out_compounds, sent_compounds_keep_apart}
 
 -- ---- What is sent
@@ -128,36 +128,17 @@ ends h (act ∷ acts) =
 
 -- ---- In time
 
--- a history before one act more is one, and the words of the act are in range if it is taken
-one_less : (h : History) (act : Act) (refusal : Option Refusal) → refusal_after h act ≡ refusal →
-    IsHistory (elim refusal [ None ↦ with_act h act | Some reason ↦ h ]) →
-    IsHistory h × (refusal ≡ None → HasWords act)
-one_less h act None is history = (
-  record { usable = history.usable; word = history.word; taken = history.taken.2 },
-  λ none. history.taken.1,
-)
-one_less h act (Some reason) is history = (history, λ none. absurd cc)
-
 history_before : (h : History) (acts : List Act) → IsHistory (followed_by_all h acts) → IsHistory h
 history_before h [] is = is
 history_before h (act ∷ acts) is =
     (one_less h act (refusal_after h act) refl (history_before (followed_by h act) acts is)).0
 
--- a tick that comes late, and is taken, brings a compound
-answered : (h : History) (act : Act) → IsHistory h → (refusal_after h act ≡ None → HasWords act) →
-    IsAnsweredInTime h act (answer_of h act)
-answered h (ticked moment first_word second_word) is words = λ late taken.
-    let act = ticked moment first_word second_word in
-    subst HasCompound (sym (ap (λ (r : Option Refusal). answer_unless r (step_by h act)) taken))
-    (in_time_after h act is taken (words taken) late)
-answered h act is words = tt
-
 in_time : (h : History) (acts : List Act) → IsHistory (followed_by_all h acts) →
     AnsweredInTime h acts (answers_to h acts)
 in_time h [] is = tt
 in_time h (act ∷ acts) is =
-    let one = one_less h act (refusal_after h act) refl (history_before (followed_by h act) acts is) in
-    (answered h act one.0 one.1, in_time (followed_by h act) acts is)
+    let next = followed_by h act in
+    (answered_in_time h act (history_before next acts is), in_time next acts is)
 
 -- ---- Refusals
 

@@ -14,7 +14,6 @@ mod Agreeing
 mod Among
 mod Arriving
 mod Beginning
-mod Bounded
 mod examples
 mod Changing
 mod NewIdentifiers

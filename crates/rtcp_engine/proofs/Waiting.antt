@@ -1,5 +1,5 @@
 -- A participant that is asked late enough sends.
-use Rattle.std.proofs.Common.{◌≡◌, ℕ, ◌+◌, ◌^◌, ◌<◌, ◌≤◌, ◌&&◌, ◌==◌, nat_lt, nat_le, max, Bool, true, false, IsTrue, is_some, List, [], ◌∷◌, map, filter, not, Option, Some, None, option_map, Ok, Err, if◌then◌else◌, refl, sym, arith, subst, inl, inr}
+use Rattle.std.proofs.Common.{◌≡◌, ℕ, ◌+◌, ◌^◌, ◌<◌, ◌≤◌, ◌&&◌, ◌==◌, nat_lt, nat_le, max, Bool, true, false, IsTrue, is_some, List, [], ◌∷◌, map, filter, not, Option, Some, None, option_map, Ok, Err, if◌then◌else◌, refl, sym, ap, arith, subst, inl, inr}
 use Rattle.std.proofs.lemmas.Bool.{cases_lt, cond_both, lt-ltb, le-ltb, le-leb}
 use Rattle.rtcp_clock.specs.Intervals.{drawn_interval, longest_draw}
 use Rattle.rtcp_clock.proofs.LawLemmas.{draw_within_bounds, longest_never_falls}
@@ -21,8 +21,12 @@ use Rattle.rtcp_engine.specs.Outcomes.{Outcome, interval_at, member_count, nothi
 use Rattle.rtcp_engine.specs.Ticks.{checked, has_come, has_passed, is_report_due, put_off, reported, with_recount, with_report}
 use Rattle.rtcp_engine.specs.Arrivals.{media_fact, rate_of, with_media}
 use Rattle.rtcp_engine.specs.Changes.{NewIdentifier, Session, change_by, changed_by}
-use Rattle.rtcp_engine.specs.Histories.{History, last_moment, life_at, session_of, settings_after, setup_at}
+use Rattle.rtcp_engine.specs.declared.refusal.Refusal.{Refusal}
+use Rattle.rtcp_engine.specs.Answers.{answer_of, followed_by, step_by}
+use Rattle.rtcp_engine.specs.Histories.{History, last_moment, life_at, session_of, settings_after, setup_at, with_act}
 use Rattle.rtcp_engine.specs.Refusals.{refusal_after}
+use Rattle.rtcp_engine.specs.Runs.{HasCompound, IsAnsweredInTime}
+use Rattle.rtcp_engine.specs.Steps.{answer_unless}
 use Rattle.rtcp_engine.specs.Reporting.{bye_octets, report_octets}
 use Rattle.rtcp_engine.specs.Taken.{HasWords, AllTaken, IsHistory}
 use Rattle.rtcp_engine.specs.Leaving.{Backoff, Life, present, backing_off, gone, after_waiting_tick, left_at, bye_count, is_bye_due, leaving_interval, leaving_load, leaving_timing}
@@ -255,8 +259,8 @@ while_present_waits setup fall greatest t (ticked moment first_word second_word)
 while_present_waits setup fall greatest t (left moment word) outcome order words h =
     leaves_by moment word _ words order h
 while_present_waits setup fall greatest t (configured moment settings) outcome order words h =
-    passes moment (is_fall setup (configured moment settings) (present outcome)) (with_pace setup settings moment outcome) refl
-    (omega arith) order h
+    passes moment (is_fall setup (configured moment settings) (present outcome))
+    (with_pace setup settings moment outcome) refl (omega arith) order h
 while_present_waits setup fall greatest t (forgotten moment ssrc) outcome order words h = recounts moment _ refl order h
 
 while_backing_off_waits : (setup : Setup) (fall greatest t : ℕ) (act : Act) (outcome : Outcome) (backoff : Backoff) →
@@ -442,3 +446,25 @@ all_in_time setup word (act ∷ earlier) usable fits taken = (
       (record { usable = usable; word = fits; taken = taken.2 }) taken.0 taken.1,
   all_in_time setup word earlier usable fits taken.2,
 )
+
+-- ---- Answers
+
+-- a history before one act more is one, and the words of the act are in range if it is taken
+pub one_less : (h : History) (act : Act) (refusal : Option Refusal) → refusal_after h act ≡ refusal →
+    IsHistory (elim refusal [ None ↦ with_act h act | Some reason ↦ h ]) →
+    IsHistory h × (refusal ≡ None → HasWords act)
+one_less h act None is history = (
+  record { usable = history.usable; word = history.word; taken = history.taken.2 },
+  λ none. history.taken.1,
+)
+one_less h act (Some reason) is history = (history, λ none. absurd cc)
+
+-- A tick that comes late, and is taken, is answered by a compound.
+pub answered_in_time : (h : History) (act : Act) → IsHistory (followed_by h act) →
+    IsAnsweredInTime h act (answer_of h act)
+answered_in_time h (ticked moment first_word second_word) is = λ late taken.
+    let act = ticked moment first_word second_word in
+    let (before, words) = one_less h act (refusal_after h act) refl is in
+    subst HasCompound (sym (ap (λ (r : Option Refusal). answer_unless r (step_by h act)) taken))
+    (in_time_after h act before taken (words taken) late)
+answered_in_time h act is = tt

@@ -3,19 +3,25 @@ use Rattle.std.specs.Prelude.{◌≡◌, ◌<◌, ◌^◌, ℕ, List, Result, If
 use Rattle.rtcp_engine.specs.declared.refusal.Refusal.{Refusal}
 use Rattle.rtcp_engine.specs.declared.step.Standing.{Standing}
 use Rattle.rtcp_engine.specs.declared.step.Told.{Told}
-use Rattle.rtcp_engine.specs.Acts.{Act}
+use Rattle.rtcp_engine.specs.declared.step.Step.{Step}
+use Rattle.rtcp_engine.specs.Acts.{Act, EventValue, IsActOfEvent}
 use Rattle.rtcp_engine.specs.Answers.{answer_of, followed_by}
 use Rattle.rtcp_engine.specs.Histories.{History, life_at, setup_at}
 use Rattle.rtcp_engine.specs.Lives.{standing_in_life}
+use Rattle.rtcp_engine.specs.Runs.{IsAnsweredInTime}
 use Rattle.rtcp_engine.specs.States.{KeepsCapacity, ParticipantValue, StandsAt}
 use Rattle.rtcp_engine.specs.Steps.{AnswerValue}
-use Rattle.rtcp_engine.specs.Views.{LeavesRest, out_told}
+use Rattle.rtcp_engine.specs.Views.{LeavesRest, answer_value, out_told, reply_value}
 
--- A participant is told an act. It answers as its history says, and stands at the history with this act.
+-- ---- An act
+
+-- A participant is told an act. It answers as its history says, and stands at the history with this act. A tick that
+-- comes late, and is taken, is answered by a compound.
 pub record Takes (old : ParticipantValue) (act : Act) (given : AnswerValue) (new : ParticipantValue)
     : Type 0 where
   pub answer : (history : History) → StandsAt old history → given ≡ answer_of history act
   pub stands : (history : History) → StandsAt old history → StandsAt new (followed_by history act)
+  pub not_too_late : (history : History) → StandsAt old history → IsAnsweredInTime history act given
 
 -- It says where the participant stands. The next moment to ask is below 2^51.
 pub record SaysStanding (standing : Standing) (participant : ParticipantValue) : Type 0 where
@@ -34,3 +40,21 @@ pub record Spares {A : Type 0} (old : ParticipantValue) (answer : Result A Refus
     : Type 0 where
   pub within : KeepsCapacity new.presence
   pub refused : OnErr answer (new ≡ old)
+
+-- ---- An event
+
+-- A call tells a participant an event, and returns the answer. Whatever the octets of a datagram say, the participant
+-- takes the act of that.
+pub record Answers (old : ParticipantValue) (event : EventValue) (answer : Result Step Refusal) (new : ParticipantValue)
+    : Type 0 where
+  pub takes : (act : Act) → IsActOfEvent event act → Takes old act (answer_value answer) new
+  pub spares : Spares old answer new
+
+-- The same of a call whose caller keeps the octets for a compound.
+pub record Replies
+    (old : ParticipantValue) (event : EventValue) (before after : List ℕ) (reply : Result Told Refusal)
+    (new : ParticipantValue)
+    : Type 0 where
+  pub takes : (act : Act) → IsActOfEvent event act → Takes old act (reply_value after reply) new
+  pub spares : Spares old reply new
+  pub tells : Tells before after reply new

@@ -1,8 +1,7 @@
 //! What a host tells a participant, as a value.
 
-ghost use Rattle.rtcp_engine.specs.Acts.{Act};
-ghost use Rattle.rtcp_engine.specs.Promises.{Spares, Takes, Tells};
-ghost use Rattle.rtcp_engine.specs.Views.{answer_value, reply_value, IsActOf};
+ghost use Rattle.rtcp_engine.specs.Promises.{Answers, Replies};
+ghost use Rattle.rtcp_engine.specs.Views.{event_value};
 
 use crate::participant::Participant;
 use crate::settings::Settings;
@@ -83,8 +82,7 @@ impl<T: MemberTable> Participant<T> {
     ///
     /// Those of the call. Then the participant is unchanged.
     pub fn tell(&mut self, event: &Event<'_>) -> Answer
-        ensures takes { (act : Act) → IsActOf event.now act → Takes self.old act (answer_value result) self.new }
-        ensures spares { Spares self.old result self.new }
+        ensures { Answers self.old (event_value event.now) result self.new }
     {
         let mut octets = [0; MAX_COMPOUND];
         let reply = self.tell_into(event, &mut octets);
@@ -97,10 +95,7 @@ impl<T: MemberTable> Participant<T> {
     ///
     /// Those of the call. Then the participant and `octets` are unchanged.
     pub fn tell_into(&mut self, event: &Event<'_>, octets: &mut [u8; MAX_COMPOUND]) -> Reply
-        ensures takes { (act : Act) → IsActOf event.now act →
-            Takes self.old act (reply_value octets.new result) self.new }
-        ensures spares { Spares self.old result self.new }
-        ensures tells { Tells octets.old octets.new result self.new }
+        ensures { Replies self.old (event_value event.now) octets.old octets.new result self.new }
     {
         match *event {
             Event::ArriveRtcp {

@@ -1,22 +1,17 @@
 //! A participant of a session, up to its leave and through it (RFC 3550, 6.2, 6.3).
 
-ghost use Rattle.std.specs.Prelude.{option_map, ◌≡◌, ◌↔◌, ◌≤◌, ◌<◌, ◌^◌, List, Result, Some, None, Err, IfOk, IfSome, IsTrue, OnErr, is_some};
-ghost use Rattle.rtcp_wire.specs.declared.fault.WireFault.{WireFault as Fault};
-ghost use Rattle.rtcp_wire.specs.declared.rtp.fault.RtpFault.{RtpFault as HeadFault};
-ghost use Rattle.rtcp_wire.specs.Values.{RtcpPacket};
+ghost use Rattle.std.specs.Prelude.{option_map, ◌≡◌, ◌↔◌, ◌<◌, ◌^◌, Some, None, Err, IfOk, IfSome};
 ghost use Rattle.rtcp_members.specs.Tables.{no_members};
-ghost use Rattle.rtcp_wire.specs.RtpHeads.{RtpValue};
 ghost use Rattle.rtcp_members.specs.ListViews.{state_value};
 ghost use Rattle.rtcp_engine.specs.declared.config.ConfigError.{ConfigError as Error};
-ghost use Rattle.rtcp_engine.specs.Acts.{rtcp_came, rtp_came, rtp_sent, ticked, left, configured, forgotten, IsReading, IsRtpReading};
+ghost use Rattle.rtcp_engine.specs.Acts.{forget_asked, leave_asked, packet_sent, rtcp_arrived, rtp_arrived, settings_given, time_passed};
 ghost use Rattle.rtcp_engine.specs.Histories.{History, life_at, setup_at};
 ghost use Rattle.rtcp_engine.specs.Lives.{members_in_life, senders_in_life, entries_in_life, TellsInLife, WalksInLife, next_in_life};
 ghost use Rattle.rtcp_engine.specs.Refused.{error_in};
 ghost use Rattle.rtcp_engine.specs.States.{KeepsCapacity, StandsAt};
-ghost use Rattle.rtcp_engine.specs.InTime.{IsOverdue};
-ghost use Rattle.rtcp_engine.specs.Promises.{Spares, Takes};
+ghost use Rattle.rtcp_engine.specs.Promises.{Answers};
 ghost use Rattle.rtcp_engine.specs.Taken.{begun};
-ghost use Rattle.rtcp_engine.specs.Views.{setup_of, answer_value, settings_value};
+ghost use Rattle.rtcp_engine.specs.Views.{setup_of, settings_value};
 
 use crate::changes::IdentifierChanges;
 use crate::config::{Config, ConfigError};
@@ -206,9 +201,7 @@ impl<T: MemberTable> Participant<T> {
     ///
     /// The first of E1 to E5 and E7 that applies. Then the participant is unchanged.
     pub fn arrive_rtcp(&mut self, now: u64, peer: u64, w: u32, bytes: &[u8]) -> Answer
-        ensures takes { (reading : Result (List RtcpPacket) Fault) → IsReading bytes.now reading →
-            Takes self.old (rtcp_came now peer w bytes.now reading) (answer_value result) self.new }
-        ensures spares { Spares self.old result self.new }
+        ensures { Answers self.old (rtcp_arrived now peer w bytes.now) result self.new }
     {
         let mut octets = [0; MAX_COMPOUND];
         let reply = self.arrive_rtcp_into(now, peer, w, bytes, &mut octets);
@@ -222,9 +215,7 @@ impl<T: MemberTable> Participant<T> {
     ///
     /// The first of E1 to E4, E6 and E7 that applies. Then the participant is unchanged.
     pub fn arrive_rtp(&mut self, now: u64, peer: u64, w: u32, bytes: &[u8]) -> Answer
-        ensures takes { (reading : Result RtpValue HeadFault) → IsRtpReading bytes.now reading →
-            Takes self.old (rtp_came now peer w reading) (answer_value result) self.new }
-        ensures spares { Spares self.old result self.new }
+        ensures { Answers self.old (rtp_arrived now peer w bytes.now) result self.new }
     {
         let mut octets = [0; MAX_COMPOUND];
         let reply = self.arrive_rtp_into(now, peer, w, bytes, &mut octets);
@@ -238,8 +229,7 @@ impl<T: MemberTable> Participant<T> {
     ///
     /// The first of E1 to E4 that applies. Then the participant is unchanged.
     pub fn sent_rtp(&mut self, now: u64, rtp_ts: u32, octets: u32) -> Answer
-        ensures takes { Takes self.old (rtp_sent now rtp_ts octets) (answer_value result) self.new }
-        ensures spares { Spares self.old result self.new }
+        ensures { Answers self.old (packet_sent now rtp_ts octets) result self.new }
     {
         let mut room = [0; MAX_COMPOUND];
         let reply = self.sent_rtp_into(now, rtp_ts, octets, &mut room);
@@ -257,10 +247,7 @@ impl<T: MemberTable> Participant<T> {
     ///
     /// The first of E1 to E4 that applies. Then the participant is unchanged.
     pub fn tick(&mut self, now: u64, w1: u32, w2: u32) -> Answer
-        ensures takes { Takes self.old (ticked now w1 w2) (answer_value result) self.new }
-        ensures not_too_late { (history : History) → StandsAt self.old history →
-            IsOverdue history (ticked now w1 w2) → IfOk result (λ step. IsTrue (is_some step.out)) }
-        ensures spares { Spares self.old result self.new }
+        ensures { Answers self.old (time_passed now w1 w2) result self.new }
     {
         let mut octets = [0; MAX_COMPOUND];
         let reply = self.tick_into(now, w1, w2, &mut octets);
@@ -278,8 +265,7 @@ impl<T: MemberTable> Participant<T> {
     ///
     /// The first of E1 to E4 that applies. Then the participant is unchanged.
     pub fn leave(&mut self, now: u64, w: u32) -> Answer
-        ensures takes { Takes self.old (left now w) (answer_value result) self.new }
-        ensures spares { Spares self.old result self.new }
+        ensures { Answers self.old (leave_asked now w) result self.new }
     {
         let mut octets = [0; MAX_COMPOUND];
         let reply = self.leave_into(now, w, &mut octets);
@@ -300,8 +286,7 @@ impl<T: MemberTable> Participant<T> {
     ///
     /// The first of E1 to E4 and E8 that applies. Then the participant is unchanged.
     pub fn configure(&mut self, now: u64, settings: &Settings) -> Answer
-        ensures takes { Takes self.old (configured now (settings_value settings.now)) (answer_value result) self.new }
-        ensures spares { Spares self.old result self.new }
+        ensures { Answers self.old (settings_given now (settings_value settings.now)) result self.new }
     {
         let mut octets = [0; MAX_COMPOUND];
         let reply = self.configure_into(now, settings, &mut octets);
@@ -319,8 +304,7 @@ impl<T: MemberTable> Participant<T> {
     ///
     /// The first of E1 to E4 that applies. Then the participant is unchanged.
     pub fn forget(&mut self, now: u64, ssrc: u32) -> Answer
-        ensures takes { Takes self.old (forgotten now ssrc) (answer_value result) self.new }
-        ensures spares { Spares self.old result self.new }
+        ensures { Answers self.old (forget_asked now ssrc) result self.new }
     {
         let mut octets = [0; MAX_COMPOUND];
         let reply = self.forget_into(now, ssrc, &mut octets);

@@ -1,18 +1,12 @@
 //! The calls of a participant, one for each event: each writes its compound, if it has one, to the start of the
 //! caller's octets, and tells of it. The octets after it stay as they were, so a call without a compound leaves all.
 
-ghost use Rattle.std.specs.Prelude.{◌≡◌, ◌≤◌, ◌<◌, ◌^◌, ℕ, List, None, Ok, false, Result, IfOk, IsTrue, is_some};
-ghost use Rattle.rtcp_engine.specs.Acts.{arrived, configured, forgotten, left, rtp_sent, ticked, rtcp_came, rtp_came, IsReading, IsRtpReading};
+ghost use Rattle.std.specs.Prelude.{◌≡◌, ◌≤◌, ◌<◌, ◌^◌, ℕ, List, None, Ok, false};
+ghost use Rattle.rtcp_engine.specs.Acts.{arrived, forget_asked, leave_asked, packet_sent, rtcp_arrived, rtp_arrived, settings_given, time_passed};
 ghost use Rattle.rtcp_engine.specs.Changes.{is_about};
-ghost use Rattle.rtcp_engine.specs.Histories.{History};
-ghost use Rattle.rtcp_engine.specs.InTime.{IsOverdue};
-ghost use Rattle.rtcp_engine.specs.Promises.{SaysStanding, Spares, Takes, Tells};
-ghost use Rattle.rtcp_engine.specs.States.{Admits, KeepsCapacity, StandsAt, refusal_by};
-ghost use Rattle.rtcp_engine.specs.Views.{datagram_of, out_told, reply_value, settings_value, size_of, told_value};
-ghost use Rattle.rtcp_wire.specs.declared.fault.WireFault.{WireFault as Fault};
-ghost use Rattle.rtcp_wire.specs.declared.rtp.fault.RtpFault.{RtpFault as HeadFault};
-ghost use Rattle.rtcp_wire.specs.Values.{RtcpPacket};
-ghost use Rattle.rtcp_wire.specs.RtpHeads.{RtpValue};
+ghost use Rattle.rtcp_engine.specs.Promises.{Replies, SaysStanding, Takes};
+ghost use Rattle.rtcp_engine.specs.States.{Admits, KeepsCapacity, refusal_by};
+ghost use Rattle.rtcp_engine.specs.Views.{datagram_of, out_told, settings_value, size_of, told_value};
 
 use super::{Participant, Phase};
 use crate::arrival::Arrival;
@@ -36,10 +30,7 @@ impl<T: MemberTable> Participant<T> {
         bytes: &[u8],
         octets: &mut [u8; MAX_COMPOUND],
     ) -> Reply
-        ensures takes { (reading : Result (List RtcpPacket) Fault) → IsReading bytes.now reading →
-            Takes self.old (rtcp_came now peer w bytes.now reading) (reply_value octets.new result) self.new }
-        ensures spares { Spares self.old result self.new }
-        ensures tells { Tells octets.old octets.new result self.new }
+        ensures { Replies self.old (rtcp_arrived now peer w bytes.now) octets.old octets.new result self.new }
     {
         if let Some(refusal) = self.refusal(now) {
             return Err(refusal);
@@ -68,10 +59,7 @@ impl<T: MemberTable> Participant<T> {
         bytes: &[u8],
         octets: &mut [u8; MAX_COMPOUND],
     ) -> Reply
-        ensures takes { (reading : Result RtpValue HeadFault) → IsRtpReading bytes.now reading →
-            Takes self.old (rtp_came now peer w reading) (reply_value octets.new result) self.new }
-        ensures spares { Spares self.old result self.new }
-        ensures tells { Tells octets.old octets.new result self.new }
+        ensures { Replies self.old (rtp_arrived now peer w bytes.now) octets.old octets.new result self.new }
     {
         if let Some(refusal) = self.refusal(now) {
             return Err(refusal);
@@ -99,10 +87,8 @@ impl<T: MemberTable> Participant<T> {
         size: u32,
         octets: &mut [u8; MAX_COMPOUND],
     ) -> Reply
-        ensures takes { Takes self.old (rtp_sent now rtp_ts size) (reply_value octets.new result) self.new }
-        ensures spares { Spares self.old result self.new }
+        ensures replies { Replies self.old (packet_sent now rtp_ts size) octets.old octets.new result self.new }
         ensures empty { out_told result ≡ None }
-        ensures tells { Tells octets.old octets.new result self.new }
     {
         if let Some(refusal) = self.refusal(now) {
             return Err(refusal);
@@ -124,11 +110,7 @@ impl<T: MemberTable> Participant<T> {
         w2: u32,
         octets: &mut [u8; MAX_COMPOUND],
     ) -> Reply
-        ensures takes { Takes self.old (ticked now w1 w2) (reply_value octets.new result) self.new }
-        ensures not_too_late { (history : History) → StandsAt self.old history →
-            IsOverdue history (ticked now w1 w2) → IfOk result (λ told. IsTrue (is_some told.out)) }
-        ensures spares { Spares self.old result self.new }
-        ensures tells { Tells octets.old octets.new result self.new }
+        ensures { Replies self.old (time_passed now w1 w2) octets.old octets.new result self.new }
     {
         if let Some(refusal) = self.refusal(now) {
             return Err(refusal);
@@ -144,9 +126,7 @@ impl<T: MemberTable> Participant<T> {
     ///
     /// The first of E1 to E4 that applies. Then the participant and `octets` are unchanged.
     pub fn leave_into(&mut self, now: u64, w: u32, octets: &mut [u8; MAX_COMPOUND]) -> Reply
-        ensures takes { Takes self.old (left now w) (reply_value octets.new result) self.new }
-        ensures spares { Spares self.old result self.new }
-        ensures tells { Tells octets.old octets.new result self.new }
+        ensures { Replies self.old (leave_asked now w) octets.old octets.new result self.new }
     {
         if let Some(refusal) = self.refusal(now) {
             return Err(refusal);
@@ -167,11 +147,9 @@ impl<T: MemberTable> Participant<T> {
         settings: &Settings,
         octets: &mut [u8; MAX_COMPOUND],
     ) -> Reply
-        ensures takes { Takes self.old (configured now (settings_value settings.now)) (reply_value octets.new result)
-            self.new }
-        ensures spares { Spares self.old result self.new }
+        ensures replies { Replies self.old (settings_given now (settings_value settings.now)) octets.old octets.new
+            result self.new }
         ensures empty { out_told result ≡ None }
-        ensures tells { Tells octets.old octets.new result self.new }
     {
         if let Some(refusal) = self.refusal(now) {
             return Err(refusal);
@@ -191,10 +169,8 @@ impl<T: MemberTable> Participant<T> {
     ///
     /// The first of E1 to E4 that applies. Then the participant is unchanged.
     pub fn forget_into(&mut self, now: u64, ssrc: u32, octets: &mut [u8; MAX_COMPOUND]) -> Reply
-        ensures takes { Takes self.old (forgotten now ssrc) (reply_value octets.new result) self.new }
-        ensures spares { Spares self.old result self.new }
+        ensures replies { Replies self.old (forget_asked now ssrc) octets.old octets.new result self.new }
         ensures empty { out_told result ≡ None }
-        ensures tells { Tells octets.old octets.new result self.new }
     {
         if let Some(refusal) = self.refusal(now) {
             return Err(refusal);

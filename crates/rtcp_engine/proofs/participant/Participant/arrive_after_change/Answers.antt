@@ -6,7 +6,7 @@ use Rattle.rtcp_engine.specs.Lives.{step_into}
 use Rattle.rtcp_engine.specs.States.{Acts, IsIn, ParticipantValue, StandsAt}
 use Rattle.rtcp_engine.specs.Steps.{OutValue}
 use Rattle.rtcp_engine.specs.Views.{datagram_of, out_in, told_value}
-use Rattle.rtcp_engine.proofs.ActLemmas.{IsTaken, acted_stands, acted_step, answered}
+use Rattle.rtcp_engine.proofs.ActLemmas.{IsTaken, acted_stands, acted_step, answered, promised}
 use Rattle.rtcp_engine.proofs.Arriving.{changing, is_own, may_is}
 use Rattle.rtcp_engine.proofs.Changing.{or_none}
 use Rattle.rtcp_engine.proofs.LifeLemmas.{is_there}
@@ -36,12 +36,10 @@ returns-clause-takes g c =
     c.take_call.ensures.new (c.take_datagram-others_changed.ensures.new c.args.peer c.args.w) in
     let after : (h : History) → StandsAt p h → StandsAt q (with_act h act) = λ h stands. acted_stands h
     (Some new) stands (changes h stands) c.ranges.w.fits (there h stands) c.change-out.ensures.calls acts in
-    record {
-      answer = λ h stands. answered h act _ (changes h stands).taken
-          (acted_step h (Some new) bye (told_value octets c.told-told.result) (changes h stands) (there h stands) acts
-          (after h stands) (c.change-out.ensures.out (session_at h) stands.session)
-          (λ life at. c.told-told.ensures.exact octets life at
-          ∙ ap (λ (out : Option OutValue). step_into q.presence.setup out c.take_datagram-others_changed.result
-          life) (sym (or_none bye))));
-      stands = λ h stands. subst (StandsAt q) (taken_history h act (changes h stands).taken) (after h stands);
-    }
+    promised (λ h stands. answered h act _ (changes h stands).taken
+    (acted_step h (Some new) bye (told_value octets c.told-told.result) (changes h stands) (there h stands) acts
+    (after h stands) (c.change-out.ensures.out (session_at h) stands.session)
+    (λ life at. c.told-told.ensures.exact octets life at
+    ∙ ap (λ (out : Option OutValue). step_into q.presence.setup out c.take_datagram-others_changed.result
+    life) (sym (or_none bye)))))
+    (λ h stands. subst (StandsAt q) (taken_history h act (changes h stands).taken) (after h stands))

@@ -1,47 +1,34 @@
-use Rattle.std.proofs.Common.{◌∙◌, List, length, Result, Ok, Err, refl, sym, subst}
-use Rattle.rtcp_wire.specs.Values.{RtcpPacket}
-use Rattle.rtcp_wire.specs.declared.fault.WireFault.{WireFault}
-use Rattle.rtcp_engine.specs.declared.refusal.Refusal.TheVariants.{Wire}
-use Rattle.rtcp_engine.specs.Acts.{rtcp, rtcp_came}
-use Rattle.rtcp_engine.specs.Promises.{Takes}
-use Rattle.rtcp_engine.specs.Views.{reply_value, told_value}
-use Rattle.rtcp_engine.proofs.ActLemmas.{call_refused}
-use Rattle.rtcp_engine.proofs.Arriving.{fault_answered}
+use Rattle.std.proofs.Common.{◌∙◌, length, Ok, Err, refl, ap, sym}
+use Rattle.rtcp_engine.specs.Acts.{moment_of, rtcp}
+use Rattle.rtcp_engine.proofs.ActLemmas.{call_refused, leaves_all, refused, replied}
+use Rattle.rtcp_engine.proofs.Arriving.{as_compound, fault_answered}
 use Rattle.rtcp_engine.proofs.Following.{few_named}
-use Rattle.rtcp_engine.proofs.LawLemmas.{one_reading-once}
 use Rattle.rtcp_engine.proofs.participant.Participant.arrive_rtcp_into.Goals as goal
 
-pub returns-in-Some-clause-takes : goal.returns-in-Some-clause-takes
-returns-in-Some-clause-takes g c reading is =
-    call_refused (rtcp_came c.args.now c.args.peer c.args.w c.args.bytes.now reading)
-    (sym c.refusal.ensures.exact ∙ c.in-Some.is)
+pub returns-in-Some : goal.returns-in-Some
+returns-in-Some g c =
+    call_refused (λ act is. ap moment_of is.2) (sym c.refusal.ensures.exact ∙ c.in-Some.is) c.refusal.ensures.within
 
-pub returns-in-Err-clause-takes : goal.returns-in-Err-clause-takes
-returns-in-Err-clause-takes g c reading is =
-    let p = c.args.self.now in
-    let reason = Wire c.in-Err.fault in
-    let datagram = rtcp (length c.args.bytes.now) (Err c.in-Err.fault) in
-    subst (λ (r : Result (List RtcpPacket) WireFault). Takes p
-    (rtcp_came c.args.now c.args.peer c.args.w c.args.bytes.now r) (Err reason) p)
-    (one_reading-once c.args.bytes.now (Err c.in-Err.fault) reading (c.in-Err.ensures.refused c.in-Err.fault refl)
-    is)
-    (fault_answered c.args.now c.args.peer c.args.w datagram (sym c.refusal.ensures.exact ∙ c.in_default.is) refl)
+pub returns-in-Err : goal.returns-in-Err
+returns-in-Err g c =
+    let fault = c.in-Err.fault in
+    refused (as_compound (Err fault) (c.in-Err.ensures.refused fault refl)
+    (fault_answered c.args.now c.args.peer c.args.w (rtcp (length c.args.bytes.now) (Err fault))
+    (sym c.refusal.ensures.exact ∙ c.in_default.is) refl)) c.refusal.ensures.within
 
 pub arrive_as_own-requires-clause-few : goal.arrive_as_own-requires-clause-few
 arrive_as_own-requires-clause-few g c = few_named c.args.bytes.now c.in-Ok.compound c.in-Ok.ensures.accepted
 
-pub returns-then-is_named_by-clause-takes : goal.returns-then-is_named_by-clause-takes
-returns-then-is_named_by-clause-takes g c reading is =
-    subst (λ (r : Result (List RtcpPacket) WireFault). Takes c.args.self.now
-    (rtcp_came c.args.now c.args.peer c.args.w c.args.bytes.now r)
-    (reply_value c.arrive_as_own.new.octets c.arrive_as_own.result) c.arrive_as_own.new.self)
-    (one_reading-once c.args.bytes.now (Ok c.in-Ok.compound) reading c.in-Ok.ensures.accepted is)
-    c.arrive_as_own.ensures.takes
+pub returns-then-is_named_by : goal.returns-then-is_named_by
+returns-then-is_named_by g c = record {
+  takes = as_compound (Ok c.in-Ok.compound) c.in-Ok.ensures.accepted c.arrive_as_own.ensures.takes;
+  spares = c.arrive_as_own.ensures.spares;
+  tells = c.arrive_as_own.ensures.tells;
+}
 
-pub returns-clause-takes : goal.returns-clause-takes
-returns-clause-takes g c reading is =
-    subst (λ (r : Result (List RtcpPacket) WireFault). Takes c.args.self.now
-    (rtcp_came c.args.now c.args.peer c.args.w c.args.bytes.now r)
-    (Ok (told_value c.args.octets.now c.arrive_as_other.result)) c.arrive_as_other.new.self)
-    (one_reading-once c.args.bytes.now (Ok c.in-Ok.compound) reading c.in-Ok.ensures.accepted is)
-    (c.arrive_as_other.ensures.takes c.args.peer c.args.w c.args.octets.now c.ranges.w.fits)
+pub returns : goal.returns
+returns g c =
+    let other = c.arrive_as_other.ensures in
+    replied (as_compound (Ok c.in-Ok.compound) c.in-Ok.ensures.accepted
+    (other.takes c.args.peer c.args.w c.args.octets.now c.ranges.w.fits)) other.within other.standing other.empty
+    leaves_all

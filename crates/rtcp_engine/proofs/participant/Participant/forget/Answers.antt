@@ -1,9 +1,6 @@
 -- The answer is the reply, with the compound of the room.
-use Rattle.rtcp_engine.proofs.ActLemmas.{respared, retold}
+use Rattle.rtcp_engine.proofs.ActLemmas.{with_compound}
 use Rattle.rtcp_engine.proofs.participant.Participant.forget.Goals as goal
 
-pub returns-clause-takes : goal.returns-clause-takes
-returns-clause-takes g c = retold c.answer_with.ensures c.forget_into-reply.ensures.takes
-
-pub returns-clause-spares : goal.returns-clause-spares
-returns-clause-spares g c = respared _ _ _ c.answer_with.ensures c.forget_into-reply.ensures.spares
+pub returns : goal.returns
+returns g c = with_compound _ _ c.answer_with.ensures c.forget_into-reply.ensures.replies

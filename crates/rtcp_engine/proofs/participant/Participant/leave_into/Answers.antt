@@ -1,18 +1,19 @@
-use Rattle.std.proofs.Common.{◌∙◌, refl, sym}
-use Rattle.rtcp_engine.specs.Acts.{left}
+use Rattle.std.proofs.Common.{◌∙◌, refl, ap, sym}
+use Rattle.rtcp_engine.specs.Acts.{left, moment_of}
 use Rattle.rtcp_engine.specs.States.{ParticipantValue}
-use Rattle.rtcp_engine.proofs.ActLemmas.{call_refused, outside_at, plain_call, takes}
+use Rattle.rtcp_engine.proofs.ActLemmas.{alone, call_refused, outside_at, plain_call, replied, takes}
 use Rattle.rtcp_engine.proofs.participant.Participant.leave_into.Goals as goal
 
-pub returns-in-Some-clause-takes : goal.returns-in-Some-clause-takes
-returns-in-Some-clause-takes g c =
-    call_refused (left c.args.now c.args.w) (sym c.refusal.ensures.exact ∙ c.in-Some.is)
+pub returns-in-Some : goal.returns-in-Some
+returns-in-Some g c =
+    call_refused (λ act is. ap moment_of is) (sym c.refusal.ensures.exact ∙ c.in-Some.is) c.refusal.ensures.within
 
-pub returns-clause-takes : goal.returns-clause-takes
-returns-clause-takes g c =
+pub returns : goal.returns
+returns g c =
     let act = left c.args.now c.args.w in
-    takes _ (plain_call c.args.self.now act (sym c.refusal.ensures.exact ∙ c.in_default.is) (λ session. refl)
-    (λ session. refl))
-    (outside_at (λ (x : ParticipantValue). left x.presence.latest c.args.w) c.take_call.ensures.new
-    c.take_leave-brought.ensures.new)
-    (c.told.ensures.exact c.take_leave-brought.new.octets) c.ranges.w.fits
+    let brought = c.take_leave-brought.ensures in
+    replied (alone (takes _ (plain_call c.args.self.now act (sym c.refusal.ensures.exact ∙ c.in_default.is)
+    (λ session. refl) (λ session. refl))
+    (outside_at (λ (x : ParticipantValue). left x.presence.latest c.args.w) c.take_call.ensures.new brought.new)
+    (c.told.ensures.exact c.take_leave-brought.new.octets) c.ranges.w.fits)) brought.within c.told.ensures.standing
+    c.told.ensures.out brought.leaves
