@@ -1,71 +1,104 @@
 -- A call of a session is one of its participant, at the moment counted from the start.
-use Rattle.std.proofs.Common.{◌≡◌, ◌+◌, ℕ, List, Option, Some, Result, sym, ap, subst, ◌∙◌, arith}
+use Rattle.std.proofs.Common.{◌≡◌, ◌≢◌, ◌+◌, ℕ, List, Option, Some, None, Result, Ok, Err, IfOk, is_some, IsTrue, refl, sym, ap, subst, ◌∙◌, arith}
+use Rattle.rtcp_engine.specs.declared.config.ConfigError.TheVariants.{Cname, Capacity, Limit, Bandwidth, Rate, Item}
 use Rattle.rtcp_engine.specs.declared.refusal.Refusal.{Refusal}
+use Rattle.rtcp_engine.specs.declared.refusal.Refusal.TheVariants.{Left, Backwards, TooFar, TooMany, Wire, Rtp, OwnSsrc, Settings}
+use Rattle.rtcp_engine.specs.declared.step.OutKind.{OutKind}
+use Rattle.rtcp_engine.specs.declared.step.OutKind.TheVariants.{Report, Bye}
 use Rattle.rtcp_engine.specs.declared.step.Told.{Told}
-use Rattle.rtcp_engine.specs.Acts.{Act}
+use Rattle.rtcp_engine.specs.Acts.{Act, EventValue, IsActOfEvent, ticked}
 use Rattle.rtcp_engine.specs.Answers.{answer_of, followed_by}
-use Rattle.rtcp_engine.specs.Histories.{History, life_at}
-use Rattle.rtcp_engine.specs.Promises.{Takes}
+use Rattle.rtcp_engine.specs.Histories.{History}
+use Rattle.rtcp_engine.specs.Promises.{Replies}
+use Rattle.rtcp_engine.specs.Runs.{IsAnsweredInTime}
+use Rattle.rtcp_engine.specs.Steps.{AnswerValue, OutValue, StepValue, answer_unless}
 use Rattle.rtcp_engine.specs.Views.{reply_value}
 use Rattle.jalwedd_host.specs.declared.session.HostSession.{HostSession}
 use Rattle.jalwedd_host.specs.declared.step.HostStep.{HostStep}
-use Rattle.jalwedd_host.specs.Answers.{HandsNothing, HandsOut, Shows, early_refusal, status_of, status_of_refusal}
+use Rattle.jalwedd_host.specs.Answers.{HandsOut, Shows, kind_of, kind_shown, status_of, status_of_refusal}
 use Rattle.jalwedd_host.specs.Handles.{Leads, LeadsTo}
-use Rattle.jalwedd_host.specs.Promises.{ComesEarly, Serves}
+use Rattle.jalwedd_host.specs.Promises.{SendsIfLate, TellsSession}
 use Rattle.jalwedd_host.proofs.LawLemmas.{leads_as, session_of}
 
--- A session counts a moment from its own start, which is that of the history.
-pub same_moment : (session looked : HostSession) (start : ℕ) (history : History) → Leads session start history →
-    looked ≡ session → (now moment other : ℕ) → now ≡ looked.start + moment → now ≡ start + other → moment ≡ other
-same_moment session looked start history leads is now moment other counted told =
-    let same : looked.start ≡ session.start = λ i. (is i).start in
-    omega (arith, same, leads.counts, counted, told)
+-- ---- In time
 
--- A session that is held takes an act at a moment counted from its start, and is put back, and the step shows it.
-pub serves : {was_held held : Option HostSession} {session looked before after : HostSession}
-    {start now moment other result : ℕ} {history : History} {was octets : List ℕ} {step : HostStep}
-    (reply : Result Told Refusal) → was_held ≡ Some session → LeadsTo was_held start history
-    → looked ≡ session → now ≡ looked.start + moment → now ≡ start + other
-    → before ≡ session → after.start ≡ before.start
-    → (act : ℕ → Act) → Takes before.participant (act moment) (reply_value octets reply) after.participant
-    → held ≡ Some after → result ≡ status_of (reply_value octets reply)
-    → HandsOut step was octets (reply_value octets reply)
+refused_so : (refusal : Refusal) → status_of_refusal refusal ≢ 0
+refused_so (Wire fault) zero = omega (arith, zero)
+refused_so (Rtp fault) zero = omega (arith, zero)
+refused_so (Settings Cname) zero = omega (arith, zero)
+refused_so (Settings Capacity) zero = omega (arith, zero)
+refused_so (Settings Limit) zero = omega (arith, zero)
+refused_so (Settings Bandwidth) zero = omega (arith, zero)
+refused_so (Settings Rate) zero = omega (arith, zero)
+refused_so (Settings Item) zero = omega (arith, zero)
+refused_so Left zero = omega (arith, zero)
+refused_so Backwards zero = omega (arith, zero)
+refused_so TooFar zero = omega (arith, zero)
+refused_so TooMany zero = omega (arith, zero)
+refused_so OwnSsrc zero = omega (arith, zero)
+
+kind_of_some : (out : Option OutValue) → IsTrue (is_some out) → kind_shown out ≢ 0
+kind_of_some None some zero = absurd cc
+kind_of_some (Some out) some zero = named out.kind zero
+  where
+    named : (kind : OutKind) → kind_of kind ≢ 0
+    named Report zero = omega (arith, zero)
+    named Bye zero = omega (arith, zero)
+
+abbrev taken : StepValue → AnswerValue
+taken step = Ok step
+
+unrefused : (refusal : Option Refusal) (step other : StepValue) →
+    taken step ≡ answer_unless refusal other → refusal ≡ None
+unrefused None step other same = refl
+unrefused (Some refusal) step other same = absurd cc
+
+-- What is answered in time is told in time.
+sends : (history : History) (act : Act) (answer : AnswerValue) (result kind : ℕ) → answer ≡ answer_of history act →
+    IsAnsweredInTime history act answer → result ≡ status_of answer →
+    IfOk answer (λ step. kind ≡ kind_shown step.out) → SendsIfLate history act result kind
+sends history (ticked moment first_word second_word) (Ok step) result kind same in_time status shown = λ late zero none.
+    kind_of_some step.out (in_time late (unrefused _ step _ same)) (sym shown ∙ none)
+sends history (ticked moment first_word second_word) (Err refusal) result kind same in_time status shown = λ late zero.
+    absurd (refused_so refusal (sym status ∙ zero))
+sends history act answer result kind same in_time status shown = tt
+
+-- ---- An event
+
+-- A session that is held is told an event at a moment counted from its start, and is put back, and the step shows it.
+pub tells : {was_held held : Option HostSession} {session before after : HostSession} {now moment result : ℕ}
+    {was octets : List ℕ} {step : HostStep} (event : ℕ → EventValue) (reply : Result Told Refusal) →
+    was_held ≡ Some session → now ≡ session.start + moment → before ≡ session → after.start ≡ before.start →
+    Replies before.participant (event moment) was octets reply after.participant → held ≡ Some after
+    → result ≡ status_of (reply_value octets reply) → HandsOut step was octets (reply_value octets reply)
     → ((start : ℕ) (history : History) → Leads after start history → Shows start step history)
-    → Serves start history (act other) held result step was octets
-serves {was_held} {held} {session} {looked} {before} {after} {start} {now} {moment} {other} {result} {history}
-    {was} {octets} {step} reply gives leads looks counted told is counts act takes held_is status handed shown =
-    let holds = session_of was_held session start history gives leads in
-    let same = same_moment session looked start history holds looks now moment other counted told in
-    let from = leads_as session before start history (sym is) holds in
-    let answer : reply_value octets reply ≡ answer_of history (act moment) = takes.answer history from.stands in
-    let next : Leads after start (followed_by history (act moment)) = record {
-      stands = takes.stands history from.stands;
-      counts = counts ∙ from.counts;
-      range = from.range;
-    } in
-    subst (λ (m : ℕ). Serves start history (act m) held result step was octets) same (record {
-      status = status ∙ ap status_of answer;
-      handed = subst (HandsOut step was octets) answer handed;
-      stands = subst (λ (h : Option HostSession). LeadsTo h start (followed_by history (act moment)))
-          (sym held_is) next;
-      shows = shown start (followed_by history (act moment)) next;
-    })
-
--- A call before the start leaves the session as it was.
-pub refuses_early : (session : HostSession) (held after : Option HostSession) (result : ℕ) (step : HostStep)
-    (was octets : List ℕ)
-    → held ≡ Some session → after ≡ Some session
-    → ((start : ℕ) (history : History) → Leads session start history →
-    result ≡ status_of_refusal (early_refusal (life_at history))) → HandsNothing step
-    → ((start : ℕ) (history : History) → Leads session start history → Shows start step history) → octets ≡ was
-    → (now : ℕ) → ComesEarly held after now result step was octets
-refuses_early session held after result step was octets is after_is status nothing shown same now start history leads
-    early =
-    let holds = session_of held session start history is leads in
-    record {
-      status = status start history holds;
-      nothing = nothing;
-      octets_kept = same;
-      shows = shown start history holds;
-      kept = after_is ∙ sym is;
+    → TellsSession event now was_held held result step was octets
+tells {was_held} {held} {session} {before} {after} {now} {moment} {result} {was} {octets} {step} event reply gives
+    counted is counts replies held_is status handed shown = record {
+      serves = λ start other history act leads told is_act.
+          let holds = session_of was_held session start history gives leads in
+          let from = leads_as session before start history (sym is) holds in
+          let same : other ≡ moment = omega (arith, counted, told, holds.counts) in
+          let takes = replies.takes act (subst (λ (m : ℕ). IsActOfEvent (event m) act) same is_act) in
+          let answer : reply_value octets reply ≡ answer_of history act = takes.answer history from.stands in
+          let next : Leads after start (followed_by history act) = record {
+            stands = takes.stands history from.stands;
+            counts = counts ∙ from.counts;
+            range = from.range;
+          } in
+          record {
+            status = status ∙ ap status_of answer;
+            handed = subst (HandsOut step was octets) answer handed;
+            not_too_late = sends history act (reply_value octets reply) result step.kind answer
+                (takes.not_too_late history from.stands) status (kind_handed reply handed);
+            stands = subst (λ (h : Option HostSession). LeadsTo h start (followed_by history act)) (sym held_is) next;
+            shows = shown start (followed_by history act) next;
+          };
+      early = λ start history leads low.
+          absurd (omega (arith, low, counted, (session_of was_held session start history gives leads).counts));
     }
+  where
+    kind_handed : (reply : Result Told Refusal) → HandsOut step was octets (reply_value octets reply) →
+        IfOk (reply_value octets reply) (λ given. step.kind ≡ kind_shown given.out)
+    kind_handed (Ok told) handed = handed.0
+    kind_handed (Err refusal) handed = tt

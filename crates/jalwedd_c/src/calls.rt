@@ -1,23 +1,15 @@
 //! The calls of a session: what came, what was sent, what time it is, other settings, a source that is gone, and the
 //! leave. Each is told what the host's clock shows, and counts from the start.
 
-ghost use Rattle.std.specs.Prelude.{◌≡◌, ◌≢◌, ◌≤◌, ◌<◌, ◌+◌, ℕ, List, Some, None, Result, length};
-ghost use Rattle.rtcp_wire.specs.declared.fault.WireFault.{WireFault as FirstFault};
-ghost use Rattle.rtcp_wire.specs.declared.rtp.fault.RtpFault.{RtpFault as HeadFault};
-ghost use Rattle.rtcp_wire.specs.Values.{RtcpPacket};
-ghost use Rattle.rtcp_wire.specs.RtpHeads.{RtpValue};
-ghost use Rattle.rtcp_engine.specs.Acts.{configured, forgotten, rtcp_came, rtp_came, rtp_sent, ticked, left};
-ghost use Rattle.rtcp_engine.specs.Acts.{IsReading, IsRtpReading};
-ghost use Rattle.rtcp_engine.specs.Histories.{History};
-ghost use Rattle.rtcp_engine.specs.InTime.{IsOverdue};
-ghost use Rattle.jalwedd_host.specs.Answers.{IsBlank};
+ghost use Rattle.std.specs.Prelude.{◌≡◌, ◌≤◌, ◌<◌, ℕ, Some, None, length};
+ghost use Rattle.rtcp_engine.specs.Acts.{forget_asked, leave_asked, packet_sent, rtcp_arrived, rtp_arrived, time_passed};
+ghost use Rattle.rtcp_engine.specs.Acts.{settings_given as settings_told};
 ghost use Rattle.jalwedd_host.specs.Configs.{oversize_of_settings, settings_given};
-ghost use Rattle.jalwedd_host.specs.Handles.{LeadsTo};
-ghost use Rattle.jalwedd_host.specs.Promises.{ComesEarly, Serves, SparesSession, TurnsAway};
+ghost use Rattle.jalwedd_host.specs.Promises.{SparesSession, TellsSession, TurnsAway};
 
 use jalwedd_host::config::{Item, Settings, blank_settings, fill_settings};
 use jalwedd_host::handle::Handle;
-use jalwedd_host::status::{EMPTY, TOO_LONG};
+use jalwedd_host::status::TOO_LONG;
 use jalwedd_host::step::HostStep;
 use std::alloc::Global;
 
@@ -41,19 +33,13 @@ pub extern "C" fn jalwedd_arrive_rtcp(
     step: &mut HostStep,
     octets: &mut [u8; 1472],
 ) -> u32
-    ensures serves { (start moment : ℕ) (history : History) (reading : Result (List RtcpPacket) FirstFault) →
-        LeadsTo handle.old.owned.held start history → now ≡ start + moment → IsReading datagram.now reading →
-        Serves start history (rtcp_came moment peer word datagram.now reading)
+    ensures tells { TellsSession (λ moment. rtcp_arrived moment peer word datagram.now) now handle.old.owned.held
         handle.new.owned.held result step.new octets.old octets.new }
-    ensures early { ComesEarly handle.old.owned.held handle.new.owned.held now result step.new
-        octets.old octets.new }
     ensures spares { SparesSession handle.old.owned.held handle.new.owned.held result step.new octets.old octets.new }
 {
-    let Some(mut session) = handle.take(alloc) else {
-        return empty(step);
-    };
-    let Some(moment) = session.moment_of(now) else {
-        return handle.put_back_early(session, step);
+    let (mut session, moment) = match handle.open(alloc, now, step) {
+        Ok(opened) => opened,
+        Err(status) => return status,
     };
     let reply = session
         .participant
@@ -77,29 +63,23 @@ pub extern "C" fn jalwedd_arrive_rtp(
     step: &mut HostStep,
     octets: &mut [u8; 1472],
 ) -> u32
-    ensures serves { (start moment : ℕ) (history : History) (reading : Result RtpValue HeadFault) →
-        length datagram.now ≤ 65535 → LeadsTo handle.old.owned.held start history → now ≡ start + moment →
-        IsRtpReading datagram.now reading → Serves start history (rtp_came moment peer word reading)
-        handle.new.owned.held result step.new octets.old octets.new }
-    ensures early { length datagram.now ≤ 65535 →
-        ComesEarly handle.old.owned.held handle.new.owned.held now result step.new octets.old octets.new }
+    ensures tells { length datagram.now ≤ 65535 → TellsSession (λ moment. rtp_arrived moment peer word datagram.now) now
+        handle.old.owned.held handle.new.owned.held result step.new octets.old octets.new }
     ensures turns_away { 65535 < length datagram.now →
         TurnsAway 23 handle.old.owned.held result step.new octets.old octets.new }
     ensures spares { SparesSession handle.old.owned.held handle.new.owned.held result step.new octets.old octets.new }
 {
-    let Some(mut session) = handle.take(alloc) else {
-        return empty(step);
-    };
     if datagram.len() > LONGEST {
-        return handle.put_back_refused(session, TOO_LONG, step);
+        return handle.turn_away(alloc, TOO_LONG, step);
     }
-    let Some(moment) = session.moment_of(now) else {
-        return handle.put_back_early(session, step);
+    let (mut session, moment) = match handle.open(alloc, now, step) {
+        Ok(opened) => opened,
+        Err(status) => return status,
     };
     let reply = session
         .participant
         .arrive_rtp_into(moment, peer, word, datagram, octets);
-    handle.put_back_of_packet(session, &reply, step)
+    handle.put_back(session, &reply, step)
 }
 
 /// The host sent an RTP packet when its clock showed `now`, in microseconds, with this RTP timestamp and so many octets
@@ -117,19 +97,14 @@ pub extern "C" fn jalwedd_sent_rtp(
     step: &mut HostStep,
     octets: &mut [u8; 1472],
 ) -> u32
-    ensures serves { (start moment : ℕ) (history : History) → LeadsTo handle.old.owned.held start history →
-        now ≡ start + moment → Serves start history (rtp_sent moment timestamp size)
+    ensures tells { TellsSession (λ moment. packet_sent moment timestamp size) now handle.old.owned.held
         handle.new.owned.held result step.new octets.old octets.new }
-    ensures early { ComesEarly handle.old.owned.held handle.new.owned.held now result step.new
-        octets.old octets.new }
     ensures nothing { (step.new.kind ≡ 0) × (octets.new ≡ octets.old) }
     ensures spares { SparesSession handle.old.owned.held handle.new.owned.held result step.new octets.old octets.new }
 {
-    let Some(mut session) = handle.take(alloc) else {
-        return empty(step);
-    };
-    let Some(moment) = session.moment_of(now) else {
-        return handle.put_back_early(session, step);
+    let (mut session, moment) = match handle.open(alloc, now, step) {
+        Ok(opened) => opened,
+        Err(status) => return status,
     };
     let reply = session
         .participant
@@ -153,21 +128,13 @@ pub extern "C" fn jalwedd_tick(
     step: &mut HostStep,
     octets: &mut [u8; 1472],
 ) -> u32
-    ensures serves { (start moment : ℕ) (history : History) → LeadsTo handle.old.owned.held start history →
-        now ≡ start + moment → Serves start history (ticked moment first_word second_word)
+    ensures tells { TellsSession (λ moment. time_passed moment first_word second_word) now handle.old.owned.held
         handle.new.owned.held result step.new octets.old octets.new }
-    ensures not_too_late { (start moment : ℕ) (history : History) → LeadsTo handle.old.owned.held start history →
-        now ≡ start + moment → IsOverdue history (ticked moment first_word second_word) → result ≡ 0 →
-        step.new.kind ≢ 0 }
-    ensures early { ComesEarly handle.old.owned.held handle.new.owned.held now result step.new
-        octets.old octets.new }
     ensures spares { SparesSession handle.old.owned.held handle.new.owned.held result step.new octets.old octets.new }
 {
-    let Some(mut session) = handle.take(alloc) else {
-        return empty(step);
-    };
-    let Some(moment) = session.moment_of(now) else {
-        return handle.put_back_early(session, step);
+    let (mut session, moment) = match handle.open(alloc, now, step) {
+        Ok(opened) => opened,
+        Err(status) => return status,
     };
     let reply = session
         .participant
@@ -192,26 +159,21 @@ pub extern "C" fn jalwedd_configure(
     step: &mut HostStep,
     octets: &mut [u8; 1472],
 ) -> u32
-    ensures serves { (start moment : ℕ) (history : History) → oversize_of_settings settings.now items.now ≡ None →
-        LeadsTo handle.old.owned.held start history → now ≡ start + moment →
-        Serves start history (configured moment (settings_given settings.now items.now))
-        handle.new.owned.held result step.new octets.old octets.new }
-    ensures early { oversize_of_settings settings.now items.now ≡ None →
-        ComesEarly handle.old.owned.held handle.new.owned.held now result step.new octets.old octets.new }
+    ensures tells { oversize_of_settings settings.now items.now ≡ None →
+        TellsSession (λ moment. settings_told moment (settings_given settings.now items.now)) now
+        handle.old.owned.held handle.new.owned.held result step.new octets.old octets.new }
     ensures turns_away { (status : ℕ) → oversize_of_settings settings.now items.now ≡ Some status →
         TurnsAway status handle.old.owned.held result step.new octets.old octets.new }
     ensures nothing { (step.new.kind ≡ 0) × (octets.new ≡ octets.old) }
     ensures spares { SparesSession handle.old.owned.held handle.new.owned.held result step.new octets.old octets.new }
 {
-    let Some(mut session) = handle.take(alloc) else {
-        return empty(step);
-    };
     let mut given = blank_settings();
     if let Some(status) = fill_settings(&mut given, settings, items) {
-        return handle.put_back_untold(session, status, step);
+        return handle.turn_away(alloc, status, step);
     }
-    let Some(moment) = session.moment_of(now) else {
-        return handle.put_back_early(session, step);
+    let (mut session, moment) = match handle.open(alloc, now, step) {
+        Ok(opened) => opened,
+        Err(status) => return status,
     };
     let reply = session.participant.configure_into(moment, &given, octets);
     handle.put_back(session, &reply, step)
@@ -233,19 +195,14 @@ pub extern "C" fn jalwedd_forget(
     step: &mut HostStep,
     octets: &mut [u8; 1472],
 ) -> u32
-    ensures serves { (start moment : ℕ) (history : History) → LeadsTo handle.old.owned.held start history →
-        now ≡ start + moment → Serves start history (forgotten moment ssrc)
+    ensures tells { TellsSession (λ moment. forget_asked moment ssrc) now handle.old.owned.held
         handle.new.owned.held result step.new octets.old octets.new }
-    ensures early { ComesEarly handle.old.owned.held handle.new.owned.held now result step.new
-        octets.old octets.new }
     ensures nothing { (step.new.kind ≡ 0) × (octets.new ≡ octets.old) }
     ensures spares { SparesSession handle.old.owned.held handle.new.owned.held result step.new octets.old octets.new }
 {
-    let Some(mut session) = handle.take(alloc) else {
-        return empty(step);
-    };
-    let Some(moment) = session.moment_of(now) else {
-        return handle.put_back_early(session, step);
+    let (mut session, moment) = match handle.open(alloc, now, step) {
+        Ok(opened) => opened,
+        Err(status) => return status,
     };
     let reply = session.participant.forget_into(moment, ssrc, octets);
     handle.put_back(session, &reply, step)
@@ -265,27 +222,14 @@ pub extern "C" fn jalwedd_leave(
     step: &mut HostStep,
     octets: &mut [u8; 1472],
 ) -> u32
-    ensures serves { (start moment : ℕ) (history : History) → LeadsTo handle.old.owned.held start history →
-        now ≡ start + moment → Serves start history (left moment word)
+    ensures tells { TellsSession (λ moment. leave_asked moment word) now handle.old.owned.held
         handle.new.owned.held result step.new octets.old octets.new }
-    ensures early { ComesEarly handle.old.owned.held handle.new.owned.held now result step.new
-        octets.old octets.new }
     ensures spares { SparesSession handle.old.owned.held handle.new.owned.held result step.new octets.old octets.new }
 {
-    let Some(mut session) = handle.take(alloc) else {
-        return empty(step);
-    };
-    let Some(moment) = session.moment_of(now) else {
-        return handle.put_back_early(session, step);
+    let (mut session, moment) = match handle.open(alloc, now, step) {
+        Ok(opened) => opened,
+        Err(status) => return status,
     };
     let reply = session.participant.leave_into(moment, word, octets);
     handle.put_back(session, &reply, step)
-}
-
-/// Tells that a handle holds no participant.
-fn empty(step: &mut HostStep) -> u32
-    ensures { (result ≡ 20) × IsBlank step.new }
-{
-    *step = HostStep::blank();
-    EMPTY
 }

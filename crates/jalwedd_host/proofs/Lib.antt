@@ -6,6 +6,7 @@ mod Listing
 mod Never
 mod Ranges
 mod Telling
+mod Turning
 mod Turns
 mod Held
 mod WholeWalks

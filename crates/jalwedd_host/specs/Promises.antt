@@ -1,12 +1,19 @@
 -- What a call of a session promises to a host in C.
-use Rattle.std.specs.Prelude.{ℕ, ◌≡◌, ◌≢◌, ◌⊎◌, ◌<◌, List, Option, Some, None}
-use Rattle.rtcp_engine.specs.Acts.{Act}
+use Rattle.std.specs.Prelude.{ℕ, ◌≡◌, ◌≢◌, ◌⊎◌, ◌+◌, ◌<◌, List, Option, Some, None}
+use Rattle.rtcp_engine.specs.Acts.{Act, EventValue, IsActOfEvent, ticked}
 use Rattle.rtcp_engine.specs.Answers.{answer_of, followed_by}
 use Rattle.rtcp_engine.specs.Histories.{History, life_at}
+use Rattle.rtcp_engine.specs.InTime.{IsOverdue}
 use Rattle.jalwedd_host.specs.declared.session.HostSession.{HostSession}
 use Rattle.jalwedd_host.specs.declared.step.HostStep.{HostStep}
 use Rattle.jalwedd_host.specs.Answers.{HandsNothing, HandsOut, IsBlank, Shows, early_refusal, status_of, status_of_refusal}
 use Rattle.jalwedd_host.specs.Handles.{KeepsWithin, LeadsTo}
+
+-- A tick that comes late, and is taken, hands something out.
+abbrev pub SendsIfLate : History → Act → (result kind : ℕ) → Type 0
+SendsIfLate history (ticked moment first_word second_word) result kind =
+    IsOverdue history (ticked moment first_word second_word) → result ≡ 0 → kind ≢ 0
+SendsIfLate history act result kind = Unit {0}
 
 -- A session that stands at a history is told an act. The status, the step and the host's octets say what the history
 -- answers to it. Then the session stands at the history with the act, which the step shows. The start is as it was.
@@ -16,6 +23,7 @@ pub record Serves
     : Type 0 where
   pub status : result ≡ status_of (answer_of history act)
   pub handed : HandsOut step was octets (answer_of history act)
+  pub not_too_late : SendsIfLate history act result step.kind
   pub stands : LeadsTo after start (followed_by history act)
   pub shows : Shows start step (followed_by history act)
 
@@ -31,12 +39,16 @@ pub record RefusesEarly
   pub shows : Shows start step history
   pub kept : after ≡ before
 
--- So does each call of a session whose clock shows less than at the start.
-abbrev pub ComesEarly :
-    (before after : Option HostSession) (now result : ℕ) → HostStep → (was octets : List ℕ) → Type 0
-ComesEarly before after now result step was octets =
-    (start : ℕ) (history : History) → LeadsTo before start history → now < start →
-    RefusesEarly start history before after result step was octets
+-- A call tells the session of a handle an event, at the moment since the start that the host's clock shows. Whatever
+-- the octets of a datagram say, the session takes the act of that. What comes before the start is refused.
+pub record TellsSession
+    (event : (moment : ℕ) → EventValue) (now : ℕ) (before after : Option HostSession) (result : ℕ) (step : HostStep)
+    (was octets : List ℕ)
+    : Type 0 where
+  pub serves : (start moment : ℕ) (history : History) (act : Act) → LeadsTo before start history →
+      now ≡ start + moment → IsActOfEvent (event moment) act → Serves start history act after result step was octets
+  pub early : (start : ℕ) (history : History) → LeadsTo before start history → now < start →
+      RefusesEarly start history before after result step was octets
 
 -- Whatever a call tells: a table within its capacity stays so, a refusal leaves the session as it was, and where there
 -- is none the call says so and hands nothing out.
@@ -54,6 +66,14 @@ pub record TurnsAway
   pub too_long : (session : HostSession) → before ≡ Some session →
       (result ≡ status) × HandsNothing step × (octets ≡ was)
   pub still_shows : (start : ℕ) (history : History) → LeadsTo before start history → Shows start step history
+
+-- A handle is not opened for a call, as it holds no session, or the call comes before the start. Whatever event the
+-- call tells, this is the answer.
+pub record TurnsBack (now : ℕ) (before after : Option HostSession) (result : ℕ) (step : HostStep) : Type 0 where
+  pub tells : (event : ℕ → EventValue) (octets : List ℕ) →
+      TellsSession event now before after result step octets octets
+  pub spares : (octets : List ℕ) → SparesSession before after result step octets octets
+  pub nothing : step.kind ≡ 0
 
 -- A call asks for a number. It tells that of the start and the history which the session stands at, and another where
 -- there is no session, and leaves what is held.

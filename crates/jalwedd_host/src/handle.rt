@@ -1,21 +1,22 @@
 //! What a host keeps.
 
-ghost use Rattle.std.specs.Prelude.{◌≡◌, ◌≤◌, ℕ, IfOk, List, MatchOption, Option, Some, None};
+ghost use Rattle.std.specs.Prelude.{◌≡◌, ◌≤◌, ◌+◌, ℕ, IfOk, List, MatchOption, MatchResult, Option, Some, None};
 ghost use Rattle.rtcp_members.specs.Told.{StateValue};
 ghost use Rattle.rtcp_engine.specs.Histories.{History, life_at, setup_at};
 ghost use Rattle.rtcp_engine.specs.Lives.{TellsInLife, entries_in_life};
 ghost use Rattle.rtcp_engine.specs.Promises.{SaysStanding};
 ghost use Rattle.rtcp_engine.specs.Views.{LeavesRest, out_told, reply_value, size_written};
 ghost use Rattle.jalwedd_host.specs.Answers.{HandsNothing, HandsOut, IsBlank, Shows};
-ghost use Rattle.jalwedd_host.specs.Answers.{early_refusal, status_of, status_of_refusal};
+ghost use Rattle.jalwedd_host.specs.Answers.{status_of};
 ghost use Rattle.jalwedd_host.specs.Handles.{Leads, LeadsTo};
+ghost use Rattle.jalwedd_host.specs.Promises.{SparesSession, TurnsAway, TurnsBack};
 ghost use Rattle.jalwedd_host.specs.Sources.{IsShown, after_of};
 
 use crate::owned::Owned;
 use crate::owned::loose::Loose;
 use crate::session::HostSession;
 use crate::source::{HostSource, before};
-use crate::status::{TAKEN, of_refusal};
+use crate::status::{EMPTY, OWN_SSRC, TAKEN, of_refusal};
 use crate::step::HostStep;
 use rtcp_engine::laws::told_moments_have_passed;
 use rtcp_engine::{Refusal, Reply};
@@ -59,8 +60,55 @@ impl Handle {
         self.owned = Owned::of_loose(Loose::of(session));
     }
 
+    /// Takes the session out for a call when the host's clock shows `now`, with the moment since the start. Where there
+    /// is none, or the call comes before the start, the step and the status say so.
+    #[inline(always)]
+    pub fn open(
+        &mut self,
+        alloc: Global,
+        now: u64,
+        step: &mut HostStep,
+    ) -> Result<(Box<HostSession>, u64), u32>
+        ensures { MatchResult result
+            (λ opened. (self.old.owned.held ≡ Some opened.0.value) × (self.new.owned.held ≡ None)
+            × (now ≡ opened.0.value.start + opened.1))
+            (λ status. TurnsBack now self.old.owned.held self.new.owned.held status step.new) }
+    {
+        let Some(session) = self.take(alloc) else {
+            *step = HostStep::blank();
+            return Err(EMPTY);
+        };
+        match session.moment_of(now) {
+            Some(moment) => Ok((session, moment)),
+            None => {
+                let refusal = session.early_refusal();
+                Err(self.put_back_untold(session, of_refusal(&refusal), step))
+            }
+        }
+    }
+
+    /// Answers a call that came with more than it takes, whatever it tells.
+    #[cold]
+    #[inline(never)]
+    pub fn turn_away(&mut self, alloc: Global, status: u32, step: &mut HostStep) -> u32
+        ensures turns_away { (octets : List ℕ) →
+            TurnsAway status self.old.owned.held result step.new octets octets }
+        ensures spares { (octets : List ℕ) →
+            SparesSession self.old.owned.held self.new.owned.held result step.new octets octets }
+        ensures nothing { step.new.kind ≡ 0 }
+    {
+        match self.take(alloc) {
+            Some(session) => self.put_back_untold(session, status, step),
+            None => {
+                *step = HostStep::blank();
+                EMPTY
+            }
+        }
+    }
+
     /// Puts back a session, tells what its participant replied and how it stands now, and returns the status.
-    // Inlined, so that a call writes what it tells at once.
+    // Inlined, so that a call writes what it tells at once. A peer may come with the own SSRC again and again, so that
+    // is told in line too, and the path of a call that is taken has nothing of rare refusals to jump over.
     #[inline(always)]
     pub fn put_back(&mut self, session: Box<HostSession>, reply: &Reply, step: &mut HostStep) -> u32
         requires vacant { self.old.owned.held ≡ None }
@@ -79,41 +127,20 @@ impl Handle {
                 self.put(session);
                 TAKEN
             }
+            Err(Refusal::OwnSsrc) => {
+                *step = session.step();
+                self.put(session);
+                OWN_SSRC
+            }
             Err(refusal) => self.put_back_untold(session, of_refusal(refusal), step),
         }
     }
 
-    /// `put_back` after an RTP packet, the most frequent call: rare refusals are told out of line.
-    // So the path of a packet that is taken has nothing of them to jump over. A peer may come with the own SSRC again
-    // and again, so that is told in line.
-    #[inline(always)]
-    pub fn put_back_of_packet(
-        &mut self,
-        session: Box<HostSession>,
-        reply: &Reply,
-        step: &mut HostStep,
-    ) -> u32
-        requires vacant { self.old.owned.held ≡ None }
-        requires written { size_written (out_told reply.now) ≤ 1472 }
-        requires standing { IfOk reply.now (λ told. SaysStanding told.standing session.value.participant) }
-        ensures held { self.new.owned.held ≡ Some session.value }
-        ensures status { (octets : List ℕ) → result ≡ status_of (reply_value octets reply.now) }
-        ensures handed { (was octets : List ℕ) → LeavesRest was octets (out_told reply.now) →
-            HandsOut step.new was octets (reply_value octets reply.now) }
-        ensures shown { (start : ℕ) (history : History) → Leads session.value start history →
-            Shows start step.new history }
-    {
-        match reply {
-            Ok(_) | Err(Refusal::OwnSsrc) => self.put_back(session, reply, step),
-            Err(refusal) => {
-                let number = of_refusal(refusal);
-                self.put_back_refused(session, number, step)
-            }
-        }
-    }
-
     /// Puts back a session that a call told nothing, says how its participant stands, and returns the status.
-    pub fn put_back_untold(
+    // Out of line, so that no call that is taken pays for it.
+    #[cold]
+    #[inline(never)]
+    fn put_back_untold(
         &mut self,
         session: Box<HostSession>,
         status: u32,
@@ -129,43 +156,6 @@ impl Handle {
         *step = session.step();
         self.put(session);
         status
-    }
-
-    /// `put_back_untold` out of line, for what is rare.
-    #[cold]
-    #[inline(never)]
-    pub fn put_back_refused(
-        &mut self,
-        session: Box<HostSession>,
-        status: u32,
-        step: &mut HostStep,
-    ) -> u32
-        requires { self.old.owned.held ≡ None }
-        ensures held { self.new.owned.held ≡ Some session.value }
-        ensures status { result ≡ status }
-        ensures nothing { HandsNothing step.new }
-        ensures shown { (start : ℕ) (history : History) → Leads session.value start history →
-            Shows start step.new history }
-    {
-        self.put_back_untold(session, status, step)
-    }
-
-    /// Puts back a session to which a call came before the start, says how its participant stands, and returns the
-    /// status.
-    // Out of line, so that no call that is taken pays for it.
-    #[cold]
-    #[inline(never)]
-    pub fn put_back_early(&mut self, session: Box<HostSession>, step: &mut HostStep) -> u32
-        requires { self.old.owned.held ≡ None }
-        ensures held { self.new.owned.held ≡ Some session.value }
-        ensures status { (start : ℕ) (history : History) → Leads session.value start history →
-            result ≡ status_of_refusal (early_refusal (life_at history)) }
-        ensures nothing { HandsNothing step.new }
-        ensures shown { (start : ℕ) (history : History) → Leads session.value start history →
-            Shows start step.new history }
-    {
-        let status = of_refusal(&session.early_refusal());
-        self.put_back_refused(session, status, step)
     }
 
     /// How many entries the table holds: none where the handle is empty.

@@ -15,6 +15,9 @@ pub const NO_COMPOUND: u32 = 5;
 /// The datagram has no RTP head.
 pub const NO_RTP: u32 = 6;
 
+/// The datagram names the participant's SSRC, which it cannot change (E7).
+pub(crate) const OWN_SSRC: u32 = 7;
+
 /// There is no such block.
 pub const NO_BLOCK: u32 = 8;
 
@@ -65,7 +68,7 @@ pub(crate) fn of_refusal(refusal: &Refusal) -> u32
         Refusal::TooMany => 4,
         Refusal::Wire(_) => NO_COMPOUND,
         Refusal::Rtp(_) => NO_RTP,
-        Refusal::OwnSsrc => 7,
+        Refusal::OwnSsrc => OWN_SSRC,
         Refusal::Settings(error) => of_error(*error),
     }
 }

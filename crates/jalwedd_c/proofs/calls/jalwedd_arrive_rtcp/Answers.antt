@@ -1,18 +1,13 @@
 -- The moment is counted from the start of the session that is held.
 use Rattle.std.proofs.Common.{refl}
-use Rattle.rtcp_engine.specs.Acts.{rtcp_came}
-use Rattle.jalwedd_c.proofs.Serving.{refuses_early, serves}
+use Rattle.rtcp_engine.specs.Acts.{rtcp_arrived}
+use Rattle.jalwedd_c.proofs.Serving.{tells}
 use Rattle.jalwedd_c.proofs.calls.jalwedd_arrive_rtcp.Goals as goal
 
-pub returns-in_default-moment_of-clause-early : goal.returns-in_default-moment_of-clause-early
-returns-in_default-moment_of-clause-early c =
-    let put = c.put_back_early.ensures in
-    refuses_early _ _ _ _ _ _ _ c.in-Some.ensures.gives put.held put.status put.nothing put.shown refl c.args.now
-
-pub returns-clause-serves : goal.returns-clause-serves
-returns-clause-serves c start moment history reading leads told is =
+pub returns-clause-tells : goal.returns-clause-tells
+returns-clause-tells c =
+    let (gives, left, counted) = c.in-Ok.ensures in
     let put = c.put_back.ensures in
     let reply = c.arrive_rtcp_into-reply.ensures in
-    serves _ c.in-Some.ensures.gives leads c.deref.ensures c.in-Some-moment_of.ensures told c.deref_mut.ensures.value
-    refl (λ m. rtcp_came m c.args.peer c.args.word c.args.datagram.now reading) (reply.takes reading is)
-    put.held (put.status _) (put.handed _ _ reply.tells.leaves) put.shown
+    tells (λ m. rtcp_arrived m c.args.peer c.args.word c.args.datagram.now) _ gives counted c.deref_mut.ensures.value refl reply put.held (put.status _)
+    (put.handed _ _ reply.tells.leaves) put.shown

@@ -7,3 +7,8 @@ pub returns-in-Ok-clause-shown : goal.returns-in-Ok-clause-shown
 returns-in-Ok-clause-shown c start history leads =
     let same : c.args.session.value ≡ c.deref.result.now = cc in
     c.step_told.ensures.shown start history (leads_as _ _ start history same leads)
+
+pub returns-in-Err-OwnSsrc-clause-shown : goal.returns-in-Err-OwnSsrc-clause-shown
+returns-in-Err-OwnSsrc-clause-shown c start history leads =
+    let same : c.args.session.value ≡ c.deref-in-Err-OwnSsrc.result.now = cc in
+    c.step.ensures.shown start history (leads_as _ _ start history same leads)
