@@ -8,12 +8,13 @@ use Rattle.rtcp_text.specs.declared.fault.LineFault.{LineFault}
 use Rattle.rtcp_command.specs.declared.orders.TextOrder.{TextOrder}
 use Rattle.rtcp_command.specs.declared.orders.TextOrder.TheVariants.{Check, CheckPlain, Replay}
 use Rattle.rtcp_plain.specs.Plain.{plain_text}
-use Rattle.rtcp_text.specs.Check.{IsTextOf, IsTextOfBy}
+use Rattle.rtcp_text.specs.Check.{IsTextOfBy}
+use Rattle.rtcp_text.specs.Text.{accepted_text}
 use Rattle.rtcp_text.specs.Replay.{IsSessionOf}
 
 -- the whole text that an order gives for an input, with its end
 abbrev pub IsTextOfOrder : TextOrder → Option (ℕ × LineFault) → List ℕ → List ℕ → Type 0
-IsTextOfOrder (Check lines) end = IsTextOf lines end
+IsTextOfOrder (Check lines) end = IsTextOfBy accepted_text lines end
 IsTextOfOrder (CheckPlain lines) end = IsTextOfBy (plain_text None) lines end
 IsTextOfOrder (Replay config word lines) end = IsSessionOf lines (begun (setup_of config) word) end
 

@@ -1,10 +1,9 @@
 //! A check of a text in plain words.
 
-ghost use Rattle.std.specs.Prelude.{◌≡◌, ◌≢◌, ◌≤◌, ◌↔◌, ℕ, Some, None, OnOk};
-ghost use Rattle.rtcp_text.specs.Check.{IsTextOfBy, IsPrefixOfTextBy, ShowsWhatCame, ShowsLinesBefore, ShowsUpToBlock};
-ghost use Rattle.rtcp_text.specs.Counted.{failures_of, inner_of};
+ghost use Rattle.std.specs.Prelude.{◌≡◌, None};
+ghost use Rattle.rtcp_text.specs.Check.{Checks};
+ghost use Rattle.rtcp_text.specs.Counted.{FailsOnce, failures_of, inner_of};
 ghost use Rattle.rtcp_text.specs.Lines.{Wrote};
-ghost use Rattle.rtcp_text.specs.declared.fault.LineFault.{LineFault as Fault};
 ghost use Rattle.rtcp_plain.specs.Plain.{plain_text};
 
 use crate::packets::push_plain;
@@ -29,28 +28,10 @@ pub fn check_plain<R: Read, W: Write>(
     requires reader_unfailed { failures_of reader.old ≡ 0 }
     requires writer_unfailed { failures_of writer.old ≡ 0 }
 
-    // What is written is always a prefix of the text of the whole input.
-    ensures prefix { Wrote R.remaining W.contents reader.old writer.old writer.new
-        (IsPrefixOfTextBy (plain_text None) lines) }
-    ensures whole { OnOk result
-        (Wrote R.remaining W.contents reader.old writer.old writer.new (IsTextOfBy (plain_text None) lines None)) }
-    ensures refused { (line : ℕ) (fault : Fault) → result ≡ Err (TextFault.Text line fault)
-        → Wrote R.remaining W.contents reader.old writer.old writer.new
-        (IsTextOfBy (plain_text None) lines (Some (line, fault))) }
-    ensures read { result ≡ Err TextFault.Read
-        → Wrote R.remaining W.contents reader.old writer.old writer.new
-        (ShowsWhatCame (plain_text None) lines (R.remaining (inner_of reader.new))) }
-    ensures memory { result ≡ Err TextFault.Memory
-        → Wrote R.remaining W.contents reader.old writer.old writer.new (ShowsLinesBefore (plain_text None) lines) }
-    ensures memory_block { result ≡ Err TextFault.Memory
-        → Wrote R.remaining W.contents reader.old writer.old writer.new
-        (ShowsUpToBlock (plain_text None) lines (R.remaining (inner_of reader.new))) }
-
-    // A call failed exactly where the fault says so, and only one.
-    ensures read_failed { (result ≡ Err TextFault.Read) ↔ (failures_of reader.new ≢ 0) }
-    ensures write_failed { (result ≡ Err TextFault.Write) ↔ (failures_of writer.new ≢ 0) }
-    ensures read_once { failures_of reader.new ≤ 1 }
-    ensures write_once { failures_of writer.new ≤ 1 }
+    ensures checks { Checks (plain_text None) lines result (R.remaining (inner_of reader.new))
+        (Wrote R.remaining W.contents reader.old writer.old writer.new) }
+    ensures fails { FailsOnce result TextFault.Read TextFault.Write (failures_of reader.new)
+        (failures_of writer.new) }
 {
     check_as(alloc, lines, Plain, reader, writer)
 }

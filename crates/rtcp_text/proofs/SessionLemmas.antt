@@ -1,5 +1,5 @@
 -- What a session writes: the line for the start, and then what the answers leave.
-use Rattle.std.proofs.Common.{◌≡◌, ℕ, List, [], ◌++◌, Option, Some, None, Result, Err, sym, ◌∙◌, ap, subst, append_assoc, append-nil}
+use Rattle.std.proofs.Common.{◌≡◌, ℕ, List, [], ◌++◌, Option, Some, None, Result, Ok, Err, sym, ◌∙◌, ap, subst, append_assoc, append-nil}
 use Rattle.std.specs.Io.KnownBytes.{Appends}
 use Rattle.std.proofs.KnownBytes.{Appends-nil}
 use Rattle.rtcp_engine.specs.Histories.{History, life_at}
@@ -7,13 +7,14 @@ use Rattle.rtcp_engine.specs.Lives.{next_in_life}
 use Rattle.rtcp_engine.specs.States.{ParticipantValue, StandsAt}
 use Rattle.rtcp_text.specs.AnswerText.{start_text}
 use Rattle.rtcp_text.specs.declared.fault.TextFault.{TextFault}
-use Rattle.rtcp_text.specs.declared.fault.TextFault.TheVariants.{Write}
+use Rattle.rtcp_text.specs.declared.fault.TextFault.TheVariants.{Text, Read, Write, Memory}
 use Rattle.rtcp_text.specs.declared.fault.ReplayFault.{ReplayFault}
 use Rattle.rtcp_text.specs.declared.fault.ReplayFault.TheVariants.{Run}
 use Rattle.rtcp_text.specs.Lines.{IsTextFrom, Writes}
 use Rattle.rtcp_text.specs.Progress.{RunLeaves}
-use Rattle.rtcp_text.specs.Replay.{AnswersStanding, IsNoEvent, SessionLeaves, opening}
-use Rattle.rtcp_text.proofs.ReplayLemmas.{RunLeaves-standing, SessionLeaves-opened, IsPrefixOfSession-start}
+use Rattle.rtcp_text.specs.Replay.{AnswersStanding, IsNoEvent, IsPrefixOfSession, Replays, SessionBefore, SessionLeaves, SessionUpToBlock, opening}
+use Rattle.rtcp_text.proofs.ClauseLemmas.{Writes-weaker}
+use Rattle.rtcp_text.proofs.ReplayLemmas.{IsPrefixOfSession-leaves, IsPrefixOfSession-start, RunLeaves-standing, SessionBefore-block, SessionLeaves-opened}
 
 -- What is appended to nothing for the next moment is the line for the start.
 pub opening_shown : (history : History) (next : Option ℕ) (before start : List ℕ) → start ≡ before ++ start_text next →
@@ -69,14 +70,42 @@ module _ {S : Type 0} (most : ℕ) (participant_of : S → ParticipantValue) whe
             (RunLeaves-standing most participant_of state history stands r left input found.0 found.2),
       )
 
--- ---- The fault of a replay
+-- ---- A replay
 
 -- What a run's fault leaves is what a replay's fault says.
-pub Writes-run : (A B : Type 0) (most : ℕ) (history : History) (remaining held holds left : Option (List ℕ))
+leaves_so : (most : ℕ) (history : History) {remaining held holds : Option (List ℕ)} (left : Option (List ℕ))
     (fault wanted : TextFault)
-    → ◌≡◌ {A = Result B ReplayFault} (Err (Run fault)) (Err (Run wanted)) →
-    Writes remaining held holds (SessionLeaves most history {A = A} (Err fault) left)
-    → Writes remaining held holds (SessionLeaves most history {A = A} (Err wanted) left)
-Writes-run A B most history remaining held holds left fault wanted is writes =
+    → ◌≡◌ {A = Result (Unit {0}) ReplayFault} (Err (Run fault)) (Err (Run wanted)) →
+    Writes remaining held holds (SessionLeaves most history {A = Unit {0}} (Err fault) left)
+    → Writes remaining held holds (SessionLeaves most history {A = Unit {0}} (Err wanted) left)
+leaves_so most history {remaining} {held} {holds} left fault wanted is writes =
     let same : fault ≡ wanted = cc is in
-    subst (λ f. Writes remaining held holds (SessionLeaves most history {A = A} (Err f) left)) same writes
+    subst (λ f. Writes remaining held holds (SessionLeaves most history {A = Unit {0}} (Err f) left)) same writes
+
+abbrev replayed : Result (Unit {0}) TextFault → Result (Unit {0}) ReplayFault
+replayed (Ok x) = Ok x
+replayed (Err fault) = Err (Run fault)
+
+-- Each promise of a replay is one case of what its session leaves.
+pub replays : (most : ℕ) (history : History) (result : Result (Unit {0}) TextFault) (left : Option (List ℕ))
+    {remaining held holds : Option (List ℕ)} → Writes remaining held holds (SessionLeaves most history result left) →
+    Replays most history (replayed result) left (Writes remaining held holds)
+replays most history (Ok x) left leaves = record {
+  prefix = λ none. Writes-weaker _ _ _ (SessionLeaves most history {A = Unit {0}} (Ok x) left)
+      (IsPrefixOfSession most history) (IsPrefixOfSession-leaves most history (Ok x) left) leaves;
+  whole = leaves;
+  refused = λ line fault is. absurd (cc is);
+  read = λ is. absurd (cc is);
+  memory = λ is. absurd (cc is);
+  memory_block = λ is. absurd (cc is);
+}
+replays most history (Err fault) left leaves = record {
+  prefix = λ none. Writes-weaker _ _ _ (SessionLeaves most history {A = Unit {0}} (Err fault) left)
+      (IsPrefixOfSession most history) (IsPrefixOfSession-leaves {A = Unit {0}} most history (Err fault) left) leaves;
+  whole = tt;
+  refused = λ line wanted is. leaves_so most history left fault (Text line wanted) is leaves;
+  read = λ is. leaves_so most history left fault Read is leaves;
+  memory = λ is. Writes-weaker _ _ _ (SessionUpToBlock most history left) (SessionBefore most history)
+      (SessionBefore-block most history left) (leaves_so most history left fault Memory is leaves);
+  memory_block = λ is. leaves_so most history left fault Memory is leaves;
+}

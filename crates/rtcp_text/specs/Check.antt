@@ -1,5 +1,5 @@
 -- The text that a check of an input is: a line of answer for each line of hex, as far as the input is good.
-use Rattle.std.specs.Prelude.{◌≡◌, ℕ, ◌⊎◌, List, Option, Ok, IsErr}
+use Rattle.std.specs.Prelude.{◌≡◌, ℕ, ◌⊎◌, List, Option, Some, None, Result, Ok, Err, IsErr, OnOk}
 use Rattle.hex.specs.Hex.{decode_of}
 use Rattle.rtcp_wire.specs.Values.{RtcpPacket}
 use Rattle.rtcp_wire.specs.Grammar.{IsAccepted}
@@ -7,8 +7,10 @@ use Rattle.rtcp_wire.specs.Faults.{IsFirstFault}
 use Rattle.rtcp_wire.specs.declared.fault.WireFault.{WireFault}
 use Rattle.rtcp_text.specs.declared.fault.LineFault.{LineFault}
 use Rattle.rtcp_text.specs.declared.fault.LineFault.TheVariants.{Hex}
+use Rattle.rtcp_text.specs.declared.fault.TextFault.{TextFault}
+use Rattle.rtcp_text.specs.declared.fault.TextFault.TheVariants.{Text, Read, Memory}
 use Rattle.rtcp_text.specs.Lines.{lines_of, IsTextBy, IsPrefixBy, AnswersWhatCameBy, AnswersUpToBlockBy, AnswersLinesBeforeBy}
-use Rattle.rtcp_text.specs.Text.{accepted_text, fault_text}
+use Rattle.rtcp_text.specs.Text.{fault_text}
 
 -- ---- Answers, where accepted datagrams are shown so
 
@@ -58,28 +60,16 @@ module _ (shows : List RtcpPacket → List ℕ) where
   abbrev pub ShowsLinesBefore : (most : ℕ) → List ℕ → List ℕ → Type 0
   ShowsLinesBefore most input text = AnswersLinesBeforeBy (IsCheckTextBy most 1) input text
 
--- ---- The same of the text of `rtcp check`
-
-abbrev pub IsAnswer : List ℕ → List ℕ → Type 0
-IsAnswer octets text = IsAnswerBy accepted_text octets text
-
-abbrev pub AnswersHex : (line text : List ℕ) → Type 0
-AnswersHex line text = AnswersHexBy accepted_text line text
-
-abbrev pub IsCheckText : (most : ℕ) → ℕ → List (List ℕ) → List ℕ → Option (ℕ × LineFault) → Type 0
-IsCheckText most n lines text end = IsCheckTextBy accepted_text most n lines text end
-
-abbrev pub IsTextOf : (most : ℕ) → Option (ℕ × LineFault) → List ℕ → List ℕ → Type 0
-IsTextOf most end input text = IsTextOfBy accepted_text most end input text
-
-abbrev pub IsPrefixOfText : (most : ℕ) → List ℕ → List ℕ → Type 0
-IsPrefixOfText most input text = IsPrefixOfTextBy accepted_text most input text
-
-abbrev pub AnswersWhatCame : (most : ℕ) → Option (List ℕ) → List ℕ → List ℕ → Type 0
-AnswersWhatCame most left input text = ShowsWhatCame accepted_text most left input text
-
-abbrev pub AnswersUpToBlock : (most : ℕ) → Option (List ℕ) → List ℕ → List ℕ → Type 0
-AnswersUpToBlock most left input text = ShowsUpToBlock accepted_text most left input text
-
-abbrev pub AnswersLinesBefore : (most : ℕ) → List ℕ → List ℕ → Type 0
-AnswersLinesBefore most input text = ShowsLinesBefore accepted_text most input text
+-- What a check promises that shows packets so and answers so many lines at most, by what it wrote, its outcome, and what
+-- the reader has left.
+pub record Checks
+    (shows : List RtcpPacket → List ℕ) (most : ℕ) {A : Type 0} (result : Result A TextFault) (left : Option (List ℕ))
+    (Leaves : (List ℕ → List ℕ → Type 0) → Type 0)
+    : Type 0 where
+  pub prefix : Leaves (IsPrefixOfTextBy shows most)
+  pub whole : OnOk result (Leaves (IsTextOfBy shows most None))
+  pub refused : (line : ℕ) (fault : LineFault) → result ≡ Err (Text line fault) →
+      Leaves (IsTextOfBy shows most (Some (line, fault)))
+  pub read : result ≡ Err Read → Leaves (ShowsWhatCame shows most left)
+  pub memory : result ≡ Err Memory → Leaves (ShowsLinesBefore shows most)
+  pub memory_block : result ≡ Err Memory → Leaves (ShowsUpToBlock shows most left)

@@ -1,5 +1,5 @@
 -- What a clause reads of a reader or a writer that counts its failed calls.
-use Rattle.std.specs.Prelude.{ℕ, ◌+◌, ◌-◌, ◌^◌, ◌==◌, ◌&&◌, nat_lt, Bool, true, if◌then◌else◌, min, List, length, Result, Ok, Err}
+use Rattle.std.specs.Prelude.{ℕ, ◌≡◌, ◌≢◌, ◌↔◌, ◌≤◌, ◌+◌, ◌-◌, ◌^◌, ◌==◌, ◌&&◌, nat_lt, Bool, true, if◌then◌else◌, min, List, length, Result, Ok, Err}
 use Rattle.rtcp_text.specs.declared.counted.Counted.{Counted}
 
 -- how many calls failed, up to 2 ^ 64 - 1
@@ -18,3 +18,11 @@ count_after failed count = if failed then min (count + 1) (2 ^ 64 - 1) else coun
 abbrev pub took_nothing : {E : Type 0} → Result ℕ E → List ℕ → Bool
 took_nothing (Ok count) octets = (count == 0) && nat_lt 0 (length octets)
 took_nothing (Err e) octets = true
+
+-- A call of the reader or of the writer failed exactly where the fault says so, and only one: by the faults of a failed
+-- read and a failed write, and by how many calls failed.
+pub record FailsOnce {A F : Type 0} (result : Result A F) (read write : F) (reads writes : ℕ) : Type 0 where
+  pub read_failed : (result ≡ Err read) ↔ (reads ≢ 0)
+  pub write_failed : (result ≡ Err write) ↔ (writes ≢ 0)
+  pub read_once : reads ≤ 1
+  pub write_once : writes ≤ 1

@@ -1,11 +1,14 @@
 -- The text of a session: what a participant answers to the events that the lines of an input say.
-use Rattle.std.specs.Prelude.{◌≡◌, ℕ, ◌⊎◌, List, [], ◌++◌, Option, Some, None, Result, Ok, Err}
+use Rattle.std.specs.Prelude.{◌≡◌, ℕ, ◌⊎◌, List, [], ◌++◌, Option, Some, None, Result, Ok, Err, OnOk}
 use Rattle.rtcp_engine.specs.Acts.{Act, EventValue, IsActOfEvent}
 use Rattle.rtcp_engine.specs.Histories.{History, life_at}
 use Rattle.rtcp_engine.specs.Lives.{next_in_life}
 use Rattle.rtcp_engine.specs.Answers.{answer_of, followed_by}
 use Rattle.rtcp_engine.specs.States.{ParticipantValue, StandsAt}
+use Rattle.rtcp_engine.specs.Refused.{error_in}
 use Rattle.rtcp_text.specs.declared.fault.LineFault.{LineFault}
+use Rattle.rtcp_text.specs.declared.fault.ReplayFault.{ReplayFault}
+use Rattle.rtcp_text.specs.declared.fault.ReplayFault.TheVariants.{Run}
 use Rattle.rtcp_text.specs.declared.fault.TextFault.{TextFault}
 use Rattle.rtcp_text.specs.declared.fault.TextFault.TheVariants.{Text, Read, Write, Memory}
 use Rattle.rtcp_text.specs.EventLines.{event_in}
@@ -82,3 +85,17 @@ SessionLeaves most history (Err (Text line fault)) left input text = IsSessionOf
 SessionLeaves most history (Err Memory) left input text = SessionUpToBlock most history left input text
 SessionLeaves most history (Err Read) left input text = SessionOfWhatCame most history left input text
 SessionLeaves most history (Err Write) left input text = IsPrefixOfSession most history input text
+
+-- What a replay promises after a history whose configuration is usable, by what it wrote, its outcome, and what the
+-- reader has left.
+pub record Replays
+    (most : ℕ) (history : History) {A : Type 0} (result : Result A ReplayFault) (left : Option (List ℕ))
+    (Leaves : (List ℕ → List ℕ → Type 0) → Type 0)
+    : Type 0 where
+  pub prefix : error_in history.setup ≡ None → Leaves (IsPrefixOfSession most history)
+  pub whole : OnOk result (Leaves (IsSessionOf most history None))
+  pub refused : (line : ℕ) (fault : LineFault) → result ≡ Err (Run (Text line fault)) →
+      Leaves (IsSessionOf most history (Some (line, fault)))
+  pub read : result ≡ Err (Run Read) → Leaves (SessionOfWhatCame most history left)
+  pub memory : result ≡ Err (Run Memory) → Leaves (SessionBefore most history)
+  pub memory_block : result ≡ Err (Run Memory) → Leaves (SessionUpToBlock most history left)

@@ -1,7 +1,7 @@
 //! A text that is read in blocks, and answered line by line.
 
-ghost use Rattle.std.specs.Prelude.{◌≡◌, ◌≢◌, ◌≤◌, ◌↔◌};
-ghost use Rattle.rtcp_text.specs.Counted.{failures_of, inner_of};
+ghost use Rattle.std.specs.Prelude.{◌≡◌};
+ghost use Rattle.rtcp_text.specs.Counted.{FailsOnce, failures_of, inner_of};
 ghost use Rattle.rtcp_text.specs.Lines.{Wrote, IsTextFrom};
 ghost use Rattle.rtcp_text.specs.Progress.{RunLeaves};
 
@@ -40,10 +40,8 @@ pub fn answer_blocks<A: Answerer, R: Read, W: Write>(
     requires writer_unfailed { failures_of writer.old ≡ 0 }
     ensures leaves { Wrote R.remaining W.contents reader.old writer.old writer.new
         (RunLeaves (IsTextFrom lines A.answers A.refuses 1 answerer) result (R.remaining (inner_of reader.new))) }
-    ensures read_failed { (result ≡ Err TextFault.Read) ↔ (failures_of reader.new ≢ 0) }
-    ensures write_failed { (result ≡ Err TextFault.Write) ↔ (failures_of writer.new ≢ 0) }
-    ensures read_once { failures_of reader.new ≤ 1 }
-    ensures write_once { failures_of writer.new ≤ 1 }
+    ensures fails { FailsOnce result TextFault.Read TextFault.Write (failures_of reader.new)
+        (failures_of writer.new) }
 {
     let mut cutter = LineCutter::new(alloc, lines, answerer);
     let mut block = [0; BLOCK];

@@ -1,10 +1,10 @@
 //! A check of a text: an answer for each line of hex.
 
-ghost use Rattle.std.specs.Prelude.{◌≡◌, ◌≢◌, ◌≤◌, ◌↔◌, ℕ, Some, None, OnOk};
-ghost use Rattle.rtcp_text.specs.Check.{IsTextOf, IsTextOfBy, IsPrefixOfText, IsPrefixOfTextBy, AnswersWhatCame, AnswersLinesBefore, AnswersUpToBlock, ShowsWhatCame, ShowsLinesBefore, ShowsUpToBlock};
-ghost use Rattle.rtcp_text.specs.Counted.{failures_of, inner_of};
+ghost use Rattle.std.specs.Prelude.{◌≡◌};
+ghost use Rattle.rtcp_text.specs.Check.{Checks};
+ghost use Rattle.rtcp_text.specs.Counted.{FailsOnce, failures_of, inner_of};
 ghost use Rattle.rtcp_text.specs.Lines.{Wrote};
-ghost use Rattle.rtcp_text.specs.declared.fault.LineFault.{LineFault as Fault};
+ghost use Rattle.rtcp_text.specs.Text.{accepted_text};
 
 use crate::answer::Checker;
 use crate::blocks::answer_blocks;
@@ -46,26 +46,10 @@ pub fn check<R: Read, W: Write>(
     requires reader_unfailed { failures_of reader.old ≡ 0 }
     requires writer_unfailed { failures_of writer.old ≡ 0 }
 
-    // What is written is always a prefix of the text of the whole input.
-    ensures prefix { Wrote R.remaining W.contents reader.old writer.old writer.new (IsPrefixOfText 65536) }
-    ensures whole { OnOk result
-        (Wrote R.remaining W.contents reader.old writer.old writer.new (IsTextOf 65536 None)) }
-    ensures refused { (line : ℕ) (fault : Fault) → result ≡ Err (TextFault.Text line fault)
-        → Wrote R.remaining W.contents reader.old writer.old writer.new (IsTextOf 65536 (Some (line, fault))) }
-    ensures read { result ≡ Err TextFault.Read
-        → Wrote R.remaining W.contents reader.old writer.old writer.new
-        (AnswersWhatCame 65536 (R.remaining (inner_of reader.new))) }
-    ensures memory { result ≡ Err TextFault.Memory
-        → Wrote R.remaining W.contents reader.old writer.old writer.new (AnswersLinesBefore 65536) }
-    ensures memory_block { result ≡ Err TextFault.Memory
-        → Wrote R.remaining W.contents reader.old writer.old writer.new
-        (AnswersUpToBlock 65536 (R.remaining (inner_of reader.new))) }
-
-    // A call failed exactly where the fault says so, and only one.
-    ensures read_failed { (result ≡ Err TextFault.Read) ↔ (failures_of reader.new ≢ 0) }
-    ensures write_failed { (result ≡ Err TextFault.Write) ↔ (failures_of writer.new ≢ 0) }
-    ensures read_once { failures_of reader.new ≤ 1 }
-    ensures write_once { failures_of writer.new ≤ 1 }
+    ensures checks { Checks accepted_text 65536 result (R.remaining (inner_of reader.new))
+        (Wrote R.remaining W.contents reader.old writer.old writer.new) }
+    ensures fails { FailsOnce result TextFault.Read TextFault.Write (failures_of reader.new)
+        (failures_of writer.new) }
 {
     check_up_to(alloc, MOST_LINES, reader, writer)
 }
@@ -84,26 +68,10 @@ pub fn check_up_to<R: Read, W: Write>(
     requires reader_unfailed { failures_of reader.old ≡ 0 }
     requires writer_unfailed { failures_of writer.old ≡ 0 }
 
-    // What is written is always a prefix of the text of the whole input.
-    ensures prefix { Wrote R.remaining W.contents reader.old writer.old writer.new (IsPrefixOfText lines) }
-    ensures whole { OnOk result
-        (Wrote R.remaining W.contents reader.old writer.old writer.new (IsTextOf lines None)) }
-    ensures refused { (line : ℕ) (fault : Fault) → result ≡ Err (TextFault.Text line fault)
-        → Wrote R.remaining W.contents reader.old writer.old writer.new (IsTextOf lines (Some (line, fault))) }
-    ensures read { result ≡ Err TextFault.Read
-        → Wrote R.remaining W.contents reader.old writer.old writer.new
-        (AnswersWhatCame lines (R.remaining (inner_of reader.new))) }
-    ensures memory { result ≡ Err TextFault.Memory
-        → Wrote R.remaining W.contents reader.old writer.old writer.new (AnswersLinesBefore lines) }
-    ensures memory_block { result ≡ Err TextFault.Memory
-        → Wrote R.remaining W.contents reader.old writer.old writer.new
-        (AnswersUpToBlock lines (R.remaining (inner_of reader.new))) }
-
-    // A call failed exactly where the fault says so, and only one.
-    ensures read_failed { (result ≡ Err TextFault.Read) ↔ (failures_of reader.new ≢ 0) }
-    ensures write_failed { (result ≡ Err TextFault.Write) ↔ (failures_of writer.new ≢ 0) }
-    ensures read_once { failures_of reader.new ≤ 1 }
-    ensures write_once { failures_of writer.new ≤ 1 }
+    ensures checks { Checks accepted_text lines result (R.remaining (inner_of reader.new))
+        (Wrote R.remaining W.contents reader.old writer.old writer.new) }
+    ensures fails { FailsOnce result TextFault.Read TextFault.Write (failures_of reader.new)
+        (failures_of writer.new) }
 {
     // So every input has a text, of which what is written is a prefix, and only one.
     accepted_or_faulty();
@@ -126,26 +94,10 @@ pub fn check_as<S: Showing, R: Read, W: Write>(
     requires reader_unfailed { failures_of reader.old ≡ 0 }
     requires writer_unfailed { failures_of writer.old ≡ 0 }
 
-    // What is written is always a prefix of the text of the whole input.
-    ensures prefix { Wrote R.remaining W.contents reader.old writer.old writer.new (IsPrefixOfTextBy S.line lines) }
-    ensures whole { OnOk result
-        (Wrote R.remaining W.contents reader.old writer.old writer.new (IsTextOfBy S.line lines None)) }
-    ensures refused { (line : ℕ) (fault : Fault) → result ≡ Err (TextFault.Text line fault)
-        → Wrote R.remaining W.contents reader.old writer.old writer.new (IsTextOfBy S.line lines (Some (line, fault))) }
-    ensures read { result ≡ Err TextFault.Read
-        → Wrote R.remaining W.contents reader.old writer.old writer.new
-        (ShowsWhatCame S.line lines (R.remaining (inner_of reader.new))) }
-    ensures memory { result ≡ Err TextFault.Memory
-        → Wrote R.remaining W.contents reader.old writer.old writer.new (ShowsLinesBefore S.line lines) }
-    ensures memory_block { result ≡ Err TextFault.Memory
-        → Wrote R.remaining W.contents reader.old writer.old writer.new
-        (ShowsUpToBlock S.line lines (R.remaining (inner_of reader.new))) }
-
-    // A call failed exactly where the fault says so, and only one.
-    ensures read_failed { (result ≡ Err TextFault.Read) ↔ (failures_of reader.new ≢ 0) }
-    ensures write_failed { (result ≡ Err TextFault.Write) ↔ (failures_of writer.new ≢ 0) }
-    ensures read_once { failures_of reader.new ≤ 1 }
-    ensures write_once { failures_of writer.new ≤ 1 }
+    ensures checks { Checks S.line lines result (R.remaining (inner_of reader.new))
+        (Wrote R.remaining W.contents reader.old writer.old writer.new) }
+    ensures fails { FailsOnce result TextFault.Read TextFault.Write (failures_of reader.new)
+        (failures_of writer.new) }
 {
     answer_blocks(alloc, lines, Checker::new(alloc, showing), reader, writer)
 }

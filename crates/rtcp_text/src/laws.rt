@@ -6,22 +6,15 @@ ghost use Rattle.std.specs.List.{flat_map};
 ghost use Rattle.rtcp_engine.specs.Acts.{EventValue};
 ghost use Rattle.rtcp_engine.specs.Histories.{History};
 ghost use Rattle.rtcp_wire.specs.Values.{RtcpPacket};
-ghost use Rattle.rtcp_text.specs.Check.{IsTextOf, IsTextOfBy};
+ghost use Rattle.rtcp_text.specs.Check.{IsTextOfBy};
 ghost use Rattle.rtcp_text.specs.EventLines.{IsCallable, datagram_in_event, event_in, event_text};
 ghost use Rattle.rtcp_text.specs.Lines.{HasNoLineFeed, lines_of};
 ghost use Rattle.rtcp_text.specs.Replay.{IsSessionOf};
 ghost use Rattle.rtcp_text.specs.declared.fault.LineFault.{LineFault as Fault};
 
-/// Each input of a check has a text, with an end, and only one, however many lines are answered at most.
+/// Each input of a check has a text, with an end, and only one, however packets are shown and many lines are answered
+/// at most.
 pub fn one_text()
-    ensures always { (lines : ℕ) (input : List ℕ)
-        → (text : List ℕ) × (end : Option (ℕ × Fault)) × IsTextOf lines end input text }
-    ensures only { (lines : ℕ) (input text1 text2 : List ℕ) (end1 end2 : Option (ℕ × Fault))
-        → IsTextOf lines end1 input text1 → IsTextOf lines end2 input text2 → (text1 ≡ text2) × (end1 ≡ end2) }
-{}
-
-/// So has each input of a check that shows packets in another way.
-pub fn one_text_as()
     ensures always { (shows : List RtcpPacket → List ℕ) (lines : ℕ) (input : List ℕ)
         → (text : List ℕ) × (end : Option (ℕ × Fault)) × IsTextOfBy shows lines end input text }
     ensures only { (shows : List RtcpPacket → List ℕ) (lines : ℕ) (input text1 text2 : List ℕ)

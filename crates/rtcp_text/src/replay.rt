@@ -1,16 +1,15 @@
 //! A replay of a session: a participant's answer to each line.
 
-ghost use Rattle.std.specs.Prelude.{◌≡◌, ◌≢◌, ◌≤◌, ◌↔◌, ℕ, Some, None, OnOk};
+ghost use Rattle.std.specs.Prelude.{◌≡◌, ◌↔◌, Some, Err};
 ghost use Rattle.rtcp_engine.specs.Histories.{History};
 ghost use Rattle.rtcp_engine.specs.Refused.{error_in};
 ghost use Rattle.rtcp_engine.specs.States.{StandsAt};
 ghost use Rattle.rtcp_engine.specs.Taken.{begun};
 ghost use Rattle.rtcp_engine.specs.Views.{setup_of};
 ghost use Rattle.rtcp_engine.specs.declared.config.ConfigError.{ConfigError as Refused};
-ghost use Rattle.rtcp_text.specs.Counted.{failures_of, inner_of};
+ghost use Rattle.rtcp_text.specs.Counted.{FailsOnce, failures_of, inner_of};
 ghost use Rattle.rtcp_text.specs.Lines.{Wrote};
-ghost use Rattle.rtcp_text.specs.Replay.{IsSessionOf, IsPrefixOfSession, SessionBefore, SessionLeaves, SessionOfWhatCame, SessionUpToBlock};
-ghost use Rattle.rtcp_text.specs.declared.fault.LineFault.{LineFault as Fault};
+ghost use Rattle.rtcp_text.specs.Replay.{Replays, SessionLeaves};
 
 use crate::blocks::answer_blocks;
 use crate::check::MOST_LINES;
@@ -61,30 +60,10 @@ pub fn replay<R: Read, W: Write>(
     ensures unread { (error : Refused) → result ≡ Err (ReplayFault.Config error) → reader.new ≡ reader.old }
     ensures unwritten { (error : Refused) → result ≡ Err (ReplayFault.Config error) → writer.new ≡ writer.old }
 
-    // What is written is always a prefix of the text of the whole session.
-    ensures prefix { error_in (setup_of config) ≡ None
-        → Wrote R.remaining W.contents reader.old writer.old writer.new
-        (IsPrefixOfSession 65536 (begun (setup_of config) word)) }
-    ensures whole { OnOk result (Wrote R.remaining W.contents reader.old writer.old writer.new
-        (IsSessionOf 65536 (begun (setup_of config) word) None)) }
-    ensures refused { (line : ℕ) (fault : Fault) → result ≡ Err (ReplayFault.Run (TextFault.Text line fault))
-        → Wrote R.remaining W.contents reader.old writer.old writer.new
-        (IsSessionOf 65536 (begun (setup_of config) word) (Some (line, fault))) }
-    ensures read { result ≡ Err (ReplayFault.Run TextFault.Read)
-        → Wrote R.remaining W.contents reader.old writer.old writer.new
-        (SessionOfWhatCame 65536 (begun (setup_of config) word) (R.remaining (inner_of reader.new))) }
-    ensures memory { result ≡ Err (ReplayFault.Run TextFault.Memory)
-        → Wrote R.remaining W.contents reader.old writer.old writer.new
-        (SessionBefore 65536 (begun (setup_of config) word)) }
-    ensures memory_block { result ≡ Err (ReplayFault.Run TextFault.Memory)
-        → Wrote R.remaining W.contents reader.old writer.old writer.new
-        (SessionUpToBlock 65536 (begun (setup_of config) word) (R.remaining (inner_of reader.new))) }
-
-    // A call failed exactly where the fault says so, and only one.
-    ensures read_failed { (result ≡ Err (ReplayFault.Run TextFault.Read)) ↔ (failures_of reader.new ≢ 0) }
-    ensures write_failed { (result ≡ Err (ReplayFault.Run TextFault.Write)) ↔ (failures_of writer.new ≢ 0) }
-    ensures read_once { failures_of reader.new ≤ 1 }
-    ensures write_once { failures_of writer.new ≤ 1 }
+    ensures replays { Replays 65536 (begun (setup_of config) word) result (R.remaining (inner_of reader.new))
+        (Wrote R.remaining W.contents reader.old writer.old writer.new) }
+    ensures fails { FailsOnce result (ReplayFault.Run TextFault.Read) (ReplayFault.Run TextFault.Write)
+        (failures_of reader.new) (failures_of writer.new) }
 {
     replay_up_to(alloc, MOST_LINES, reader, writer, config, word)
 }
@@ -111,30 +90,10 @@ pub fn replay_up_to<R: Read, W: Write>(
     ensures unread { (error : Refused) → result ≡ Err (ReplayFault.Config error) → reader.new ≡ reader.old }
     ensures unwritten { (error : Refused) → result ≡ Err (ReplayFault.Config error) → writer.new ≡ writer.old }
 
-    // What is written is always a prefix of the text of the whole session.
-    ensures prefix { error_in (setup_of config) ≡ None
-        → Wrote R.remaining W.contents reader.old writer.old writer.new
-        (IsPrefixOfSession lines (begun (setup_of config) word)) }
-    ensures whole { OnOk result (Wrote R.remaining W.contents reader.old writer.old writer.new
-        (IsSessionOf lines (begun (setup_of config) word) None)) }
-    ensures refused { (line : ℕ) (fault : Fault) → result ≡ Err (ReplayFault.Run (TextFault.Text line fault))
-        → Wrote R.remaining W.contents reader.old writer.old writer.new
-        (IsSessionOf lines (begun (setup_of config) word) (Some (line, fault))) }
-    ensures read { result ≡ Err (ReplayFault.Run TextFault.Read)
-        → Wrote R.remaining W.contents reader.old writer.old writer.new
-        (SessionOfWhatCame lines (begun (setup_of config) word) (R.remaining (inner_of reader.new))) }
-    ensures memory { result ≡ Err (ReplayFault.Run TextFault.Memory)
-        → Wrote R.remaining W.contents reader.old writer.old writer.new
-        (SessionBefore lines (begun (setup_of config) word)) }
-    ensures memory_block { result ≡ Err (ReplayFault.Run TextFault.Memory)
-        → Wrote R.remaining W.contents reader.old writer.old writer.new
-        (SessionUpToBlock lines (begun (setup_of config) word) (R.remaining (inner_of reader.new))) }
-
-    // A call failed exactly where the fault says so, and only one.
-    ensures read_failed { (result ≡ Err (ReplayFault.Run TextFault.Read)) ↔ (failures_of reader.new ≢ 0) }
-    ensures write_failed { (result ≡ Err (ReplayFault.Run TextFault.Write)) ↔ (failures_of writer.new ≢ 0) }
-    ensures read_once { failures_of reader.new ≤ 1 }
-    ensures write_once { failures_of writer.new ≤ 1 }
+    ensures replays { Replays lines (begun (setup_of config) word) result (R.remaining (inner_of reader.new))
+        (Wrote R.remaining W.contents reader.old writer.old writer.new) }
+    ensures fails { FailsOnce result (ReplayFault.Run TextFault.Read) (ReplayFault.Run TextFault.Write)
+        (failures_of reader.new) (failures_of writer.new) }
 {
     if let Some(error) = config.error() {
         return Err(ReplayFault::Config(error));
@@ -166,10 +125,8 @@ fn session<T: MemberTable + Drop, R: Read, W: Write>(
     ensures leaves { (history : History) → StandsAt participant history
         → Wrote R.remaining W.contents reader.old writer.old writer.new
         (SessionLeaves lines history result (R.remaining (inner_of reader.new))) }
-    ensures read_failed { (result ≡ Err TextFault.Read) ↔ (failures_of reader.new ≢ 0) }
-    ensures write_failed { (result ≡ Err TextFault.Write) ↔ (failures_of writer.new ≢ 0) }
-    ensures read_once { failures_of reader.new ≤ 1 }
-    ensures write_once { failures_of writer.new ≤ 1 }
+    ensures fails { FailsOnce result TextFault.Read TextFault.Write (failures_of reader.new)
+        (failures_of writer.new) }
 {
     let mut start = Vec::new(alloc);
     if let Err(AllocError) = push_start(&mut start, participant.next()) {

@@ -8,7 +8,7 @@
 
 ghost use Rattle.std.specs.Prelude.{◌≡◌, ◌++◌, ℕ, List, OnOk};
 ghost use Rattle.rtcp_wire.specs.Views.{packet_value};
-ghost use Rattle.rtcp_text.specs.Check.{IsAnswer, IsAnswerBy};
+ghost use Rattle.rtcp_text.specs.Check.{IsAnswerBy};
 ghost use Rattle.rtcp_text.specs.Text.{packet_text, accepted_text, reason_text, fault_text, fault_words};
 
 mod answers;
@@ -36,7 +36,7 @@ use std::alloc::AllocError;
 
 /// Appends the line that `rtcp check` answers to a datagram: its packets, or its first fault.
 pub fn push_checked(out: &mut Vec<u8>, datagram: &[u8]) -> Result<(), AllocError>
-    ensures { OnOk result ((text : List ℕ) × IsAnswer datagram.now text × (out.new.items ≡ out.old.items ++ text)) }
+    ensures { OnOk result ((text : List ℕ) × IsAnswerBy accepted_text datagram.now text × (out.new.items ≡ out.old.items ++ text)) }
 {
     push_shown(out, datagram, &Brief)
 }

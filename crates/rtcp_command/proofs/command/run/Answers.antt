@@ -11,7 +11,7 @@ returns-in_err-outcome-in-Check-clause-refused g c = λ line fault is.
     (sym (rw is at c.from_residual-in_err-outcome-in-Check.ensures.1)) in
     subst (λ o. Wrote g.R.Read.remaining g.W.Write.contents c.args.reader.now c.args.writer.now c.flush.new.writer
     (IsTextOfOrder o (Some (line, fault)))) (sym c.in-Check.is)
-    (Writes-kept _ _ _ _ _ c.flush.ensures.kept (c.in_err-outcome-in-Check.ensures.refused line fault (ap Err found)))
+    (Writes-kept _ _ _ _ _ c.flush.ensures.kept (c.in_err-outcome-in-Check.ensures.checks.refused line fault (ap Err found)))
 
 pub returns-in_err-outcome-in-Replay-clause-refused : goal.returns-in_err-outcome-in-Replay-clause-refused
 returns-in_err-outcome-in-Replay-clause-refused g c = λ line fault is.
@@ -20,7 +20,7 @@ returns-in_err-outcome-in-Replay-clause-refused g c = λ line fault is.
     subst (λ o. Wrote g.R.Read.remaining g.W.Write.contents c.args.reader.now c.args.writer.now
     c.flush-in-Replay.new.writer (IsTextOfOrder o (Some (line, fault))))
     (sym c.in-Replay.is) (Writes-kept _ _ _ _ _ c.flush-in-Replay.ensures.kept
-    (c.in_err-outcome-in-Replay.ensures.refused line fault (ap Err found)))
+    (c.in_err-outcome-in-Replay.ensures.replays.refused line fault (ap Err found)))
 
 pub returns-in_err-outcome-in-Replay-clause-config : goal.returns-in_err-outcome-in-Replay-clause-config
 returns-in_err-outcome-in-Replay-clause-config g c = λ error is.
@@ -33,13 +33,13 @@ pub returns-in_ok-outcome-in-Check-clause-whole : goal.returns-in_ok-outcome-in-
 returns-in_ok-outcome-in-Check-clause-whole g c =
     subst (λ o. Wrote g.R.Read.remaining g.W.Write.contents c.args.reader.now c.args.writer.now c.flush.new.writer
     (IsTextOfOrder o None)) (sym c.in-Check.is)
-    (Writes-kept _ _ _ _ _ c.flush.ensures.kept c.in_ok-outcome-in-Check.ensures.whole)
+    (Writes-kept _ _ _ _ _ c.flush.ensures.kept c.in_ok-outcome-in-Check.ensures.checks.whole)
 
 pub returns-in_ok-outcome-in-Replay-clause-whole : goal.returns-in_ok-outcome-in-Replay-clause-whole
 returns-in_ok-outcome-in-Replay-clause-whole g c =
     subst (λ o. Wrote g.R.Read.remaining g.W.Write.contents c.args.reader.now c.args.writer.now
     c.flush-in-Replay.new.writer (IsTextOfOrder o None)) (sym c.in-Replay.is)
-    (Writes-kept _ _ _ _ _ c.flush-in-Replay.ensures.kept c.in_ok-outcome-in-Replay.ensures.whole)
+    (Writes-kept _ _ _ _ _ c.flush-in-Replay.ensures.kept c.in_ok-outcome-in-Replay.ensures.replays.whole)
 
 pub returns-in_err-outcome-in-CheckPlain-clause-refused : goal.returns-in_err-outcome-in-CheckPlain-clause-refused
 returns-in_err-outcome-in-CheckPlain-clause-refused g c = λ line fault is.
@@ -48,10 +48,10 @@ returns-in_err-outcome-in-CheckPlain-clause-refused g c = λ line fault is.
     subst (λ o. Wrote g.R.Read.remaining g.W.Write.contents c.args.reader.now c.args.writer.now
     c.flush-in-CheckPlain.new.writer (IsTextOfOrder o (Some (line, fault)))) (sym c.in-CheckPlain.is)
     (Writes-kept _ _ _ _ _ c.flush-in-CheckPlain.ensures.kept
-    (c.in_err-outcome-in-CheckPlain.ensures.refused line fault (ap Err found)))
+    (c.in_err-outcome-in-CheckPlain.ensures.checks.refused line fault (ap Err found)))
 
 pub returns-in_ok-outcome-in-CheckPlain-clause-whole : goal.returns-in_ok-outcome-in-CheckPlain-clause-whole
 returns-in_ok-outcome-in-CheckPlain-clause-whole g c =
     subst (λ o. Wrote g.R.Read.remaining g.W.Write.contents c.args.reader.now c.args.writer.now
     c.flush-in-CheckPlain.new.writer (IsTextOfOrder o None)) (sym c.in-CheckPlain.is)
-    (Writes-kept _ _ _ _ _ c.flush-in-CheckPlain.ensures.kept c.in_ok-outcome-in-CheckPlain.ensures.whole)
+    (Writes-kept _ _ _ _ _ c.flush-in-CheckPlain.ensures.kept c.in_ok-outcome-in-CheckPlain.ensures.checks.whole)

@@ -1,4 +1,4 @@
--- Each clause is one case of what the blocks' answers leave.
+-- Each promise is one case of what the blocks' answers leave.
 use Rattle.rtcp_text.specs.Check.{IsCheckTextBy, IsPrefixOfTextBy, ShowsUpToBlock, ShowsLinesBefore}
 use Rattle.rtcp_text.specs.Counted.{inner_of}
 use Rattle.rtcp_text.specs.Progress.{RunLeaves}
@@ -7,54 +7,21 @@ use Rattle.rtcp_text.proofs.CheckLemmas.{check_leaves, check_text_continues}
 use Rattle.rtcp_text.proofs.ClauseLemmas.{IsPrefixBy-leaves, AnswersLinesBeforeBy-block, Writes-weaker, Writes-whole, Writes-refused}
 use Rattle.rtcp_text.proofs.check.check_as.Goals as goal
 
-pub returns-clause-prefix : goal.returns-clause-prefix
-returns-clause-prefix g c =
+pub returns-clause-checks : goal.returns-clause-checks
+returns-clause-checks g c =
+    let shows = g.S.Showing.line in
+    let most = c.args.lines in
+    let IsText = IsCheckTextBy shows most 1 in
+    let result = c.answer_blocks.result in
     let left = g.R.Read.remaining (inner_of c.answer_blocks.new.reader) in
-    Writes-weaker _ _ _ (RunLeaves (IsCheckTextBy g.S.Showing.line c.args.lines 1) c.answer_blocks.result left)
-    (IsPrefixOfTextBy g.S.Showing.line c.args.lines)
-    (IsPrefixBy-leaves (IsCheckTextBy g.S.Showing.line c.args.lines 1)
-    (check_text_continues g.S.Showing.line c.args.lines) c.answer_blocks.result left)
-    (check_leaves g.S.Showing.line c.args.lines c.new.result c.answer_blocks.result _ _ _ left
-    c.answer_blocks.ensures.leaves)
-
-pub returns-clause-whole : goal.returns-clause-whole
-returns-clause-whole g c =
-    let left = g.R.Read.remaining (inner_of c.answer_blocks.new.reader) in
-    Writes-whole (IsCheckTextBy g.S.Showing.line c.args.lines 1) _ _ _ left c.answer_blocks.result
-    (check_leaves g.S.Showing.line c.args.lines c.new.result c.answer_blocks.result _ _ _ left
-    c.answer_blocks.ensures.leaves)
-
-pub returns-clause-refused : goal.returns-clause-refused
-returns-clause-refused g c = λ line fault is.
-    let left = g.R.Read.remaining (inner_of c.answer_blocks.new.reader) in
-    Writes-refused (IsCheckTextBy g.S.Showing.line c.args.lines 1) _ _ _ left c.answer_blocks.result
-    (check_leaves g.S.Showing.line c.args.lines c.new.result c.answer_blocks.result _ _ _ left
-    c.answer_blocks.ensures.leaves)
-    (Text line fault) is
-
-pub returns-clause-read : goal.returns-clause-read
-returns-clause-read g c = λ is.
-    let left = g.R.Read.remaining (inner_of c.answer_blocks.new.reader) in
-    Writes-refused (IsCheckTextBy g.S.Showing.line c.args.lines 1) _ _ _ left c.answer_blocks.result
-    (check_leaves g.S.Showing.line c.args.lines c.new.result c.answer_blocks.result _ _ _ left
-    c.answer_blocks.ensures.leaves) Read
-    is
-
-pub returns-clause-memory : goal.returns-clause-memory
-returns-clause-memory g c = λ is.
-    let left = g.R.Read.remaining (inner_of c.answer_blocks.new.reader) in
-    let block = Writes-refused (IsCheckTextBy g.S.Showing.line c.args.lines 1) _ _ _ left c.answer_blocks.result
-    (check_leaves g.S.Showing.line c.args.lines c.new.result c.answer_blocks.result _ _ _ left
-    c.answer_blocks.ensures.leaves)
-    Memory is in
-    Writes-weaker _ _ _ (ShowsUpToBlock g.S.Showing.line c.args.lines left)
-    (ShowsLinesBefore g.S.Showing.line c.args.lines)
-    (AnswersLinesBeforeBy-block (IsCheckTextBy g.S.Showing.line c.args.lines 1) left) block
-
-pub returns-clause-memory_block : goal.returns-clause-memory_block
-returns-clause-memory_block g c = λ is.
-    let left = g.R.Read.remaining (inner_of c.answer_blocks.new.reader) in
-    Writes-refused (IsCheckTextBy g.S.Showing.line c.args.lines 1) _ _ _ left c.answer_blocks.result
-    (check_leaves g.S.Showing.line c.args.lines c.new.result c.answer_blocks.result _ _ _ left
-    c.answer_blocks.ensures.leaves) Memory
-    is
+    let leaves = check_leaves shows most c.new.result result _ _ _ left c.answer_blocks.ensures.leaves in
+    record {
+      prefix = Writes-weaker _ _ _ (RunLeaves IsText result left) (IsPrefixOfTextBy shows most)
+          (IsPrefixBy-leaves IsText (check_text_continues shows most) result left) leaves;
+      whole = Writes-whole IsText _ _ _ left result leaves;
+      refused = λ line fault is. Writes-refused IsText _ _ _ left result leaves (Text line fault) is;
+      read = λ is. Writes-refused IsText _ _ _ left result leaves Read is;
+      memory = λ is. Writes-weaker _ _ _ (ShowsUpToBlock shows most left) (ShowsLinesBefore shows most)
+          (AnswersLinesBeforeBy-block IsText left) (Writes-refused IsText _ _ _ left result leaves Memory is);
+      memory_block = λ is. Writes-refused IsText _ _ _ left result leaves Memory is;
+    }
