@@ -12,6 +12,5 @@ pub mod Least
 pub mod Codes
 pub mod ListViews
 pub mod storage
-pub mod Looks
 pub mod BlockLaws
 pub mod Clocks

@@ -43,7 +43,6 @@ mod table;
 pub mod told_laws;
 pub mod trace_laws;
 pub mod turn_laws;
-mod walks;
 
 pub use list_table::ListTable;
 pub use sorted_table::{HeapTable, SortedTable};

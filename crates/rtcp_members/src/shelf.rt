@@ -22,7 +22,7 @@ use crate::cells::{Cell, Slot, exchange, shift, slot_at};
 use crate::counts::Counts;
 use crate::entry::Entry;
 use crate::hints::{hinted, note};
-use crate::index::{find, is_gap, walk_to};
+use crate::index::find;
 use crate::state::SourceState;
 use crate::table::Effect;
 use rtcp_wire::{Block, Fact};
@@ -142,28 +142,11 @@ impl<C: Blocks<Cell>, S: Blocks<Slot>> Shelf<C, S> {
         note(self.cells.as_mut_slice(), ssrc, rank);
     }
 
-    /// Whether a source has no entry, and one would stand at this rank.
-    #[inline(always)]
-    pub(crate) fn is_gap(&self, rank: usize, ssrc: u32) -> bool
-        ensures { IsTrue result → IsGapFor ssrc self.now.items rank }
-    {
-        is_gap(self.in_use(), rank, ssrc)
-    }
-
     /// The rank of a source, or else that which it would have.
     pub(crate) fn find(&self, ssrc: u32) -> Result<usize, usize>
         ensures { Locates ssrc self.now.items result }
     {
         find(self.in_use(), ssrc)
-    }
-
-    /// What `find` returns, where a walk from the rank `from` soon comes to it. No clause says where: a walk that
-    /// gives up costs time alone, as `find` is asked then.
-    #[inline(always)]
-    pub(crate) fn walk_to(&self, ssrc: u32, from: usize) -> Option<Result<usize, usize>>
-        ensures { IfSome result (Locates ssrc self.now.items) }
-    {
-        walk_to(self.in_use(), ssrc, from)
     }
 
     /// Whether a block is due of the source of a rank.

@@ -20,16 +20,12 @@ use crate::cells::{Cell, Slot};
 use crate::shelf::Shelf;
 use crate::state::SourceState;
 use crate::table::{Applied, Dropped, Effect, InlineTable, MAX_CAPACITY, MemberTable, Place};
-use crate::walks::Walks;
 use arrayvec::ArrayVec;
 use rtcp_wire::{Block, Fact};
 use std::alloc::{AllocError, Global};
 use std::marker::Model;
 
-/// The most entries of a list in which the walk to a source is short from the first guess on.
-const SHORT_LIST: u64 = 64;
-
-/// A table of members by rising SSRC, over where its entries lie. It finds a source by interpolation or binary search,
+/// A table of members by rising SSRC, over where its entries lie. It finds a source by a hint or binary search,
 /// and knows its counts without a walk. It keeps bounds of what a check goes by, so a check that they rule out
 /// reads no entry. No call allocates.
 #[derive(Drop)]
@@ -38,8 +34,6 @@ pub struct Sorted<C: Blocks<Cell>, S: Blocks<Slot>> {
     /// Where the source of the last block or telling stands, or would.
     last_rank: u16,
     entries: Shelf<C, S>,
-    /// Whether walks to a source pay.
-    walks: Walks,
     /// Up to which moments a check changes nothing.
     bounds: Bounds,
 }
@@ -105,7 +99,6 @@ impl<C: Blocks<Cell>, S: Blocks<Slot>> Sorted<C, S> {
             capacity: capacity as u16,
             last_rank: 0,
             entries: Shelf::over(cells, slots),
-            walks: Walks::none(),
             bounds: Bounds::none(),
         }
     }
@@ -148,7 +141,7 @@ impl<C: Blocks<Cell>, S: Blocks<Slot>> MemberTable for Sorted<C, S> {
     fn apply_fact(&mut self, fact: Fact, t: u64) -> Effect {
         self.bounds.lower(fact, t);
         let ssrc = fact.ssrc();
-        match search_hinted(&mut self.entries, &mut self.walks, ssrc) {
+        match search_hinted(&mut self.entries, ssrc) {
             Ok(at) => self.entries.apply(at, fact, t),
             Err(gap) => {
                 let capacity = u32::from(self.capacity);
@@ -175,15 +168,15 @@ impl<C: Blocks<Cell>, S: Blocks<Slot>> MemberTable for Sorted<C, S> {
 
     fn forget(&mut self, ssrc: u32) -> bool {
         let last_rank = usize::from(self.last_rank);
-        match search(&self.entries, &mut self.walks, last_rank, ssrc) {
+        match search(&self.entries, last_rank, ssrc) {
             Ok(at) => forget_at(&mut self.entries, at, ssrc),
             Err(_) => false,
         }
     }
 
     fn holds(&self, ssrc: u32) -> bool {
-        let (mut walks, last_rank) = (self.walks, usize::from(self.last_rank));
-        search(&self.entries, &mut walks, last_rank, ssrc).is_ok()
+        let last_rank = usize::from(self.last_rank);
+        search(&self.entries, last_rank, ssrc).is_ok()
     }
 
     fn entries(&self) -> u32 {
@@ -203,7 +196,7 @@ impl<C: Blocks<Cell>, S: Blocks<Slot>> MemberTable for Sorted<C, S> {
             return None;
         }
         let (entries, last_rank) = (&self.entries, usize::from(self.last_rank));
-        let first = first_above(entries, self.walks, last_rank, after);
+        let first = first_above(entries, last_rank, after);
         match first_due(entries, first, entries.len()) {
             Some(ssrc) => Some(ssrc),
             None => first_due(entries, 0, first),
@@ -212,27 +205,27 @@ impl<C: Blocks<Cell>, S: Blocks<Slot>> MemberTable for Sorted<C, S> {
 
     fn block_of(&mut self, ssrc: u32, t: u64) -> Block {
         let last_rank = usize::from(self.last_rank);
-        let at = search_behind(&self.entries, &mut self.walks, last_rank, ssrc).unwrap();
+        let at = search_behind(&self.entries, last_rank, ssrc).unwrap();
         self.last_rank = at as u16;
         self.entries.report(at, t)
     }
 
     fn source_above(&self, after: Option<u32>) -> Option<SourceState> {
         let entries = &self.entries;
-        let rank = first_above(entries, self.walks, usize::MAX, after);
+        let rank = first_above(entries, usize::MAX, after);
         state_at(entries, rank)
     }
 
     fn source_from(&self, after: Option<u32>, rank: &mut usize) -> Option<SourceState> {
         let entries = &self.entries;
-        *rank = first_above(entries, self.walks, *rank, after);
+        *rank = first_above(entries, *rank, after);
         state_at(entries, *rank)
     }
 
     // The last rank becomes that of the source told, which the next call most likely goes on from.
     fn next_source(&mut self, after: Option<u32>) -> Option<SourceState> {
         let (entries, last_rank) = (&self.entries, usize::from(self.last_rank));
-        let rank = first_above(entries, self.walks, last_rank, after);
+        let rank = first_above(entries, last_rank, after);
         self.last_rank = rank as u16;
         state_at(&self.entries, rank)
     }
@@ -244,7 +237,6 @@ impl<C: Blocks<Cell>, S: Blocks<Slot>> MemberTable for Sorted<C, S> {
 #[inline(always)]
 fn search_hinted<C: Blocks<Cell>, S: Blocks<Slot>>(
     entries: &mut Shelf<C, S>,
-    walks: &mut Walks,
     ssrc: u32,
 ) -> Result<usize, usize>
     ensures located { Locates ssrc entries.new.items result }
@@ -253,67 +245,29 @@ fn search_hinted<C: Blocks<Cell>, S: Blocks<Slot>>(
     if let Some(at) = entries.hinted(ssrc) {
         return Ok(at);
     }
-    if walks.pay() {
-        return walk_noting(entries, walks, ssrc);
-    }
-    walks.ease();
-    search_apart_noting(entries, walks, ssrc)
+    search_noting(entries, ssrc)
 }
 
-/// The same without a look at the hint, by a walk first.
+/// The same without a look at the hint.
 #[inline(never)]
-fn walk_noting<C: Blocks<Cell>, S: Blocks<Slot>>(
+fn search_noting<C: Blocks<Cell>, S: Blocks<Slot>>(
     entries: &mut Shelf<C, S>,
-    walks: &mut Walks,
     ssrc: u32,
 ) -> Result<usize, usize>
     ensures located { Locates ssrc entries.new.items result }
     ensures kept { entries.new ≡ entries.old }
 {
-    if let Some(found) = search_near(entries, ssrc) {
-        walks.ease();
-        note_found(entries, ssrc, found);
-        return found;
-    }
-    walks.failed();
-    search_apart_noting(entries, walks, ssrc)
-}
-
-/// The same without a look at the hint, and without a walk.
-#[inline(never)]
-fn search_apart_noting<C: Blocks<Cell>, S: Blocks<Slot>>(
-    entries: &mut Shelf<C, S>,
-    walks: &mut Walks,
-    ssrc: u32,
-) -> Result<usize, usize>
-    ensures located { Locates ssrc entries.new.items result }
-    ensures kept { entries.new ≡ entries.old }
-{
-    let found = search_apart(entries, walks, ssrc);
-    note_found(entries, ssrc, found);
-    found
-}
-
-/// Makes the hint at a source say where a search found it, if it did.
-#[inline(always)]
-fn note_found<C: Blocks<Cell>, S: Blocks<Slot>>(
-    entries: &mut Shelf<C, S>,
-    ssrc: u32,
-    found: Result<usize, usize>,
-)
-    ensures { entries.new ≡ entries.old }
-{
+    let found = entries.find(ssrc);
     if let Ok(at) = found {
         entries.note(ssrc, at);
     }
+    found
 }
 
-/// The same without hints. The ranks where the source likely stands are tried first: the last one, and those that a
-/// walk from the likely rank comes to, if walks pay.
+/// The same without hints. The last rank is looked at first.
 #[inline(always)]
 fn search<C: Blocks<Cell>, S: Blocks<Slot>>(
     entries: &Shelf<C, S>,
-    walks: &mut Walks,
     last_rank: usize,
     ssrc: u32,
 ) -> Result<usize, usize>
@@ -322,123 +276,12 @@ fn search<C: Blocks<Cell>, S: Blocks<Slot>>(
     if last_rank < entries.len() && entries.ssrc_at(last_rank) == ssrc {
         return Ok(last_rank);
     }
-    search_elsewhere(entries, walks, ssrc)
-}
-
-/// `search` without a look at the last rank.
-#[inline(never)]
-fn search_elsewhere<C: Blocks<Cell>, S: Blocks<Slot>>(
-    entries: &Shelf<C, S>,
-    walks: &mut Walks,
-    ssrc: u32,
-) -> Result<usize, usize>
-    ensures { Locates ssrc entries.now.items result }
-{
-    if walks.pay() {
-        if let Some(found) = search_near(entries, ssrc) {
-            walks.ease();
-            return found;
-        }
-        walks.failed();
-    } else {
-        walks.ease();
-    }
-    search_apart(entries, walks, ssrc)
-}
-
-/// What `search` returns, if a walk from the likely rank soon comes to where the source stands or would: an
-/// interpolation search that ends with a walk (Perl, Itai and Avni, 1978).
-#[inline(always)]
-fn search_near<C: Blocks<Cell>, S: Blocks<Slot>>(
-    entries: &Shelf<C, S>,
-    ssrc: u32,
-) -> Option<Result<usize, usize>>
-    ensures { IfSome result (Locates ssrc entries.now.items) }
-{
-    entries.walk_to(ssrc, likely_rank(entries, ssrc)?)
-}
-
-/// `search` without a walk. Where SSRCs lie close together, a source without an entry likely lies beyond all of them,
-/// or in the gap where the last one was: these are looked at first.
-// Inlined, with the search by halves apart: it is seldom needed in a flood of sources without an entry.
-#[inline(always)]
-fn search_apart<C: Blocks<Cell>, S: Blocks<Slot>>(
-    entries: &Shelf<C, S>,
-    walks: &mut Walks,
-    ssrc: u32,
-) -> Result<usize, usize>
-    ensures { Locates ssrc entries.now.items result }
-{
-    let (count, gap) = (entries.len(), walks.last_gap());
-    if entries.is_gap(gap, ssrc) {
-        return Err(gap);
-    }
-    if entries.is_gap(count, ssrc) {
-        return Err(count);
-    }
-    if entries.is_gap(0, ssrc) {
-        return Err(0);
-    }
-    search_by_halves(entries, walks, ssrc)
-}
-
-/// `search` by halves. The gap is noted, if it finds that.
-#[inline(never)]
-fn search_by_halves<C: Blocks<Cell>, S: Blocks<Slot>>(
-    entries: &Shelf<C, S>,
-    walks: &mut Walks,
-    ssrc: u32,
-) -> Result<usize, usize>
-    ensures { Locates ssrc entries.now.items result }
-{
-    let found = entries.find(ssrc);
-    if let Err(gap) = found {
-        walks.note_gap(gap);
-    }
-    found
-}
-
-/// `search` for a source that most likely has an entry, by a walk if these pay, and else by halves.
-#[inline(never)]
-fn search_again<C: Blocks<Cell>, S: Blocks<Slot>>(
-    entries: &Shelf<C, S>,
-    walks: Walks,
-    ssrc: u32,
-) -> Result<usize, usize>
-    ensures { Locates ssrc entries.now.items result }
-{
-    if walks.pay() {
-        if let Some(found) = search_near(entries, ssrc) {
-            return found;
-        }
-    }
     entries.find(ssrc)
-}
-
-/// Where the entry of a source stands if the SSRCs are spread evenly, as random ones are (RFC 3550, 8.1): by the
-/// whole list, and in a long one, where that is still far off, by what stands at that rank.
-fn likely_rank<C: Blocks<Cell>, S: Blocks<Slot>>(
-    entries: &Shelf<C, S>,
-    ssrc: u32,
-) -> Option<usize> {
-    let count = entries.len() as u64;
-    let rank = (u64::from(ssrc).wrapping_mul(count) >> 32) as usize;
-    if count <= SHORT_LIST {
-        return Some(rank);
-    }
-    if rank >= entries.len() {
-        return None;
-    }
-    let seen = entries.ssrc_at(rank);
-    let ahead = u64::from(ssrc).wrapping_sub(u64::from(seen));
-    let ranks = ahead.wrapping_mul(count).cast_signed() >> 32;
-    Some(rank.wrapping_add(ranks.cast_unsigned() as usize))
 }
 
 /// As `search`, but the rank after the last one is tried first: the blocks of a report go by rising SSRC.
 fn search_behind<C: Blocks<Cell>, S: Blocks<Slot>>(
     entries: &Shelf<C, S>,
-    walks: &mut Walks,
     last_rank: usize,
     ssrc: u32,
 ) -> Result<usize, usize>
@@ -448,7 +291,7 @@ fn search_behind<C: Blocks<Cell>, S: Blocks<Slot>>(
     if next < entries.len() && entries.ssrc_at(next) == ssrc {
         return Ok(next);
     }
-    search(entries, walks, last_rank, ssrc)
+    search(entries, last_rank, ssrc)
 }
 
 /// A fact comes whose source has no entry. Where it is added, its entry is put into the gap.
@@ -560,7 +403,6 @@ fn forget_at<C: Blocks<Cell>, S: Blocks<Slot>>(
 #[inline(always)]
 fn first_above<C: Blocks<Cell>, S: Blocks<Slot>>(
     entries: &Shelf<C, S>,
-    walks: Walks,
     last_rank: usize,
     above: Option<u32>,
 ) -> usize
@@ -574,7 +416,7 @@ fn first_above<C: Blocks<Cell>, S: Blocks<Slot>>(
     if last_rank < entries.len() && entries.ssrc_at(last_rank) == above {
         return last_rank + 1;
     }
-    match search_again(entries, walks, above) {
+    match entries.find(above) {
         Ok(at) => at + 1,
         Err(gap) => gap,
     }

@@ -23,7 +23,6 @@ returns-in-Err-clause-held g c =
 
 pub returns-in-Err-clause-content : goal.returns-in-Err-clause-content
 returns-in-Err-clause-content g c =
-    c.self.view_is
-    ∙ (none_forgotten c.args.ssrc c.args.self.now
+    (none_forgotten c.args.ssrc c.args.self.now
     (ap (λ (t : TableValue). finite.get t.entries c.args.ssrc) (sym c.self.view_is)
     ∙ none_in_gap c.args.ssrc c.self.inside.entries.items c.in-Err.field-0 c.in-Err.ensures)).1
