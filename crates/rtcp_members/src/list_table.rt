@@ -117,7 +117,7 @@ impl MemberTable for ListTable {
         report_at(self.entries.as_mut_slice(), at, ssrc, t)
     }
 
-    fn source_above(&self, after: Option<u32>) -> Option<SourceState> {
+    fn source_from(&self, after: Option<u32>, _rank: &mut usize) -> Option<SourceState> {
         let entries = self.entries.as_slice();
         match least_above(entries, after) {
             Some(ssrc) => state_in(entries, ssrc),

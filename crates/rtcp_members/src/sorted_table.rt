@@ -167,16 +167,14 @@ impl<C: Blocks<Cell>, S: Blocks<Slot>> MemberTable for Sorted<C, S> {
     }
 
     fn forget(&mut self, ssrc: u32) -> bool {
-        let last_rank = usize::from(self.last_rank);
-        match search(&self.entries, last_rank, ssrc) {
+        match self.entries.find(ssrc) {
             Ok(at) => forget_at(&mut self.entries, at, ssrc),
             Err(_) => false,
         }
     }
 
     fn holds(&self, ssrc: u32) -> bool {
-        let last_rank = usize::from(self.last_rank);
-        search(&self.entries, last_rank, ssrc).is_ok()
+        self.entries.find(ssrc).is_ok()
     }
 
     fn entries(&self) -> u32 {
@@ -203,17 +201,12 @@ impl<C: Blocks<Cell>, S: Blocks<Slot>> MemberTable for Sorted<C, S> {
         }
     }
 
+    // The blocks of a report go by rising SSRC, so the rank after the last one is looked at first.
     fn block_of(&mut self, ssrc: u32, t: u64) -> Block {
-        let last_rank = usize::from(self.last_rank);
-        let at = search_behind(&self.entries, last_rank, ssrc).unwrap();
+        let next = usize::from(self.last_rank) + 1;
+        let at = search(&self.entries, next, ssrc).unwrap();
         self.last_rank = at as u16;
         self.entries.report(at, t)
-    }
-
-    fn source_above(&self, after: Option<u32>) -> Option<SourceState> {
-        let entries = &self.entries;
-        let rank = first_above(entries, usize::MAX, after);
-        state_at(entries, rank)
     }
 
     fn source_from(&self, after: Option<u32>, rank: &mut usize) -> Option<SourceState> {
@@ -264,34 +257,19 @@ fn search_noting<C: Blocks<Cell>, S: Blocks<Slot>>(
     found
 }
 
-/// The same without hints. The last rank is looked at first.
+/// The same without hints. This rank is looked at first.
 #[inline(always)]
 fn search<C: Blocks<Cell>, S: Blocks<Slot>>(
     entries: &Shelf<C, S>,
-    last_rank: usize,
+    rank: usize,
     ssrc: u32,
 ) -> Result<usize, usize>
     ensures { Locates ssrc entries.now.items result }
 {
-    if last_rank < entries.len() && entries.ssrc_at(last_rank) == ssrc {
-        return Ok(last_rank);
+    if rank < entries.len() && entries.ssrc_at(rank) == ssrc {
+        return Ok(rank);
     }
     entries.find(ssrc)
-}
-
-/// As `search`, but the rank after the last one is tried first: the blocks of a report go by rising SSRC.
-fn search_behind<C: Blocks<Cell>, S: Blocks<Slot>>(
-    entries: &Shelf<C, S>,
-    last_rank: usize,
-    ssrc: u32,
-) -> Result<usize, usize>
-    ensures { Locates ssrc entries.now.items result }
-{
-    let next = last_rank.wrapping_add(1);
-    if next < entries.len() && entries.ssrc_at(next) == ssrc {
-        return Ok(next);
-    }
-    search(entries, last_rank, ssrc)
 }
 
 /// A fact comes whose source has no entry. Where it is added, its entry is put into the gap.
@@ -413,10 +391,7 @@ fn first_above<C: Blocks<Cell>, S: Blocks<Slot>>(
     let Some(above) = above else {
         return 0;
     };
-    if last_rank < entries.len() && entries.ssrc_at(last_rank) == above {
-        return last_rank + 1;
-    }
-    match entries.find(above) {
+    match search(entries, last_rank, above) {
         Ok(at) => at + 1,
         Err(gap) => gap,
     }

@@ -150,15 +150,16 @@ pub trait MemberTable {
     /// or that left, too. It changes nothing. Begun with `None` and gone on with the SSRC of each answer, it goes
     /// through all sources, by rising SSRC.
     fn source_above(&self, after: Option<u32>) -> Option<SourceState>
-        ensures { option_map state_value result ≡ state_above after (content self.now) };
+        ensures { option_map state_value result ≡ state_above after (content self.now) }
+    {
+        let mut rank = 0;
+        self.source_from(after, &mut rank)
+    }
 
     /// `source_above`, for a walk: `rank` hints at where the source of `after` stands. A table may use it to
     /// find the next one sooner, and leaves the hint for the next call. The answer is the same for any hint.
-    fn source_from(&self, after: Option<u32>, _rank: &mut usize) -> Option<SourceState>
-        ensures { option_map state_value result ≡ state_above after (content self.now) }
-    {
-        self.source_above(after)
-    }
+    fn source_from(&self, after: Option<u32>, rank: &mut usize) -> Option<SourceState>
+        ensures { option_map state_value result ≡ state_above after (content self.now) };
 
     /// `source_above`, for a host that asks for one source after the other: a table may note where the one that it
     /// tells stands, to find the next one sooner. The table is the same after it.
@@ -166,8 +167,7 @@ pub trait MemberTable {
         ensures told { option_map state_value result ≡ state_above after (content self.old) }
         ensures content { content self.new ≡ content self.old }
     {
-        let mut rank = 0;
-        self.source_from(after, &mut rank)
+        self.source_above(after)
     }
 }
 

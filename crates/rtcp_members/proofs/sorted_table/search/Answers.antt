@@ -4,5 +4,5 @@ use Rattle.rtcp_members.specs.ListViews.{IsRankOf}
 use Rattle.rtcp_members.proofs.sorted_table.search.Goals as goal
 
 pub returns-then-ssrc_at-ssrc : goal.returns-then-ssrc_at-ssrc
-returns-then-ssrc_at-ssrc g c = subst (λ ssrc. IsRankOf ssrc c.args.entries.now.items c.args.last_rank)
+returns-then-ssrc_at-ssrc g c = subst (λ ssrc. IsRankOf ssrc c.args.entries.now.items c.args.rank)
     c.if-ssrc_at-ssrc.true c.ssrc_at.ensures

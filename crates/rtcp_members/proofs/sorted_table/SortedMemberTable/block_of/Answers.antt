@@ -18,7 +18,7 @@ use Rattle.rtcp_members.proofs.sorted_table.SortedMemberTable.block_of.Given.{Ov
 use Rattle.rtcp_members.proofs.sorted_table.SortedMemberTable.block_of.Goals.{After-unwrap-at}
 
 stands : (g : Over) (c : After-unwrap-at g) → IsRankOf c.args.ssrc c.self.inside.entries.items c.unwrap-at.result
-stands g c = subst (Locates c.args.ssrc c.self.inside.entries.items) c.unwrap-at.ensures c.search_behind.ensures
+stands g c = subst (Locates c.args.ssrc c.self.inside.entries.items) c.unwrap-at.ensures c.search.ensures
 
 is_due_there : (g : Over) (c : After-unwrap-at g) → IsTrue (is_due_at c.args.ssrc
     (table_of c.self.inside.capacity c.self.inside.entries.items))
@@ -26,7 +26,7 @@ is_due_there g c = subst (λ (table : TableValue). IsTrue (is_due_at c.args.ssrc
 
 pub unwrap-at-requires : goal.unwrap-at-requires
 unwrap-at-requires g c = due_is_found c.args.ssrc c.self.inside.capacity c.self.inside.entries.items
-    c.args.self.now c.search_behind.result c.self.view_is c.requires c.search_behind.ensures
+    c.args.self.now c.search.result c.self.view_is c.requires c.search.ensures
 
 pub report-requires : goal.report-requires
 report-requires g c =

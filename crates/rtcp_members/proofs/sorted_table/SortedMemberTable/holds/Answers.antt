@@ -6,4 +6,4 @@ use Rattle.rtcp_members.proofs.sorted_table.SortedMemberTable.holds.Goals as goa
 pub returns : goal.returns
 returns g c =
     c.is_ok.ensures.value ∙ found_is_held c.args.ssrc c.self.inside.capacity
-    c.self.inside.entries.items c.args.self.now c.search.result c.self.view_is c.search.ensures
+    c.self.inside.entries.items c.args.self.now c.find.result c.self.view_is c.find.ensures
