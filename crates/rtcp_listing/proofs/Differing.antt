@@ -5,7 +5,7 @@ use Rattle.std.proofs.lemmas.Bool.Decides.{nat_tests}
 use Rattle.rtcp_listing.specs.declared.change.Role.{Role}
 use Rattle.rtcp_listing.specs.declared.change.Role.TheVariants.{Away}
 use Rattle.rtcp_listing.specs.declared.change.Change.{Change}
-use Rattle.rtcp_listing.specs.Differences.{ListedValue, rises_from, found_in, role_in, has_left_in, compared, is_change, put, by_rising, ssrcs, all_compared, changes, least_first, first_role, first_left, without_first, IsFirst}
+use Rattle.rtcp_listing.specs.Differences.{ListedValue, rises_from, found_in, role_in, has_left_in, compared, is_change, put, by_rising, ssrcs, all_compared, least_first, first_role, first_left, without_first, IsFirst}
 
 -- ---- Tests
 
@@ -309,12 +309,6 @@ least_is ssrc (old ∷ before) (new ∷ after) b a e =
       | false ↦ λ same. inl (head_is ssrc old before same)
     ] least)
 
-pub none_left : (before after : List ListedValue) → least_first before after ≡ None → all_compared before after ≡ []
-none_left [] [] e = refl
-none_left [] (new ∷ after) e = absurd cc
-none_left (old ∷ before) [] e = absurd cc
-none_left (old ∷ before) (new ∷ after) e = absurd cc
-
 -- One listing or the other gets shorter.
 fewer_without : (ssrc : ℕ) (listing : List ListedValue) → length (without_first listing ssrc) ≤ length listing
 fewer_without ssrc [] = omega arith
@@ -378,6 +372,3 @@ first_taken ssrc before after b a e was is has_left others_before others_after o
     (record { ssrc = ssrc; was = o.0; is = o.1; has_left = o.2 }) o.3 o.4)
     (λ i. (sym old i, sym new i, sym left i, sym shorter_before i, sym shorter_after i))
     (turned ssrc before after b a (sym e))
-
-pub none_first : (before after : List ListedValue) → None ≡ least_first before after → changes before after ≡ []
-none_first before after e = ap (filter is_change) (none_left before after (sym e))

@@ -1,6 +1,6 @@
 -- What the slots in use say of a source holds of the entries in order.
 use Rattle.std.proofs.Common.{◌≡◌, ◌<◌, ◌≤◌, ℕ, List, length, take, slice_index_or, Result, Ok, Err, arith, sym, ap, ◌∙◌}
-use Rattle.std.proofs.lemmas.List.{length-map, length-take-le, get_or-map}
+use Rattle.std.proofs.lemmas.List.{length-map, get_or-map}
 use Rattle.rtcp_members.specs.declared.cells.Cell.{Cell}
 use Rattle.rtcp_members.specs.declared.cells.Slot.{Slot}
 use Rattle.rtcp_members.specs.declared.entry.Entry.{Entry}
@@ -16,9 +16,6 @@ module _ (cells : List Cell) (slots : List Slot) (used : ℕ) (index : IsIndexed
 
   abbrev items : List Entry
   items = in_order cells slots used
-
-  pub length_row : length row ≡ used
-  length_row = length-take-le used slots index.heap.in_use
 
   length_items : length items ≡ length row
   length_items = length-map row (entry_in (entries_in cells))

@@ -31,10 +31,7 @@ pub use Rattle.rtcp_members.proofs.Forgetting.{forgotten_is_gone as forgetting_g
 pub use Rattle.rtcp_members.proofs.Blocking.{block_keeps_capacity as capacity_is_kept-block}
 pub use Rattle.rtcp_members.proofs.Blocking.{few_block as packets_are_few-block}
 pub use Rattle.rtcp_members.proofs.TraceTables.{table_stands as trace_has_one_table-stands}
-pub use Rattle.rtcp_members.proofs.TraceTables.{only_table as trace_has_one_table-only}
 pub use Rattle.rtcp_members.proofs.Agreeing.{counted_agrees as counts_agree-counted}
-pub use Rattle.rtcp_members.proofs.Holding.{held_as_stayed as tables_hold_stays-held}
-pub use Rattle.rtcp_members.proofs.Holding.{block_of_stay as tables_hold_stays-block}
 pub use Rattle.rtcp_members.proofs.Capacity.{fact_keeps_bounds as bounds_are_kept-fact}
 pub use Rattle.rtcp_members.proofs.Capacity.{check_keeps_bounds as bounds_are_kept-check}
 pub use Rattle.rtcp_members.proofs.Capacity.{block_keeps_bounds as bounds_are_kept-block}
@@ -73,7 +70,6 @@ pub use Rattle.rtcp_members.proofs.RoleCounts.{block_moves_none as roles_move_wi
 pub use Rattle.rtcp_members.proofs.Roles.{facts_alone_moved as moves_follow_traces-facts}
 pub use Rattle.rtcp_members.proofs.Roles.{check_moved as moves_follow_traces-check}
 pub use Rattle.rtcp_members.proofs.Roles.{forgetting_moved as moves_follow_traces-forgotten}
-pub use Rattle.rtcp_members.proofs.OneClock.{one_rate_each as one_clock_is_one_rate}
 
 -- ---- Tables and traces
 

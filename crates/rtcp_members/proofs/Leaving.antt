@@ -158,10 +158,6 @@ module _ (ssrc : ℕ) (entries : List Entry) (at : ℕ) (place : IsRankOf ssrc e
   next_by capacity unmarked =
       if unmarked then record (table capacity) { entries = finite.remove (map_of entries) ssrc } else table capacity
 
-  pub table_left : (capacity : ℕ) → false ≡ is_such is_unmarked (finite.get (map_of entries) ssrc) →
-      table_of capacity entries ≡ after_forgetting ssrc (table_of capacity entries)
-  table_left capacity marked = ap (next_by capacity) marked
-
   pub table_removed : (capacity : ℕ) → IsApart (rows_of entries) →
       true ≡ is_such is_unmarked (finite.get (map_of entries) ssrc) →
       table_of capacity (remove entries at) ≡ after_forgetting ssrc (table_of capacity entries)

@@ -194,18 +194,6 @@ pub length_ranked : (cells : List Cell) (slots : List Slot) (used : ℕ) → IsH
     length (in_order cells slots used) ≡ used
 length_ranked cells slots used heap = length_picked (entries_in cells) slots used heap
 
--- The SSRC of a rank is that of its slot.
-module _ (cells : List Cell) (slots : List Slot) (used : ℕ) (heap : IsHeap (entries_in cells) slots used) where
-  pub ssrc_ranked : (rank : ℕ) → rank < used → (d : Entry) →
-      (slice_index_or slots rank no_slot).ssrc ≡ (slice_index_or (in_order cells slots used) rank d).ssrc
-  ssrc_ranked rank early d =
-      let within : rank < length (take used slots) = omega
-      (arith, early, length-take-le used slots heap.in_use) in
-      ap (λ (s : Slot). s.ssrc) (sym (get_or-take used slots rank no_slot early))
-      ∙ heap.keyed rank no_slot within
-      ∙ ap (λ (e : Entry). e.ssrc) (sym (get_or-map (entry_in (entries_in cells)) (take used slots) rank
-      no_slot d within))
-
 module _ {cells : List Cell} {slots : List Slot} {used at : ℕ} {slot : Slot} {cell : Cell}
     (so : IsAtRank cells slots used at slot cell) where
   heap : IsHeap (entries_in cells) slots used

@@ -1,7 +1,7 @@
 -- The entries of a map, each as a step leaves it or dropped.
-use Rattle.std.proofs.Common.{◌≡◌, ℕ, Bool, true, false, cond, T, ◌&&◌, ◌==◌, List, [], ◌∷◌, Option, Some, None, option_map, option_and_then, filter_map, nat_cmp, is_lt, is_eq, Less, Equal, Greater, refl, sym, ap, ◌∙◌}
-use Rattle.std.proofs.lemmas.Bool.{eqb-true, or_parts}
-use Rattle.std.specs.List.{list_any, cons_option}
+use Rattle.std.proofs.Common.{◌≡◌, ℕ, Bool, true, false, cond, T, ◌&&◌, List, [], ◌∷◌, Option, Some, None, option_map, option_and_then, filter_map, nat_cmp, is_lt, is_eq, Less, Equal, Greater, refl, sym, ap, ◌∙◌}
+use Rattle.std.proofs.lemmas.Bool.{eqb-true}
+use Rattle.std.specs.List.{cons_option}
 use Rattle.std.specs.Ordering.{eq_by_cmp}
 use Rattle.std.specs.Cmp.{nat_cmp_total, unsigned_tied}
 use Rattle.std.specs.FinMap as map
@@ -11,14 +11,6 @@ use Rattle.rtcp_members.specs.Entries.{EntryValue}
 use Rattle.rtcp_members.specs.Tables.{EntryMap, IsApart, updated_row, updated}
 
 -- ---- Rows without a key
-
-pub none_where_other : (key : ℕ) (rows : List (ℕ × EntryValue)) → list_any (λ (row : ℕ × EntryValue). key == row.0) rows
-    ≡ false → map.find nat_cmp key rows ≡ None
-none_where_other key [] other = refl
-none_where_other key (row ∷ rows) other =
-    let apart = or_parts (key == row.0) _ other in
-    ap (λ b. cond b (Some row.1) (map.find nat_cmp key rows)) (unsigned_tied key row.0 ∙ apart.0)
-    ∙ none_where_other key rows apart.1
 
 none_where_above : (key : ℕ) (rows : List (ℕ × EntryValue)) → T (below_all nat_cmp key rows) →
     map.find nat_cmp key rows ≡ None
