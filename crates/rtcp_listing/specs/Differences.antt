@@ -64,6 +64,13 @@ compared before after ssrc =
 abbrev pub is_change : Change → Bool
 is_change change = not (is_same change.was change.is)
 
+-- The source took part, and does no longer.
+abbrev pub is_gone : Change → Bool
+is_gone change = not (is_same change.was Away) && is_same change.is Away
+
+abbrev pub went_without_bye : Change → Bool
+went_without_bye change = not change.has_left && is_gone change
+
 -- a number put among rising ones, once
 abbrev pub put : ℕ → List ℕ → List ℕ
 put n [] = n ∷ []

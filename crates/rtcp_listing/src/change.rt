@@ -26,7 +26,7 @@ pub struct Change {
 
 impl Change {
     ghost use Rattle.std.specs.Prelude.{◌≡◌, ◌&&◌, not};
-    ghost use Rattle.rtcp_listing.specs.Differences.{is_same, is_change};
+    ghost use Rattle.rtcp_listing.specs.Differences.{is_same, is_change, is_gone, went_without_bye};
     ghost use Rattle.rtcp_listing.specs.declared.change.Role.TheVariants.{Away, Sender};
 
     /// Whether it takes part now, and did not before.
@@ -38,14 +38,14 @@ impl Change {
 
     /// Whether it took part, and left with a BYE (RFC 3550, 6.3.4).
     pub fn left(&self) -> bool
-        ensures { result ≡ (self.now.has_left && not (is_same self.now.was Away) && is_same self.now.is Away) }
+        ensures { result ≡ (self.now.has_left && is_gone self.now) }
     {
         self.has_left && self.is_gone()
     }
 
     /// Whether it took part and was dropped without a BYE: silent for too long (6.3.5), or dismissed by its host.
     pub fn went_without_bye(&self) -> bool
-        ensures { result ≡ (not self.now.has_left && not (is_same self.now.was Away) && is_same self.now.is Away) }
+        ensures { result ≡ went_without_bye self.now }
     {
         !self.has_left && self.is_gone()
     }
@@ -53,7 +53,7 @@ impl Change {
     /// The former name of [`went_without_bye`](Change::went_without_bye), of which it is true only where the host
     /// dismisses nobody.
     pub fn timed_out(&self) -> bool
-        ensures { result ≡ (not self.now.has_left && not (is_same self.now.was Away) && is_same self.now.is Away) }
+        ensures { result ≡ went_without_bye self.now }
     {
         self.went_without_bye()
     }
@@ -81,7 +81,7 @@ impl Change {
 
     /// Whether it took part, and does no longer.
     fn is_gone(&self) -> bool
-        ensures { result ≡ (not (is_same self.now.was Away) && is_same self.now.is Away) }
+        ensures { result ≡ is_gone self.now }
     {
         self.was != Role::Away && self.is == Role::Away
     }
