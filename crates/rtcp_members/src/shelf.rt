@@ -174,7 +174,6 @@ impl<C: Blocks<Cell>, S: Blocks<Slot>> Shelf<C, S> {
         requires few { (d : Entry) → IsTrue (is_media fact) →
             IsFew (entry_value (slice_index_or self.old.items at d)) }
         ensures taken { TakesFact fact t self.old.items self.new.items at result }
-        ensures room { self.new.room ≡ self.old.room }
         ensures in_place { LieAsBefore self.old self.new }
     {
         let (slots, used, counts) = (self.slots.as_slice(), self.used, &mut self.counts);
@@ -186,7 +185,6 @@ impl<C: Blocks<Cell>, S: Blocks<Slot>> Shelf<C, S> {
         requires stands { at < length self.old.items }
         requires due { (d : Entry) → IsTrue (is_due (entry_value (slice_index_or self.old.items at d))) }
         ensures made { MakesBlock t self.old.items self.new.items at (block_value result) }
-        ensures room { self.new.room ≡ self.old.room }
         ensures in_place { LieAsBefore self.old self.new }
     {
         let (slots, used, counts) = (self.slots.as_slice(), self.used, &mut self.counts);
@@ -200,7 +198,6 @@ impl<C: Blocks<Cell>, S: Blocks<Slot>> Shelf<C, S> {
         requires gap { IsGapFor (subject fact) self.old.items gap }
         requires room { length self.old.items < self.old.room }
         ensures joined { Joins fact t self.old.items self.new.items gap }
-        ensures room { self.new.room ≡ self.old.room }
         ensures in_place { LieAsBefore self.old self.new }
     {
         let mut entry = Entry::new(fact.ssrc());
@@ -230,7 +227,6 @@ impl<C: Blocks<Cell>, S: Blocks<Slot>> Shelf<C, S> {
     pub(crate) fn remove(&mut self, at: usize)
         requires { at < length self.old.items }
         ensures items { self.new.items ≡ remove self.old.items at }
-        ensures room { self.new.room ≡ self.old.room }
         ensures in_place { LieAsBefore self.old self.new }
     {
         let (slots, used, counts) = (self.slots.as_mut_slice(), self.used, &mut self.counts);
@@ -257,7 +253,6 @@ impl<C: Blocks<Cell>, S: Blocks<Slot>> Shelf<C, S> {
     /// those that stay.
     pub(crate) fn drop_silent(&mut self, silent: u64, idle: u64, gone: u64) -> Bounds
         ensures items { self.new.items ≡ checked (horizons_at silent idle gone) self.old.items }
-        ensures room { self.new.room ≡ self.old.room }
         ensures in_place { LieAsBefore self.old self.new }
         ensures stand { AllStandBy result self.new.items }
     {

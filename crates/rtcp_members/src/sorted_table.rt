@@ -286,7 +286,6 @@ fn admit<C: Blocks<Cell>, S: Blocks<Slot>>(
     requires room { capacity ≤ entries.old.room }
     requires gap { IsGapFor (subject fact) entries.old.items gap }
     ensures sorted { IsSortedTable capacity entries.new.items }
-    ensures room { capacity ≤ entries.new.room }
     ensures in_place { LieAsBefore entries.old entries.new }
     ensures place { result.applied.place ≡ placed (table_of capacity entries.old.items) fact }
     ensures counted { result.applied.counted ≡ false }
@@ -341,7 +340,6 @@ fn add<C: Blocks<Cell>, S: Blocks<Slot>>(
     requires gap { IsGapFor (subject fact) entries.old.items gap }
     requires room { length entries.old.items < entries.old.room }
     ensures joined { Joins fact t entries.old.items entries.new.items gap }
-    ensures room { entries.new.room ≡ entries.old.room }
     ensures in_place { LieAsBefore entries.old entries.new }
     ensures moved { result ≡ tallies_differ entries.old.items entries.new.items }
 {
@@ -363,7 +361,6 @@ fn forget_at<C: Blocks<Cell>, S: Blocks<Slot>>(
         IsSortedTable capacity entries.new.items }
     ensures stand { (bounds : BoundsOf) → AllStandBy bounds entries.old.items →
         AllStandBy bounds entries.new.items }
-    ensures room { entries.new.room ≡ entries.old.room }
     ensures in_place { LieAsBefore entries.old entries.new }
     ensures held { result ≡ is_such is_unmarked (finite.get (map_of entries.old.items) ssrc) }
     ensures table { (capacity : ℕ) →

@@ -28,8 +28,9 @@ pub record ShelfValue : Type 0 where
   pub block : Option Ptr
   pub index_block : Option Ptr
 
--- No block is another one.
+-- There is as much room as before, in the same blocks.
 pub record LieAsBefore (old new : ShelfValue) : Type 0 where
+  pub room : new.room ≡ old.room
   pub block : new.block ≡ old.block
   pub index : new.index_block ≡ old.index_block
 

@@ -45,8 +45,10 @@ returns-then-len-capacity-clause-table g c =
 pub returns-clause-sorted : goal.returns-clause-sorted
 returns-clause-sorted g c =
     rw c.add-moved.ensures.joined.items
-    (sorted_insert c.args.capacity c.args.entries.now.items c.args.gap c.add-moved.ensures.joined.entry (subject c.args.fact)
-    c.requires.sorted c.requires.gap c.add-moved.ensures.joined.ssrc (omega (arith, c.len.ensures, c.if-len-capacity.false)))
+    (sorted_insert c.args.capacity c.args.entries.now.items c.args.gap c.add-moved.ensures.joined.entry
+    (subject c.args.fact)
+    c.requires.sorted c.requires.gap c.add-moved.ensures.joined.ssrc
+    (omega (arith, c.len.ensures, c.if-len-capacity.false)))
 
 pub returns-clause-place : goal.returns-clause-place
 returns-clause-place g c =
@@ -60,4 +62,5 @@ returns-clause-table g c =
     rw c.add-moved.ensures.joined.items
     ((inserted c.args.capacity c.args.entries.now.items c.args.gap c.args.fact c.args.t
     c.add-moved.ensures.joined.entry c.requires.sorted.rising c.requires.gap (search rules)
-    (omega (arith, c.len.ensures, c.if-len-capacity.false)) c.add-moved.ensures.joined.ssrc c.add-moved.ensures.joined.value).1)
+    (omega (arith, c.len.ensures, c.if-len-capacity.false)) c.add-moved.ensures.joined.ssrc
+    c.add-moved.ensures.joined.value).1)

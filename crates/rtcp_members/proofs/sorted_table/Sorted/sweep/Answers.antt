@@ -47,7 +47,7 @@ invariant_of-self-2 g c =
       sorted = sorted_checked (horizons_at c.args.silent c.args.idle c.args.gone) c.self.inside.entries.items
           c.drop_silent-self-inside.new.self.items c.drop_silent-self-inside.ensures.items c.self.inside.capacity
           c.self.invariant.sorted;
-      roomy = omega (arith, c.self.invariant.roomy, c.drop_silent-self-inside.ensures.room);
+      roomy = omega (arith, c.self.invariant.roomy, c.drop_silent-self-inside.ensures.in_place.room);
       standing = c.drop_silent-self-inside.ensures.stand;
     }
 

@@ -72,9 +72,15 @@ invariant_of-self g c =
       sorted = sorted_edited (subject c.args.fact) items next c.in-Ok.at
           (entry_with_fact c.args.fact c.args.t) stands made c.self.inside.capacity
           (sorted_stays c.self.inside.capacity kept c.self.invariant.sorted);
-      roomy = omega (arith, c.self.invariant.roomy, c.apply.ensures.room, ap (λ (v : ShelfValue). v.room) kept);
+      roomy = omega (
+        arith,
+        c.self.invariant.roomy,
+        c.apply.ensures.in_place.room,
+        ap (λ (v : ShelfValue). v.room) kept,
+      );
       standing = stand_with_fact c.args.fact c.args.t items next c.in-Ok.at stands made
-          c.lower.new.self c.lower.ensures.up_to (standing_stays c.lower.new.self kept (all_lower c.lower.new.self c.self.inside.bounds
+          c.lower.new.self c.lower.ensures.up_to
+          (standing_stays c.lower.new.self kept (all_lower c.lower.new.self c.self.inside.bounds
           c.lower.ensures.no_later c.self.inside.entries.items c.self.invariant.standing));
     }
 
@@ -86,14 +92,16 @@ returns-in-Err-clause-counted g c =
     let gap = subst (λ ssrc. IsGapFor ssrc items c.in-Err.gap) c.ssrc-ssrc.ensures c.in-Err.ensures.located in
     c.admit.ensures.counted
     ∙ ap (counted_of c.args.fact) (sym (none_in_gap (subject c.args.fact) items c.in-Err.gap gap))
-    ∙ ap (λ (table : TableValue). counted table c.args.fact) (view_stays c.self.inside.capacity c.in-Err.ensures.kept c.self.view_is)
+    ∙ ap (λ (table : TableValue). counted table c.args.fact)
+    (view_stays c.self.inside.capacity c.in-Err.ensures.kept c.self.view_is)
 
 pub returns-in-Err-clause-moved : goal.returns-in-Err-clause-moved
 returns-in-Err-clause-moved g c =
     let kept = c.in-Err.ensures.kept in
     c.admit.ensures.moved
     ∙ moved_in_table c.self.inside.capacity c.search_hinted.new.entries.items c.admit.new.entries.items
-    c.args.self.now (sorted_stays c.self.inside.capacity kept c.self.invariant.sorted).rising c.admit.ensures.sorted.rising
+    c.args.self.now (sorted_stays c.self.inside.capacity kept c.self.invariant.sorted).rising
+    c.admit.ensures.sorted.rising
     (view_stays c.self.inside.capacity kept c.self.view_is)
 
 pub invariant_of-self-in-Err : goal.invariant_of-self-in-Err
@@ -104,6 +112,12 @@ invariant_of-self-in-Err g c =
     record {
       sorted = subst (λ (n : ℕ). IsSortedTable n c.admit.new.entries.items) c.from-capacity.ensures
           c.admit.ensures.sorted;
-      roomy = omega (arith, c.from-capacity.ensures, c.admit.ensures.room);
-      standing = c.admit.ensures.stand c.lower.new.self c.lower.ensures.up_to (standing_stays c.lower.new.self kept stood);
+      roomy = omega (
+        arith,
+        c.self.invariant.roomy,
+        c.admit.ensures.in_place.room,
+        ap (λ (v : ShelfValue). v.room) kept,
+      );
+      standing = c.admit.ensures.stand c.lower.new.self c.lower.ensures.up_to
+          (standing_stays c.lower.new.self kept stood);
     }

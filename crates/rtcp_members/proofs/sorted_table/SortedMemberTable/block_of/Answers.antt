@@ -65,7 +65,7 @@ invariant_of-self g c =
     let next : List Entry = c.report.new.self.items in
     record {
       sorted = sorted_edited c.args.ssrc items next at reported_entry place made c.self.inside.capacity so.sorted;
-      roomy = omega (arith, so.roomy, c.report.ensures.room);
+      roomy = omega (arith, so.roomy, c.report.ensures.in_place.room);
       standing = stand_edited c.args.ssrc items next at reported_entry place made c.self.inside.bounds
           (λ value stands. stands) so.standing;
     }

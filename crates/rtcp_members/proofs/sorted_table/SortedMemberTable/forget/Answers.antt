@@ -11,7 +11,7 @@ invariant_of-self g c =
     let so = c.self.invariant in
     record {
       sorted = c.forget_at.ensures.sorted c.self.inside.capacity so.sorted;
-      roomy = omega (arith, so.roomy, c.forget_at.ensures.room);
+      roomy = omega (arith, so.roomy, c.forget_at.ensures.in_place.room);
       standing = c.forget_at.ensures.stand c.self.inside.bounds so.standing;
     }
 
