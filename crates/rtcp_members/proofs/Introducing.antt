@@ -11,10 +11,10 @@ use Rattle.rtcp_members.specs.Stays.{present_among, stay_with, stay_of}
 use Rattle.rtcp_members.specs.Lasting.{count_of_others, has_room_beside, IsUnmarked, MayBring}
 use Rattle.rtcp_members.specs.Entries.{gives_name, is_counted_by, given_of, is_valid, entry_at, is_member, is_such}
 use Rattle.rtcp_members.specs.Tables.{after_fact, table_at}
-use Rattle.rtcp_members.proofs.Capacity.{fact_keeps_bounds, fact_adds_one}
-use Rattle.rtcp_members.proofs.Following.{fact_follows, len_is_present}
-use Rattle.rtcp_members.proofs.Naming.{admitted as admission}
-use Rattle.rtcp_members.proofs.TraceTables.{table_stands}
+use Rattle.rtcp_members.proofs.standing.Capacity.{fact_keeps_bounds, fact_adds_one}
+use Rattle.rtcp_members.proofs.standing.Following.{fact_follows, len_is_present}
+use Rattle.rtcp_members.proofs.stays.Naming.{admitted as admission}
+use Rattle.rtcp_members.proofs.standing.TraceTables.{table_stands}
 use Rattle.rtcp_members.proofs.Lasting.{unmarked_by, member_by_stay, member_on}
 
 -- how many are present

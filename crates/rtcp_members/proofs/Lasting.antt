@@ -7,7 +7,7 @@ use Rattle.rtcp_members.specs.Traces.{Horizons, TraceStep, fact_came, check_made
 use Rattle.rtcp_members.specs.Stays.{mark_at, mark_of, before_mark, step_moment, last_naming, last_sighting, is_removed, ends_stay, stay_with, stay_of}
 use Rattle.rtcp_members.specs.Lasting.{says_goodbye, is_forgetting, IsLeftAlone, IsHeardAtChecks, LooksBackTo, NamesFrom}
 use Rattle.rtcp_members.specs.Entries.{gives_name, is_counted_by, given_of, is_valid, entry_of, entry_at, is_member, is_such}
-use Rattle.rtcp_members.proofs.StayLaws.{stay_is_prefix}
+use Rattle.rtcp_members.proofs.stays.StayLaws.{stay_is_prefix}
 
 -- ---- One step
 

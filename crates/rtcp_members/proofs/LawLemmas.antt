@@ -10,66 +10,66 @@ use Rattle.rtcp_members.specs.Traces.{TraceStep, source_forgotten, with_facts}
 use Rattle.rtcp_members.specs.Entries.{EntryValue, members_at, senders_at, is_such, is_member, is_sender, entry_at}
 use Rattle.rtcp_members.specs.Pending.{EntryRow, is_due_at, pending, after_blocks}
 use Rattle.rtcp_members.specs.Roles.{IsSameRole, facts_move}
-use Rattle.rtcp_members.proofs.RoleCounts.{nobody_passes}
+use Rattle.rtcp_members.proofs.moving.RoleCounts.{nobody_passes}
 use Rattle.rtcp_members.specs.Tables.{TableValue, StandsAt, KeepsBounds, HasFew, after_facts, members_in, senders_in}
-use Rattle.rtcp_members.proofs.AtOnce.{once_said, once_moved}
-use Rattle.rtcp_members.proofs.Blocking.{blocks_keep_capacity}
-use Rattle.rtcp_members.proofs.Capacity.{facts_keep_bounds, blocks_keep_bounds, facts_keep_capacity}
-use Rattle.rtcp_members.proofs.Following.{facts_follow, count_agrees}
-use Rattle.rtcp_members.proofs.Forgetting.{fewer_left}
-use Rattle.rtcp_members.proofs.Packets.{few_facts}
-use Rattle.rtcp_members.proofs.Turns.{due_row}
-pub use Rattle.rtcp_members.proofs.Following.{none_stands as tables_follow_traces-none}
-pub use Rattle.rtcp_members.proofs.Following.{fact_follows as tables_follow_traces-fact}
-pub use Rattle.rtcp_members.proofs.Following.{check_follows as tables_follow_traces-check}
-pub use Rattle.rtcp_members.proofs.Following.{len_is_present as counts_agree-entries}
-pub use Rattle.rtcp_members.proofs.Blocking.{block_follows as tables_follow_traces-block}
-pub use Rattle.rtcp_members.proofs.Removing.{forgetting_follows as tables_follow_traces-forgotten}
-pub use Rattle.rtcp_members.proofs.Removing.{few_forgotten as packets_are_few-forgotten}
-pub use Rattle.rtcp_members.proofs.Removing.{left_at as forgetting_goes_as_silence-left}
-pub use Rattle.rtcp_members.proofs.Forgetting.{forgotten_is_gone as forgetting_goes_as_silence-gone}
-pub use Rattle.rtcp_members.proofs.Blocking.{block_keeps_capacity as capacity_is_kept-block}
-pub use Rattle.rtcp_members.proofs.Blocking.{few_block as packets_are_few-block}
-pub use Rattle.rtcp_members.proofs.TraceTables.{table_stands as trace_has_one_table-stands}
-pub use Rattle.rtcp_members.proofs.Agreeing.{counted_agrees as counts_agree-counted}
-pub use Rattle.rtcp_members.proofs.Capacity.{fact_keeps_bounds as bounds_are_kept-fact}
-pub use Rattle.rtcp_members.proofs.Capacity.{check_keeps_bounds as bounds_are_kept-check}
-pub use Rattle.rtcp_members.proofs.Capacity.{block_keeps_bounds as bounds_are_kept-block}
-pub use Rattle.rtcp_members.proofs.Capacity.{forgetting_keeps_bounds as bounds_are_kept-forgotten}
-pub use Rattle.rtcp_members.proofs.Capacity.{none_within as capacity_is_kept-none}
-pub use Rattle.rtcp_members.proofs.Capacity.{fact_keeps_capacity as capacity_is_kept-fact}
-pub use Rattle.rtcp_members.proofs.Capacity.{check_keeps_capacity as capacity_is_kept-check}
-pub use Rattle.rtcp_members.proofs.Capacity.{forgetting_keeps_capacity as capacity_is_kept-forgotten}
-pub use Rattle.rtcp_members.proofs.Growing.{senders_are_members as counts_are_ordered-senders}
-pub use Rattle.rtcp_members.proofs.Growing.{members_are_entries as counts_are_ordered-members}
-pub use Rattle.rtcp_members.proofs.Growing.{check_adds_no_sender as counts_are_ordered-check_senders}
-pub use Rattle.rtcp_members.proofs.Growing.{members_stay as facts_keep_members}
-pub use Rattle.rtcp_members.proofs.Packets.{few_none as packets_are_few-none, few_fact as packets_are_few-fact}
-pub use Rattle.rtcp_members.proofs.Packets.{few_check as packets_are_few-check, few_of_more as packets_are_few-more}
-pub use Rattle.rtcp_members.proofs.Packets.{may_apply as packets_are_few-apply}
-pub use Rattle.rtcp_members.proofs.Naming.{present_is_named as present_were_named_and_fit-named}
-pub use Rattle.rtcp_members.proofs.Crowding.{present_fit as present_were_named_and_fit-fit}
-pub use Rattle.rtcp_members.proofs.Turns.{first_is_there as first_is_due-there, block_of_first as first_is_due-block}
-pub use Rattle.rtcp_members.proofs.Turns.{others_wait as others_stay_pending, is_pending_once as each_is_pending_once}
-pub use Rattle.rtcp_members.proofs.NextDue.{next_is_due as first_is_due-answered}
-pub use Rattle.rtcp_members.proofs.NewsOfTraces.{pending_is_traced as turns_follow_traces-rows}
-pub use Rattle.rtcp_members.proofs.NewsOfTraces.{due_at_trace as turns_follow_traces-due}
-pub use Rattle.rtcp_members.proofs.Above.{tells_above as told_follows_traces-told}
-pub use Rattle.rtcp_members.proofs.Above.{told_once as told_follows_traces-only}
-pub use Rattle.rtcp_members.proofs.Above.{walk_rises as walks_tell_each_once-rising}
-pub use Rattle.rtcp_members.proofs.Above.{states_are_walk as tables_tell_walks-walk}
-pub use Rattle.rtcp_members.proofs.Above.{told_more as tables_tell_walks-more, told_none as tables_tell_walks-none}
-pub use Rattle.rtcp_members.proofs.Past.{told_of_past as told_lies_in_the_past-told}
-pub use Rattle.rtcp_members.proofs.Past.{walk_of_past as told_lies_in_the_past-walk}
-pub use Rattle.rtcp_members.proofs.Past.{came_later as told_lies_in_the_past-later}
-pub use Rattle.rtcp_members.proofs.Past.{facts_came as told_lies_in_the_past-facts}
-pub use Rattle.rtcp_members.proofs.RoleCounts.{step_keeps as roles_move_with_counts-kept}
-pub use Rattle.rtcp_members.proofs.RoleCounts.{same_roles_stay as roles_move_with_counts-moved}
-pub use Rattle.rtcp_members.proofs.RoleCounts.{steps_keep as roles_move_with_counts-within}
-pub use Rattle.rtcp_members.proofs.RoleCounts.{block_moves_none as roles_move_with_counts-block}
-pub use Rattle.rtcp_members.proofs.Roles.{facts_alone_moved as moves_follow_traces-facts}
-pub use Rattle.rtcp_members.proofs.Roles.{check_moved as moves_follow_traces-check}
-pub use Rattle.rtcp_members.proofs.Roles.{forgetting_moved as moves_follow_traces-forgotten}
+use Rattle.rtcp_members.proofs.stays.AtOnce.{once_said, once_moved}
+use Rattle.rtcp_members.proofs.standing.Blocking.{blocks_keep_capacity}
+use Rattle.rtcp_members.proofs.standing.Capacity.{facts_keep_bounds, blocks_keep_bounds, facts_keep_capacity}
+use Rattle.rtcp_members.proofs.standing.Following.{facts_follow, count_agrees}
+use Rattle.rtcp_members.proofs.standing.Forgetting.{fewer_left}
+use Rattle.rtcp_members.proofs.stays.Packets.{few_facts}
+use Rattle.rtcp_members.proofs.turns.Turns.{due_row}
+pub use Rattle.rtcp_members.proofs.standing.Following.{none_stands as tables_follow_traces-none}
+pub use Rattle.rtcp_members.proofs.standing.Following.{fact_follows as tables_follow_traces-fact}
+pub use Rattle.rtcp_members.proofs.standing.Following.{check_follows as tables_follow_traces-check}
+pub use Rattle.rtcp_members.proofs.standing.Following.{len_is_present as counts_agree-entries}
+pub use Rattle.rtcp_members.proofs.standing.Blocking.{block_follows as tables_follow_traces-block}
+pub use Rattle.rtcp_members.proofs.standing.Removing.{forgetting_follows as tables_follow_traces-forgotten}
+pub use Rattle.rtcp_members.proofs.standing.Removing.{few_forgotten as packets_are_few-forgotten}
+pub use Rattle.rtcp_members.proofs.standing.Removing.{left_at as forgetting_goes_as_silence-left}
+pub use Rattle.rtcp_members.proofs.standing.Forgetting.{forgotten_is_gone as forgetting_goes_as_silence-gone}
+pub use Rattle.rtcp_members.proofs.standing.Blocking.{block_keeps_capacity as capacity_is_kept-block}
+pub use Rattle.rtcp_members.proofs.standing.Blocking.{few_block as packets_are_few-block}
+pub use Rattle.rtcp_members.proofs.standing.TraceTables.{table_stands as trace_has_one_table-stands}
+pub use Rattle.rtcp_members.proofs.standing.Agreeing.{counted_agrees as counts_agree-counted}
+pub use Rattle.rtcp_members.proofs.standing.Capacity.{fact_keeps_bounds as bounds_are_kept-fact}
+pub use Rattle.rtcp_members.proofs.standing.Capacity.{check_keeps_bounds as bounds_are_kept-check}
+pub use Rattle.rtcp_members.proofs.standing.Capacity.{block_keeps_bounds as bounds_are_kept-block}
+pub use Rattle.rtcp_members.proofs.standing.Capacity.{forgetting_keeps_bounds as bounds_are_kept-forgotten}
+pub use Rattle.rtcp_members.proofs.standing.Capacity.{none_within as capacity_is_kept-none}
+pub use Rattle.rtcp_members.proofs.standing.Capacity.{fact_keeps_capacity as capacity_is_kept-fact}
+pub use Rattle.rtcp_members.proofs.standing.Capacity.{check_keeps_capacity as capacity_is_kept-check}
+pub use Rattle.rtcp_members.proofs.standing.Capacity.{forgetting_keeps_capacity as capacity_is_kept-forgotten}
+pub use Rattle.rtcp_members.proofs.standing.Growing.{senders_are_members as counts_are_ordered-senders}
+pub use Rattle.rtcp_members.proofs.standing.Growing.{members_are_entries as counts_are_ordered-members}
+pub use Rattle.rtcp_members.proofs.standing.Growing.{check_adds_no_sender as counts_are_ordered-check_senders}
+pub use Rattle.rtcp_members.proofs.standing.Growing.{members_stay as facts_keep_members}
+pub use Rattle.rtcp_members.proofs.stays.Packets.{few_none as packets_are_few-none, few_fact as packets_are_few-fact}
+pub use Rattle.rtcp_members.proofs.stays.Packets.{few_check as packets_are_few-check, few_of_more as packets_are_few-more}
+pub use Rattle.rtcp_members.proofs.stays.Packets.{may_apply as packets_are_few-apply}
+pub use Rattle.rtcp_members.proofs.stays.Naming.{present_is_named as present_were_named_and_fit-named}
+pub use Rattle.rtcp_members.proofs.stays.Crowding.{present_fit as present_were_named_and_fit-fit}
+pub use Rattle.rtcp_members.proofs.turns.Turns.{first_is_there as first_is_due-there, block_of_first as first_is_due-block}
+pub use Rattle.rtcp_members.proofs.turns.Turns.{others_wait as others_stay_pending, is_pending_once as each_is_pending_once}
+pub use Rattle.rtcp_members.proofs.turns.NextDue.{next_is_due as first_is_due-answered}
+pub use Rattle.rtcp_members.proofs.turns.NewsOfTraces.{pending_is_traced as turns_follow_traces-rows}
+pub use Rattle.rtcp_members.proofs.turns.NewsOfTraces.{due_at_trace as turns_follow_traces-due}
+pub use Rattle.rtcp_members.proofs.telling.Above.{tells_above as told_follows_traces-told}
+pub use Rattle.rtcp_members.proofs.telling.Above.{told_once as told_follows_traces-only}
+pub use Rattle.rtcp_members.proofs.telling.Above.{walk_rises as walks_tell_each_once-rising}
+pub use Rattle.rtcp_members.proofs.telling.Above.{states_are_walk as tables_tell_walks-walk}
+pub use Rattle.rtcp_members.proofs.telling.Above.{told_more as tables_tell_walks-more, told_none as tables_tell_walks-none}
+pub use Rattle.rtcp_members.proofs.telling.Past.{told_of_past as told_lies_in_the_past-told}
+pub use Rattle.rtcp_members.proofs.telling.Past.{walk_of_past as told_lies_in_the_past-walk}
+pub use Rattle.rtcp_members.proofs.telling.Past.{came_later as told_lies_in_the_past-later}
+pub use Rattle.rtcp_members.proofs.telling.Past.{facts_came as told_lies_in_the_past-facts}
+pub use Rattle.rtcp_members.proofs.moving.RoleCounts.{step_keeps as roles_move_with_counts-kept}
+pub use Rattle.rtcp_members.proofs.moving.RoleCounts.{same_roles_stay as roles_move_with_counts-moved}
+pub use Rattle.rtcp_members.proofs.moving.RoleCounts.{steps_keep as roles_move_with_counts-within}
+pub use Rattle.rtcp_members.proofs.moving.RoleCounts.{block_moves_none as roles_move_with_counts-block}
+pub use Rattle.rtcp_members.proofs.moving.Roles.{facts_alone_moved as moves_follow_traces-facts}
+pub use Rattle.rtcp_members.proofs.moving.Roles.{check_moved as moves_follow_traces-check}
+pub use Rattle.rtcp_members.proofs.moving.Roles.{forgetting_moved as moves_follow_traces-forgotten}
 
 -- ---- Tables and traces
 

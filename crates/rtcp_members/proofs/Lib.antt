@@ -1,58 +1,28 @@
-mod Updated
-mod Counting
-mod Naming
-mod Capacity
-mod Staying
-mod Measuring
-mod Moving
-mod TraceStepLemmas
-mod Following
-mod Packets
-mod Listing
-mod Rows
-mod Edits
-mod Ranked
-mod Found
-mod Changing
-mod Applying
-mod AtOnce
-mod Admitting
-mod Tallies
-mod LeastDue
-mod Reporting
-mod Blocking
-mod Forgetting
-mod Removing
-mod examples
-mod TurnsRows
-mod Turns
-mod NextDue
-mod Rising
-mod Searching
-mod Weights
-mod Placing
-mod BoundLemmas
-mod Inserting
-mod Leaving
-mod Ranks
-mod Heaps
-mod Halving
-mod Dropping
-mod Checking
-mod Crowding
-mod InCyclicTurn
-mod Above
-mod Past
-mod TraceTables
-mod StayLaws
+-- A map of the proofs. Beside these modules, a folder of the name of a file of src/ has the proofs of its functions.
+
+-- Of finite maps: the rows that pass a test, counted, and rows changed or dropped.
+mod maps
+-- Of lists of entries in any order: the map that a list is, counts and bounds of it, and what a fact, a block, a
+-- dismissal and a check make of it.
+mod lists
+-- Of lists by rising SSRC: where a source stands, and that edits leave the order.
+mod sorted
+-- Of the cells in which such a list lies, and of the slots of its index.
+mod storage
+-- Which sources have news, and in which order they are reported: over a map, a list and a trace.
+mod turns
+-- What is listed of the sources, one after the other.
+mod telling
+-- That who is a member or sends moves where the counts do.
+mod moving
+-- Of traces alone: names, stays, what a stay says of its source, and senders in other words.
+mod stays
+-- That a table that stands at a trace stands at it with one step more, and what it holds then.
+mod standing
+-- Who stays a member, and who becomes one. Crates above cite these two.
 pub mod Lasting
 pub mod Introducing
-mod SenderLaws
-mod NewsOfTraces
-mod Agreeing
-mod Growing
-mod Holding
-mod Roles
-mod RoleCounts
+-- The laws, for the crates above.
 pub mod LawLemmas
-mod OneClock
+-- The definitions at small values.
+mod examples

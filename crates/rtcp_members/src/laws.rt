@@ -35,7 +35,7 @@ pub fn tables_follow_traces()
 
 /// A trace has, for a capacity, one table that stands at it: so whatever is said of a table is
 /// said of its trace.
-#[tactic(auto, using(crate::proofs::TraceTables::table_stands, crate::proofs::TraceTables::only_table))]
+#[tactic(auto, using(crate::proofs::standing::TraceTables::table_stands, crate::proofs::standing::TraceTables::only_table))]
 pub fn trace_has_one_table()
     ensures stands { (capacity : ℕ) (trace : List TraceStep) →
         StandsAt (table_at capacity trace) trace }
@@ -58,7 +58,7 @@ pub fn counts_agree()
 
 /// A table that stands at a trace has an entry of just the sources that have a stay; and the block of one that did not
 /// leave is that of all that its stay gave: its packets, its sender reports and the blocks made of it.
-#[tactic(auto, using(crate::proofs::Holding::held_as_stayed, crate::proofs::Holding::block_of_stay))]
+#[tactic(auto, using(crate::proofs::standing::Holding::held_as_stayed, crate::proofs::standing::Holding::block_of_stay))]
 pub fn tables_hold_stays()
     ensures held { (table : TableValue) (trace : List TraceStep) (ssrc : ℕ) → StandsAt table trace →
         is_some (map.get table.entries ssrc) ≡ is_some (stay_of table.capacity trace ssrc) }
@@ -128,7 +128,7 @@ pub fn forgetting_goes_as_silence()
 {}
 
 /// A fact that is no goodbye never lowers the members of a trace.
-#[tactic(auto, using(crate::proofs::Growing::members_stay))]
+#[tactic(auto, using(crate::proofs::standing::Growing::members_stay))]
 pub fn facts_keep_members()
     ensures { (capacity : ℕ) (trace : List TraceStep) (fact : Fact) (moment : ℕ) → is_gone fact ≡ false →
         members_at capacity trace ≤ members_at capacity (fact_came fact moment ∷ trace) }

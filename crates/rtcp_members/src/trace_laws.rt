@@ -18,7 +18,7 @@ pub fn stays_are_prefixes()
 {}
 
 /// Who is present was named, and at most as many are present as there is room for (RFC 3550, 6.3.3).
-#[tactic(auto, using(crate::proofs::Naming::present_is_named, crate::proofs::Crowding::present_fit))]
+#[tactic(auto, using(crate::proofs::stays::Naming::present_is_named, crate::proofs::stays::Crowding::present_fit))]
 pub fn present_were_named_and_fit()
     ensures named { (capacity : ℕ) (trace : List TraceStep) (ssrc : ℕ) →
         is_some (stay_of capacity trace ssrc) ≡ true → list_any (λ named. named == ssrc) (names trace) ≡ true }

@@ -1,6 +1,6 @@
 -- The slot is written behind the part that moves, and comes to its front.
 use Rattle.std.proofs.Common.{◌+◌, ◌-◌, refl}
-use Rattle.rtcp_members.proofs.Rows.{shifted_in}
+use Rattle.rtcp_members.proofs.storage.Rows.{shifted_in}
 use Rattle.rtcp_members.proofs.cells.shift.Goals as goal
 
 pub returns : goal.returns

@@ -2,7 +2,7 @@
 use Rattle.std.proofs.Common.{◌≤◌, Bool, take, arith}
 use Rattle.rtcp_members.specs.Entries.{EntryValue, is_member, is_sender}
 use Rattle.rtcp_members.specs.ListViews.{tally_of}
-use Rattle.rtcp_members.proofs.Weights.{few_before}
+use Rattle.rtcp_members.proofs.lists.Weights.{few_before}
 use Rattle.rtcp_members.proofs.counts.tally.Goals as goal
 
 pub add_roles-requires : goal.add_roles-requires

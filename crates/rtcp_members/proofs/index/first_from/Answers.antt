@@ -3,7 +3,7 @@ use Rattle.std.proofs.Common.{arith, ◌<◌, ◌+◌, ◌-◌, ◌*◌, ◌/◌
 use Rattle.std.proofs.lemmas.Bool.{cases_lt}
 use Rattle.rtcp_members.specs.declared.cells.Slot.{Slot}
 use Rattle.rtcp_members.specs.storage.Index.{IsHalved}
-use Rattle.rtcp_members.proofs.Halving.{looser, raised, lowered}
+use Rattle.rtcp_members.proofs.storage.Halving.{looser, raised, lowered}
 use Rattle.rtcp_members.proofs.index.first_from.Goals as goal
 
 pub halves-preserved : goal.halves-preserved

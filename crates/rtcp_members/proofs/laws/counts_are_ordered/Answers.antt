@@ -1,4 +1,4 @@
-use Rattle.rtcp_members.proofs.Capacity.{len_updated}
+use Rattle.rtcp_members.proofs.standing.Capacity.{len_updated}
 use Rattle.rtcp_members.specs.Tables.{entry_after_check}
 use Rattle.rtcp_members.proofs.LawLemmas.{counts_are_ordered-senders, counts_are_ordered-members, counts_are_ordered-check_senders}
 use Rattle.rtcp_members.proofs.laws.counts_are_ordered.Goals as goal

@@ -1,7 +1,7 @@
 -- What becomes of the fact is decided by whether it is a goodbye, and by the room that is left.
 use Rattle.std.proofs.Common.{rules, [], ◌∷◌, ◌++◌, arith}
 use Rattle.rtcp_wire.specs.Facts.{subject}
-use Rattle.rtcp_members.proofs.Admitting.{no_room, admitted, map_pushed, listed_push}
+use Rattle.rtcp_members.proofs.lists.Admitting.{no_room, admitted, map_pushed, listed_push}
 use Rattle.rtcp_members.proofs.list_table.admit.Goals as goal
 
 pub returns-then-len-capacity-clause-place : goal.returns-then-len-capacity-clause-place

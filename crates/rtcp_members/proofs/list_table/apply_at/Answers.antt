@@ -1,5 +1,5 @@
 -- The entry at the place is the one that the map has.
-use Rattle.rtcp_members.proofs.Applying.{apart_applied, place_applied, counted_applied, table_applied}
+use Rattle.rtcp_members.proofs.lists.Applying.{apart_applied, place_applied, counted_applied, table_applied}
 use Rattle.rtcp_wire.specs.Facts.{subject}
 use Rattle.rtcp_members.proofs.list_table.apply_at.Goals as goal
 

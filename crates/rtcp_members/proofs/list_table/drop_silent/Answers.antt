@@ -2,7 +2,7 @@
 use Rattle.std.proofs.Common.{rules}
 use Rattle.rtcp_members.specs.Traces.{horizons_at}
 use Rattle.rtcp_members.specs.ListViews.{lapsed, outlasts}
-use Rattle.rtcp_members.proofs.Changing.{retained}
+use Rattle.rtcp_members.proofs.lists.Changing.{retained}
 use Rattle.rtcp_members.proofs.list_table.drop_silent.Goals as goal
 
 pub returns : goal.returns

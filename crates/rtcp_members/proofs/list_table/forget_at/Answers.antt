@@ -1,7 +1,7 @@
 -- The entry at the place is the one that the map has.
 use Rattle.std.proofs.Common.{not, rules, sym, ap, subst, ◌∙◌}
 use Rattle.rtcp_members.specs.ListViews.{table_of, IsListed}
-use Rattle.rtcp_members.proofs.Leaving.{found_unmarked, listed_removed, table_removed}
+use Rattle.rtcp_members.proofs.lists.Leaving.{found_unmarked, listed_removed, table_removed}
 use Rattle.rtcp_members.proofs.list_table.forget_at.Goals as goal
 
 pub returns-clause-held : goal.returns-clause-held

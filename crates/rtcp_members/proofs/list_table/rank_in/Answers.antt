@@ -1,6 +1,6 @@
 -- The entry at the index is the first that is the source's.
 use Rattle.std.proofs.Common.{rules}
-use Rattle.rtcp_members.proofs.Listing.{get_rows, place_found}
+use Rattle.rtcp_members.proofs.lists.Listing.{get_rows, place_found}
 use Rattle.rtcp_members.proofs.list_table.rank_in.Goals as goal
 
 pub entries-init : goal.entries-init

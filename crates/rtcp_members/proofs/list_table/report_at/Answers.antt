@@ -1,8 +1,8 @@
 -- The entry at the place is the one that the map has.
 use Rattle.std.proofs.Common.{Some}
 use Rattle.rtcp_wire.specs.Views.{block_value}
-use Rattle.rtcp_members.proofs.Applying.{apart_applied}
-use Rattle.rtcp_members.proofs.Reporting.{block_reported, table_reported}
+use Rattle.rtcp_members.proofs.lists.Applying.{apart_applied}
+use Rattle.rtcp_members.proofs.lists.Reporting.{block_reported, table_reported}
 use Rattle.rtcp_members.proofs.list_table.report_at.Goals as goal
 
 pub returns-clause-apart : goal.returns-clause-apart

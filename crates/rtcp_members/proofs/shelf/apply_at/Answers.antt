@@ -6,8 +6,8 @@ use Rattle.rtcp_members.specs.storage.Heaps.{no_entry}
 use Rattle.rtcp_members.specs.ListViews.{entry_value}
 use Rattle.rtcp_members.specs.Pending.{is_due}
 use Rattle.rtcp_members.specs.Tables.{IsFew, counted_of, entry_with_fact, place_of}
-use Rattle.rtcp_members.proofs.Moving.{moved_in_list}
-use Rattle.rtcp_members.proofs.Ranked.{IsAtRank, at_rank, read_ranked, among_ranked, few_counted, still_indexed, changed_ranked, recounted_ranked}
+use Rattle.rtcp_members.proofs.moving.Moving.{moved_in_list}
+use Rattle.rtcp_members.proofs.storage.Ranked.{IsAtRank, at_rank, read_ranked, among_ranked, few_counted, still_indexed, changed_ranked, recounted_ranked}
 use Rattle.rtcp_members.proofs.shelf.apply_at.Goals as goal
 use Rattle.rtcp_members.proofs.shelf.apply_at.Goals.{After-index-cells-place}
 

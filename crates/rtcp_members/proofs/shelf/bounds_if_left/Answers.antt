@@ -8,7 +8,7 @@ use Rattle.rtcp_members.specs.declared.entry.Entry.{Entry}
 use Rattle.rtcp_members.specs.ListViews.{entry_value}
 use Rattle.rtcp_members.specs.storage.Standing.{AllStandBy, StandsBy}
 use Rattle.rtcp_members.specs.storage.Heaps.{entries_in, no_cell, no_entry}
-use Rattle.rtcp_members.proofs.BoundLemmas.{all_covered, all_picked}
+use Rattle.rtcp_members.proofs.lists.BoundLemmas.{all_covered, all_picked}
 use Rattle.rtcp_members.proofs.shelf.bounds_if_left.Goals as goal
 
 pub cells-preserved : goal.cells-preserved

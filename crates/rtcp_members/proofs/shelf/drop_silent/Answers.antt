@@ -6,9 +6,9 @@ use Rattle.rtcp_members.specs.declared.entry.Entry.{Entry}
 use Rattle.rtcp_members.specs.Traces.{horizons_at}
 use Rattle.rtcp_members.specs.storage.Heaps.{IsHeap, entries_in, in_order, picked}
 use Rattle.rtcp_members.specs.storage.Standing.{IsMeasured}
-use Rattle.rtcp_members.proofs.Dropping.{IsDropping, left_is_counted, one_dropped, one_kept, all_dropped, all_measured, lapsed_ssrc}
-use Rattle.rtcp_members.proofs.Checking.{rising_checked}
-use Rattle.rtcp_members.proofs.Ranked.{IsAtRank, at_rank, stands, read_ranked, written_ranked, heap_written, length_ranked, first_ranked, heap_first, length_exchanged, exchanged_ranked, heap_exchanged}
+use Rattle.rtcp_members.proofs.lists.Dropping.{IsDropping, left_is_counted, one_dropped, one_kept, all_dropped, all_measured, lapsed_ssrc}
+use Rattle.rtcp_members.proofs.sorted.Checking.{rising_checked}
+use Rattle.rtcp_members.proofs.storage.Ranked.{IsAtRank, at_rank, stands, read_ranked, written_ranked, heap_written, length_ranked, first_ranked, heap_first, length_exchanged, exchanged_ranked, heap_exchanged}
 use Rattle.rtcp_members.proofs.shelf.drop_silent.Goals as goal
 use Rattle.rtcp_members.proofs.shelf.drop_silent.Goals.{After-index-cells-place}
 

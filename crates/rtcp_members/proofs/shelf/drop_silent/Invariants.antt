@@ -2,7 +2,7 @@
 use Rattle.std.proofs.Common.{◌≡◌, length}
 use Rattle.rtcp_members.specs.Traces.{horizons_at}
 use Rattle.rtcp_members.specs.storage.Heaps.{in_order, entries_in, IsHeap}
-use Rattle.rtcp_members.proofs.Dropping.{IsDropping}
+use Rattle.rtcp_members.proofs.lists.Dropping.{IsDropping}
 use Rattle.rtcp_members.proofs.shelf.drop_silent.Given as goal
 
 abbrev pub invariant-ranks : goal.invariant-ranks

@@ -6,8 +6,8 @@ use Rattle.rtcp_members.specs.declared.cells.Cell.{Cell}
 use Rattle.rtcp_members.specs.declared.cells.Slot.{Slot}
 use Rattle.rtcp_members.specs.declared.entry.Entry.{Entry}
 use Rattle.rtcp_members.specs.storage.Heaps.{no_slot, entries_in, IsPut}
-use Rattle.rtcp_members.proofs.Heaps.{put_behind, put_free}
-use Rattle.rtcp_members.proofs.Rows.{entry_written, remove_pushed}
+use Rattle.rtcp_members.proofs.storage.Heaps.{put_behind, put_free}
+use Rattle.rtcp_members.proofs.storage.Rows.{entry_written, remove_pushed}
 use Rattle.rtcp_members.proofs.shelf.lay.Goals as goal
 
 pub returns-then-used-count-clause-put : goal.returns-then-used-count-clause-put

@@ -4,8 +4,8 @@ use Rattle.std.specs.List.{remove}
 use Rattle.std.proofs.lemmas.List.{length-take-le, take-take}
 use Rattle.rtcp_members.specs.declared.cells.Slot.{Slot}
 use Rattle.rtcp_members.specs.storage.Heaps.{IsHeap, no_slot}
-use Rattle.rtcp_members.proofs.Leaving.{leaves_later, last_leaves}
-use Rattle.rtcp_members.proofs.Ranked.{length_exchanged, taken_exchanged, heap_exchanged}
+use Rattle.rtcp_members.proofs.lists.Leaving.{leaves_later, last_leaves}
+use Rattle.rtcp_members.proofs.storage.Ranked.{length_exchanged, taken_exchanged, heap_exchanged}
 use Rattle.rtcp_members.proofs.shelf.move_behind.Goals as goal
 
 pub ranks-init : goal.ranks-init

@@ -4,8 +4,8 @@ use Rattle.std.specs.List.{remove}
 use Rattle.rtcp_members.specs.storage.Heaps.{in_order, picked}
 use Rattle.rtcp_members.specs.storage.Standing.{AreCounts}
 use Rattle.rtcp_members.specs.storage.SortedViews.{IsRising}
-use Rattle.rtcp_members.proofs.Leaving.{counted_removed, leaves_written, rising_removed}
-use Rattle.rtcp_members.proofs.Ranked.{IsAtRank, at_rank, stands, among_ranked, read_ranked, written_ranked, heap_written, heap_first, picked_removed}
+use Rattle.rtcp_members.proofs.lists.Leaving.{counted_removed, leaves_written, rising_removed}
+use Rattle.rtcp_members.proofs.storage.Ranked.{IsAtRank, at_rank, stands, among_ranked, read_ranked, written_ranked, heap_written, heap_first, picked_removed}
 use Rattle.rtcp_members.proofs.shelf.remove_at.Goals as goal
 use Rattle.rtcp_members.proofs.shelf.remove_at.Goals.{After-index-cells-place}
 

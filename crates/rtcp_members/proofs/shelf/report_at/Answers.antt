@@ -5,7 +5,7 @@ use Rattle.rtcp_members.specs.declared.entry.Entry.{Entry}
 use Rattle.rtcp_members.specs.storage.Heaps.{no_entry}
 use Rattle.rtcp_members.specs.ListViews.{entry_value}
 use Rattle.rtcp_members.specs.Pending.{is_due, reported_entry}
-use Rattle.rtcp_members.proofs.Ranked.{IsAtRank, at_rank, read_ranked, among_ranked, still_indexed, changed_ranked, recounted_ranked}
+use Rattle.rtcp_members.proofs.storage.Ranked.{IsAtRank, at_rank, read_ranked, among_ranked, still_indexed, changed_ranked, recounted_ranked}
 use Rattle.rtcp_members.proofs.shelf.report_at.Goals as goal
 use Rattle.rtcp_members.proofs.shelf.report_at.Goals.{After-index-cells-place}
 

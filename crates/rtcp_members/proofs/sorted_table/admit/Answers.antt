@@ -1,11 +1,11 @@
 -- What becomes of the fact is decided by whether it is a goodbye, and by the room that is left.
 use Rattle.std.proofs.Common.{rules, arith, ◌∙◌}
 use Rattle.rtcp_wire.specs.Facts.{subject}
-use Rattle.rtcp_members.proofs.Rising.{rising_apart}
-use Rattle.rtcp_members.proofs.Searching.{none_in_gap}
-use Rattle.rtcp_members.proofs.Admitting.{ignored, no_room}
-use Rattle.rtcp_members.proofs.Inserting.{inserted, sorted_insert}
-use Rattle.rtcp_members.proofs.Moving.{none_differ}
+use Rattle.rtcp_members.proofs.sorted.Rising.{rising_apart}
+use Rattle.rtcp_members.proofs.sorted.Searching.{none_in_gap}
+use Rattle.rtcp_members.proofs.lists.Admitting.{ignored, no_room}
+use Rattle.rtcp_members.proofs.sorted.Inserting.{inserted, sorted_insert}
+use Rattle.rtcp_members.proofs.moving.Moving.{none_differ}
 use Rattle.rtcp_members.proofs.sorted_table.admit.Goals as goal
 
 pub returns-then-is_goodbye-clause-place : goal.returns-then-is_goodbye-clause-place

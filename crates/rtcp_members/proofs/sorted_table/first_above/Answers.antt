@@ -1,7 +1,7 @@
 -- The others begin after the source's entry, or where it would stand.
 use Rattle.std.proofs.Common.{arith}
 use Rattle.std.proofs.lemmas.Option.{slice_get_within}
-use Rattle.rtcp_members.proofs.InCyclicTurn.{cut_gap, cut_after, cut_nowhere}
+use Rattle.rtcp_members.proofs.turns.InCyclicTurn.{cut_gap, cut_after, cut_nowhere}
 use Rattle.rtcp_members.proofs.sorted_table.first_above.Goals as goal
 
 pub overflow_add-result : goal.overflow_add-result

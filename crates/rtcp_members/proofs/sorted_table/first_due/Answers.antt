@@ -3,8 +3,8 @@ use Rattle.std.proofs.Common.{arith, ◌≡◌, ◌<◌, ◌∙◌, ap, sym, len
 use Rattle.std.proofs.lemmas.List.{get_or-take, length-take-le}
 use Rattle.rtcp_members.specs.declared.entry.Entry.{Entry}
 use Rattle.rtcp_members.specs.storage.Heaps.{no_entry}
-use Rattle.rtcp_members.proofs.Applying.{read_there}
-use Rattle.rtcp_members.proofs.Ranks.{due_rank, idle_rank}
+use Rattle.rtcp_members.proofs.lists.Applying.{read_there}
+use Rattle.rtcp_members.proofs.lists.Ranks.{due_rank, idle_rank}
 use Rattle.rtcp_members.proofs.sorted_table.first_due.Goals as goal
 
 pub returns-then-is_due_at : goal.returns-then-is_due_at

@@ -4,8 +4,8 @@ use Rattle.rtcp_members.specs.storage.Heaps.{no_entry}
 use Rattle.rtcp_members.specs.ListViews.{table_of}
 use Rattle.rtcp_members.specs.storage.SortedViews.{IsSortedTable}
 use Rattle.rtcp_members.specs.storage.Standing.{AllStandBy}
-use Rattle.rtcp_members.proofs.Leaving.{found_unmarked, sorted_removed, stand_removed, table_removed}
-use Rattle.rtcp_members.proofs.Rising.{rising_apart}
+use Rattle.rtcp_members.proofs.lists.Leaving.{found_unmarked, sorted_removed, stand_removed, table_removed}
+use Rattle.rtcp_members.proofs.sorted.Rising.{rising_apart}
 use Rattle.rtcp_members.proofs.sorted_table.forget_at.Goals as goal
 
 pub returns-clause-held : goal.returns-clause-held

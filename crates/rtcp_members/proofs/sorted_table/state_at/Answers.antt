@@ -1,7 +1,7 @@
 -- What is read at a rank is the first row of the rest.
 use Rattle.std.proofs.Common.{arith, refl, ◌∙◌, ap, Some, slice_index_or}
 use Rattle.rtcp_members.specs.storage.Heaps.{no_entry}
-use Rattle.rtcp_members.proofs.Ranks.{told_rank}
+use Rattle.rtcp_members.proofs.lists.Ranks.{told_rank}
 use Rattle.rtcp_members.proofs.sorted_table.state_at.Goals as goal
 
 pub returns : goal.returns

@@ -1,4 +1,4 @@
-use Rattle.rtcp_members.proofs.Above.{walk_counts}
+use Rattle.rtcp_members.proofs.telling.Above.{walk_counts}
 use Rattle.rtcp_members.proofs.LawLemmas as law
 use Rattle.rtcp_members.proofs.told_laws.walks_tell_each_once.Goals as goal
 

@@ -1,4 +1,4 @@
-use Rattle.rtcp_members.proofs.SenderLaws.{kept_is_newest, newest_is_kept, sender_sends, who_sends_is_sender}
+use Rattle.rtcp_members.proofs.stays.SenderLaws.{kept_is_newest, newest_is_kept, sender_sends, who_sends_is_sender}
 use Rattle.rtcp_members.proofs.trace_laws.senders_sent_lately.Goals as goal
 
 pub returns : goal.returns

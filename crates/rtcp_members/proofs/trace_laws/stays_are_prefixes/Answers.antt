@@ -1,4 +1,4 @@
-use Rattle.rtcp_members.proofs.StayLaws.{stay_is_prefix, prefix_is_stay}
+use Rattle.rtcp_members.proofs.stays.StayLaws.{stay_is_prefix, prefix_is_stay}
 use Rattle.rtcp_members.proofs.trace_laws.stays_are_prefixes.Goals as goal
 
 pub returns : goal.returns

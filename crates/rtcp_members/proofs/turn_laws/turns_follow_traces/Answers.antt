@@ -1,4 +1,4 @@
-use Rattle.rtcp_members.proofs.NewsOfTraces.{pending_is_traced, pending_have_rows}
+use Rattle.rtcp_members.proofs.turns.NewsOfTraces.{pending_is_traced, pending_have_rows}
 use Rattle.rtcp_members.specs.Pending.{EntryRow}
 use Rattle.std.proofs.Common.{◌∙◌, ap, map}
 use Rattle.rtcp_members.proofs.LawLemmas.{turns_follow_traces-rows, turns_follow_traces-due}

@@ -1,7 +1,7 @@
 -- What the list is after the check, the table is.
 use Rattle.std.proofs.Common.{◌-◌, ◌∙◌, arith}
 use Rattle.rtcp_members.specs.Traces.{horizons_at}
-use Rattle.rtcp_members.proofs.Tallies.{fewer_checked, listed_checked, table_checked, dropped_checked, senders_checked, fewer_senders_in}
+use Rattle.rtcp_members.proofs.lists.Tallies.{fewer_checked, listed_checked, table_checked, dropped_checked, senders_checked, fewer_senders_in}
 use Rattle.rtcp_members.proofs.list_table.ListTableMemberTable.check.Goals as goal
 
 pub overflow_sub-removed : goal.overflow_sub-removed

@@ -1,6 +1,6 @@
 -- The map has a row for each entry.
 use Rattle.std.proofs.Common.{rules}
-use Rattle.rtcp_members.proofs.Listing.{entries_of}
+use Rattle.rtcp_members.proofs.lists.Listing.{entries_of}
 use Rattle.rtcp_members.proofs.list_table.ListTableMemberTable.entries.Goals as goal
 
 pub returns : goal.returns

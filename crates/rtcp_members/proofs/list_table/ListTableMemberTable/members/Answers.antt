@@ -2,7 +2,7 @@
 use Rattle.std.proofs.Common.{◌∙◌, ap}
 use Rattle.rtcp_members.specs.Entries.{is_member}
 use Rattle.rtcp_members.specs.ListViews.{tally_of}
-use Rattle.rtcp_members.proofs.Tallies.{counted_at}
+use Rattle.rtcp_members.proofs.lists.Tallies.{counted_at}
 use Rattle.rtcp_members.proofs.list_table.ListTableMemberTable.members.Goals as goal
 
 pub returns : goal.returns

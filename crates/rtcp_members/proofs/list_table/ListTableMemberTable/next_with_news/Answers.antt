@@ -2,7 +2,7 @@
 use Rattle.std.proofs.Common.{Some, None, rules, refl}
 use Rattle.rtcp_members.specs.ListViews.{rows_of}
 use Rattle.rtcp_members.specs.Least.{least, is_due_above}
-use Rattle.rtcp_members.proofs.LeastDue.{first_waiting_in}
+use Rattle.rtcp_members.proofs.turns.LeastDue.{first_waiting_in}
 use Rattle.rtcp_members.proofs.list_table.ListTableMemberTable.next_with_news.Goals as goal
 
 pub returns-in-Some : goal.returns-in-Some

@@ -1,7 +1,7 @@
 -- The entry of the least SSRC above is the first one.
 use Rattle.std.proofs.Common.{option_map, rules}
 use Rattle.rtcp_members.specs.ListViews.{state_value}
-use Rattle.rtcp_members.proofs.Above.{told_of_least, told_of_none}
+use Rattle.rtcp_members.proofs.telling.Above.{told_of_least, told_of_none}
 use Rattle.rtcp_members.proofs.list_table.ListTableMemberTable.source_from.Goals as goal
 
 pub returns-in-Some : goal.returns-in-Some

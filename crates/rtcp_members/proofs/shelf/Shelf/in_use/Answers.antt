@@ -7,8 +7,8 @@ use Rattle.rtcp_members.specs.declared.entry.Entry.{Entry}
 use Rattle.rtcp_members.specs.storage.Index.{AreRising, Finds}
 use Rattle.rtcp_members.specs.storage.Shelves.{ShelfValue}
 use Rattle.rtcp_members.specs.storage.SortedViews.{Locates}
-use Rattle.rtcp_members.proofs.Found.{rising_row, located}
-use Rattle.rtcp_members.proofs.Ranked.{length_ranked}
+use Rattle.rtcp_members.proofs.storage.Found.{rising_row, located}
+use Rattle.rtcp_members.proofs.storage.Ranked.{length_ranked}
 use Rattle.rtcp_members.proofs.shelf.Shelf.in_use.Goals as goal
 
 pub returns-clause-as_many : goal.returns-clause-as_many

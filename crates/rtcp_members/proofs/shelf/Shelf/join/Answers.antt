@@ -13,11 +13,11 @@ use Rattle.rtcp_members.specs.Pending.{is_due}
 use Rattle.rtcp_members.specs.storage.Shelves.{ShelfValue}
 use Rattle.rtcp_members.specs.storage.Standing.{AreCounts}
 use Rattle.rtcp_members.specs.storage.SortedViews.{IsGapFor, IsRising}
-use Rattle.rtcp_members.proofs.Heaps.{items_inserted, heap_inserted}
-use Rattle.rtcp_members.proofs.Inserting.{counted_insert}
-use Rattle.rtcp_members.proofs.Ranked.{length_ranked}
-use Rattle.rtcp_members.proofs.Weights.{tally_at_most}
-use Rattle.rtcp_members.proofs.Rising.{rising_insert}
+use Rattle.rtcp_members.proofs.storage.Heaps.{items_inserted, heap_inserted}
+use Rattle.rtcp_members.proofs.sorted.Inserting.{counted_insert}
+use Rattle.rtcp_members.proofs.storage.Ranked.{length_ranked}
+use Rattle.rtcp_members.proofs.lists.Weights.{tally_at_most}
+use Rattle.rtcp_members.proofs.sorted.Rising.{rising_insert}
 use Rattle.rtcp_members.proofs.shelf.Shelf.join.Given.{Over}
 use Rattle.rtcp_members.proofs.shelf.Shelf.join.Goals as goal
 use Rattle.rtcp_members.proofs.shelf.Shelf.join.Goals.{After-shift}

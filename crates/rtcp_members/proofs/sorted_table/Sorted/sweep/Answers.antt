@@ -1,8 +1,8 @@
 -- A check that changes nothing leaves all but the bounds. Else what the list is after it, the table is.
 use Rattle.std.proofs.Common.{◌-◌, ◌∙◌, arith}
 use Rattle.rtcp_members.specs.Traces.{horizons_at}
-use Rattle.rtcp_members.proofs.Tallies.{fewer_checked, fewer_senders_checked, table_checked, dropped_checked}
-use Rattle.rtcp_members.proofs.Checking.{listed_of, nothing_dropped, senders_dropped, sorted_checked}
+use Rattle.rtcp_members.proofs.lists.Tallies.{fewer_checked, fewer_senders_checked, table_checked, dropped_checked}
+use Rattle.rtcp_members.proofs.sorted.Checking.{listed_of, nothing_dropped, senders_dropped, sorted_checked}
 use Rattle.rtcp_members.proofs.sorted_table.Sorted.sweep.Goals as goal
 
 -- ---- Where each entry is left as it is

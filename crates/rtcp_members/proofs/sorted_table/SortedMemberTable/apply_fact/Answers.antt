@@ -9,11 +9,11 @@ use Rattle.rtcp_members.specs.storage.Standing.{AllStandBy}
 use Rattle.rtcp_members.specs.ListViews.{table_of, IsRankOf}
 use Rattle.rtcp_members.specs.storage.SortedViews.{IsGapFor, IsSortedTable}
 use Rattle.rtcp_members.specs.Tables.{TableValue, after_fact, counted, counted_of, entry_with_fact, placed}
-use Rattle.rtcp_members.proofs.Applying.{counted_applied, place_applied}
-use Rattle.rtcp_members.proofs.Moving.{moved_in_table}
-use Rattle.rtcp_members.proofs.Edits.{sorted_edited, table_edited, stand_with_fact}
-use Rattle.rtcp_members.proofs.BoundLemmas.{all_lower}
-use Rattle.rtcp_members.proofs.Searching.{none_in_gap}
+use Rattle.rtcp_members.proofs.lists.Applying.{counted_applied, place_applied}
+use Rattle.rtcp_members.proofs.moving.Moving.{moved_in_table}
+use Rattle.rtcp_members.proofs.sorted.Edits.{sorted_edited, table_edited, stand_with_fact}
+use Rattle.rtcp_members.proofs.lists.BoundLemmas.{all_lower}
+use Rattle.rtcp_members.proofs.sorted.Searching.{none_in_gap}
 use Rattle.rtcp_members.proofs.sorted_table.SortedMemberTable.apply_fact.Given.{Over}
 use Rattle.rtcp_members.proofs.sorted_table.SortedMemberTable.apply_fact.Goals as goal
 use Rattle.rtcp_members.proofs.sorted_table.SortedMemberTable.apply_fact.Goals.{In-Ok}

@@ -8,11 +8,11 @@ use Rattle.rtcp_members.specs.ListViews.{table_of, IsRankOf}
 use Rattle.rtcp_members.specs.Pending.{is_due_at, after_block, block_at, reported_entry}
 use Rattle.rtcp_members.specs.storage.SortedViews.{Locates}
 use Rattle.rtcp_members.specs.Tables.{TableValue}
-use Rattle.rtcp_members.proofs.Edits.{sorted_edited, stand_edited}
-use Rattle.rtcp_members.proofs.Placing.{due_there}
-use Rattle.rtcp_members.proofs.Reporting.{block_reported, table_reported}
-use Rattle.rtcp_members.proofs.Rising.{rising_apart}
-use Rattle.rtcp_members.proofs.Searching.{due_is_found}
+use Rattle.rtcp_members.proofs.sorted.Edits.{sorted_edited, stand_edited}
+use Rattle.rtcp_members.proofs.sorted.Placing.{due_there}
+use Rattle.rtcp_members.proofs.lists.Reporting.{block_reported, table_reported}
+use Rattle.rtcp_members.proofs.sorted.Rising.{rising_apart}
+use Rattle.rtcp_members.proofs.sorted.Searching.{due_is_found}
 use Rattle.rtcp_members.proofs.sorted_table.SortedMemberTable.block_of.Goals as goal
 use Rattle.rtcp_members.proofs.sorted_table.SortedMemberTable.block_of.Given.{Over}
 use Rattle.rtcp_members.proofs.sorted_table.SortedMemberTable.block_of.Goals.{After-unwrap-at}

@@ -1,7 +1,7 @@
 -- A check that the bounds rule out changes nothing.
 use Rattle.std.proofs.Common.{sym, ◌∙◌}
 use Rattle.rtcp_members.specs.Traces.{horizons_at}
-use Rattle.rtcp_members.proofs.Checking.{nothing_dropped}
+use Rattle.rtcp_members.proofs.sorted.Checking.{nothing_dropped}
 use Rattle.rtcp_members.proofs.sorted_table.SortedMemberTable.check.Goals as goal
 
 pub returns-then-reach : goal.returns-then-reach

@@ -1,6 +1,6 @@
 -- The map has a row for each entry.
-use Rattle.rtcp_members.proofs.Listing.{entries_of}
-use Rattle.rtcp_members.proofs.Rising.{rising_apart}
+use Rattle.rtcp_members.proofs.lists.Listing.{entries_of}
+use Rattle.rtcp_members.proofs.sorted.Rising.{rising_apart}
 use Rattle.rtcp_members.proofs.sorted_table.SortedMemberTable.entries.Goals as goal
 
 pub returns : goal.returns

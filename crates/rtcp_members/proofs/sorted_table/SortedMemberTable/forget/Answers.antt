@@ -2,8 +2,8 @@
 use Rattle.std.proofs.Common.{arith, sym, ap, ◌∙◌}
 use Rattle.std.specs.FinMap as finite
 use Rattle.rtcp_members.specs.Tables.{TableValue}
-use Rattle.rtcp_members.proofs.Leaving.{none_forgotten}
-use Rattle.rtcp_members.proofs.Searching.{none_in_gap}
+use Rattle.rtcp_members.proofs.lists.Leaving.{none_forgotten}
+use Rattle.rtcp_members.proofs.sorted.Searching.{none_in_gap}
 use Rattle.rtcp_members.proofs.sorted_table.SortedMemberTable.forget.Goals as goal
 
 pub invariant_of-self : goal.invariant_of-self

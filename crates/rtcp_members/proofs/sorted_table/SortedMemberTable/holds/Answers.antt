@@ -1,6 +1,6 @@
 -- The search finds an entry exactly where the table has one.
 use Rattle.std.proofs.Common.{◌∙◌}
-use Rattle.rtcp_members.proofs.Searching.{found_is_held}
+use Rattle.rtcp_members.proofs.sorted.Searching.{found_is_held}
 use Rattle.rtcp_members.proofs.sorted_table.SortedMemberTable.holds.Goals as goal
 
 pub returns : goal.returns

@@ -1,7 +1,7 @@
 -- The first entry above is the first of the table's, and a rank is less than 2^16.
 use Rattle.std.proofs.Common.{arith, option_map}
 use Rattle.rtcp_members.specs.ListViews.{state_value}
-use Rattle.rtcp_members.proofs.Above.{told_of_sorted}
+use Rattle.rtcp_members.proofs.telling.Above.{told_of_sorted}
 use Rattle.rtcp_members.proofs.sorted_table.SortedMemberTable.next_source.Goals as goal
 
 pub overflow_cast-self : goal.overflow_cast-self

@@ -3,8 +3,8 @@ use Rattle.std.proofs.Common.{◌≡◌, Some, None, List, take, drop, rules, ar
 use Rattle.std.proofs.lemmas.List.{take_all}
 use Rattle.rtcp_members.specs.declared.entry.Entry.{Entry}
 use Rattle.rtcp_members.specs.Pending.{first_ssrc}
-use Rattle.rtcp_members.proofs.InCyclicTurn.{first_pending, none_pending}
-use Rattle.rtcp_members.proofs.Ranks.{due_rows_of}
+use Rattle.rtcp_members.proofs.turns.InCyclicTurn.{first_pending, none_pending}
+use Rattle.rtcp_members.proofs.lists.Ranks.{due_rows_of}
 use Rattle.rtcp_members.proofs.sorted_table.SortedMemberTable.next_with_news.Goals as goal
 use Rattle.rtcp_members.proofs.sorted_table.SortedMemberTable.next_with_news.Given.{Over}
 use Rattle.rtcp_members.proofs.sorted_table.SortedMemberTable.next_with_news.Goals.{After-first_due}

@@ -1,8 +1,8 @@
 -- Counted in the list is counted in the table.
 use Rattle.std.proofs.Common.{◌∙◌}
 use Rattle.rtcp_members.specs.Entries.{is_sender}
-use Rattle.rtcp_members.proofs.Rising.{rising_apart}
-use Rattle.rtcp_members.proofs.Tallies.{counted_at}
+use Rattle.rtcp_members.proofs.sorted.Rising.{rising_apart}
+use Rattle.rtcp_members.proofs.lists.Tallies.{counted_at}
 use Rattle.rtcp_members.proofs.sorted_table.SortedMemberTable.senders.Goals as goal
 
 pub returns : goal.returns

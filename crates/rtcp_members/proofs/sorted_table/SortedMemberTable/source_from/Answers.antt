@@ -1,7 +1,7 @@
 -- The first entry above is the first of the table's.
 use Rattle.std.proofs.Common.{option_map, rules}
 use Rattle.rtcp_members.specs.ListViews.{state_value}
-use Rattle.rtcp_members.proofs.Above.{told_of_sorted}
+use Rattle.rtcp_members.proofs.telling.Above.{told_of_sorted}
 use Rattle.rtcp_members.proofs.sorted_table.SortedMemberTable.source_from.Goals as goal
 
 pub returns : goal.returns

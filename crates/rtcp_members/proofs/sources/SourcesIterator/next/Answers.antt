@@ -3,7 +3,7 @@ use Rattle.std.proofs.Common.{◌≡◌, ◌<◌, ℕ, List, ◌∷◌, length, 
 use Rattle.rtcp_members.specs.ListViews.{state_value}
 use Rattle.rtcp_members.specs.Tables.{TableValue}
 use Rattle.rtcp_members.specs.Told.{StateValue, state_above, states_of}
-use Rattle.rtcp_members.proofs.Above.{told_more}
+use Rattle.rtcp_members.proofs.telling.Above.{told_more}
 use Rattle.rtcp_members.proofs.sources.SourcesIterator.next.Goals as goal
 
 first_of : (after : Option ℕ) (asked : Option TableValue) (left : List StateValue) (table : TableValue)

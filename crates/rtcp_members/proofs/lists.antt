@@ -1,0 +1,12 @@
+pub mod Listing
+pub mod Changing
+pub mod Tallies
+pub mod Weights
+pub mod Ranks
+pub mod Applying
+pub mod Admitting
+pub mod Reporting
+pub mod Leaving
+pub mod Dropping
+pub mod BoundLemmas
+pub mod Measuring

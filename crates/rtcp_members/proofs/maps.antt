@@ -1,0 +1,2 @@
+pub mod Updated
+pub mod Counting

@@ -1,0 +1,3 @@
+pub mod Moving
+pub mod Roles
+pub mod RoleCounts

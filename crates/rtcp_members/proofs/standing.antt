@@ -1,0 +1,9 @@
+pub mod Capacity
+pub mod Following
+pub mod Blocking
+pub mod Removing
+pub mod Forgetting
+pub mod Agreeing
+pub mod Holding
+pub mod TraceTables
+pub mod Growing

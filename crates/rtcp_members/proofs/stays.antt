@@ -1,0 +1,9 @@
+pub mod Naming
+pub mod Staying
+pub mod TraceStepLemmas
+pub mod Packets
+pub mod StayLaws
+pub mod SenderLaws
+pub mod OneClock
+pub mod AtOnce
+pub mod Crowding

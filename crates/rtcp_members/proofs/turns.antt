@@ -1,0 +1,6 @@
+pub mod TurnsRows
+pub mod Turns
+pub mod InCyclicTurn
+pub mod LeastDue
+pub mod NextDue
+pub mod NewsOfTraces
