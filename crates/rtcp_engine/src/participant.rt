@@ -137,8 +137,8 @@ impl<T: MemberTable> Participant<T> {
         }
     }
 
-    /// [`source_above`](Participant::source_above), for a host that asks for one source after the other: the table may
-    /// note where the one that it tells stands, to find the next one sooner. The participant is the same after it.
+    /// [`source_above`](Participant::source_above), for a host that asks for one source after the other: the participant
+    /// notes where the one that it tells stands, to find the next one sooner. It is the same after it.
     pub fn next_source(&mut self, after: Option<u32>) -> Option<SourceState>
         ensures told { (history : History) → StandsAt self.old history →
             TellsInLife (setup_at history) after (life_at history) (option_map state_value result) }

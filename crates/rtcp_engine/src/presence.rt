@@ -57,6 +57,8 @@ pub(crate) struct Presence<T: MemberTable> {
     pace: Option<Pace>,
     /// how many reports were sent
     reports: u64,
+    /// where the source told last stands, as far as the table said so
+    listed: usize,
 }
 
 impl<T: MemberTable> Model for Presence<T> {
@@ -113,6 +115,7 @@ impl<T: MemberTable> Presence<T> {
             reports: 0,
             latest: 0,
             calls: 0,
+            listed: 0,
             config,
         }
     }
@@ -156,12 +159,12 @@ impl<T: MemberTable> Presence<T> {
         self.table.source_above(after)
     }
 
-    /// The same, where the table may note where that source stands.
+    /// The same. It notes where that source stands, to find the next one sooner.
     pub(crate) fn next_source(&mut self, after: Option<u32>) -> Option<SourceState>
         ensures told { option_map state_value result ≡ state_above after self.old.table }
         ensures kept { self.new ≡ self.old }
     {
-        self.table.next_source(after)
+        self.table.source_from(after, &mut self.listed)
     }
 
     /// What is known of each source, by rising SSRC.

@@ -31,7 +31,7 @@ use std::marker::Model;
 #[derive(Drop)]
 pub struct Sorted<C: Blocks<Cell>, S: Blocks<Slot>> {
     capacity: u16,
-    /// Where the source of the last block or telling stands, or would.
+    /// Where the source of the last block stands, or would.
     last_rank: u16,
     entries: Shelf<C, S>,
     /// Up to which moments a check changes nothing.
@@ -213,14 +213,6 @@ impl<C: Blocks<Cell>, S: Blocks<Slot>> MemberTable for Sorted<C, S> {
         let entries = &self.entries;
         *rank = first_above(entries, *rank, after);
         state_at(entries, *rank)
-    }
-
-    // The last rank becomes that of the source told, which the next call most likely goes on from.
-    fn next_source(&mut self, after: Option<u32>) -> Option<SourceState> {
-        let (entries, last_rank) = (&self.entries, usize::from(self.last_rank));
-        let rank = first_above(entries, last_rank, after);
-        self.last_rank = rank as u16;
-        state_at(&self.entries, rank)
     }
 }
 

@@ -160,15 +160,6 @@ pub trait MemberTable {
     /// find the next one sooner, and leaves the hint for the next call. The answer is the same for any hint.
     fn source_from(&self, after: Option<u32>, rank: &mut usize) -> Option<SourceState>
         ensures { option_map state_value result ≡ state_above after (content self.now) };
-
-    /// `source_above`, for a host that asks for one source after the other: a table may note where the one that it
-    /// tells stands, to find the next one sooner. The table is the same after it.
-    fn next_source(&mut self, after: Option<u32>) -> Option<SourceState>
-        ensures told { option_map state_value result ≡ state_above after (content self.old) }
-        ensures content { content self.new ≡ content self.old }
-    {
-        self.source_above(after)
-    }
 }
 
 /// A table that has the room for its entries in itself, so that its capacity is all it is made from.
