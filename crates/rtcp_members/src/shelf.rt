@@ -236,17 +236,22 @@ impl<C: Blocks<Cell>, S: Blocks<Slot>> Shelf<C, S> {
 
     /// Bounds of the entries which these horizons do not pass, if it finds such: then the check leaves each entry as
     /// it is.
+    // In order of memory, over free cells too: what is left in these keeps no check from being ruled out.
     pub(crate) fn bounds_if_left(&self, silent: u64, idle: u64, gone: u64) -> Option<Bounds>
         ensures { IfSome result (RulesOut (horizons_at silent idle gone) self.now.items) }
     {
-        bounds_if_left(
-            self.cells.as_slice(),
-            self.slots.as_slice(),
-            self.used,
-            silent,
-            idle,
-            gone,
-        )
+        let cells = self.cells.as_slice();
+        let mut bounds = Bounds::none();
+        'cells: for cell in cells {
+            bounds.cover(&cell.entry);
+            if bounds.is_silent(silent) {
+                return None;
+            }
+        }
+        if !bounds.reach(silent, idle, gone) {
+            return None;
+        }
+        Some(bounds)
     }
 
     /// Drops the entries that do not outlast a check, and ends the sending of the idle ones. Returns the bounds of
@@ -371,32 +376,6 @@ fn move_behind(slots: &mut [Slot], used: usize, at: usize)
     'ranks: for rank in at..used - 1 {
         exchange(slots, rank, rank + 1);
     }
-}
-
-/// Bounds of the entries, where a check with these horizons leaves each as it is.
-// In order of memory, over free cells too: what is left in these keeps no check from being ruled out.
-fn bounds_if_left(
-    cells: &[Cell],
-    slots: &[Slot],
-    used: usize,
-    silent: u64,
-    idle: u64,
-    gone: u64,
-) -> Option<Bounds>
-    requires { IsIndexed cells.now slots.now used }
-    ensures { IfSome result (RulesOut (horizons_at silent idle gone) (in_order cells.now slots.now used)) }
-{
-    let mut bounds = Bounds::none();
-    'cells: for cell in cells {
-        bounds.cover(&cell.entry);
-        if bounds.is_silent(silent) {
-            return None;
-        }
-    }
-    if !bounds.reach(silent, idle, gone) {
-        return None;
-    }
-    Some(bounds)
 }
 
 /// Drops the entries that do not outlast a check. Returns how many stay, with their counts and bounds.

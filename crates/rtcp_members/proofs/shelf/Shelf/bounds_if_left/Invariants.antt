@@ -2,7 +2,7 @@
 use Rattle.std.proofs.Common.{take}
 use Rattle.rtcp_members.specs.storage.Heaps.{entries_in}
 use Rattle.rtcp_members.specs.storage.Standing.{AllStandBy}
-use Rattle.rtcp_members.proofs.shelf.bounds_if_left.Given as goal
+use Rattle.rtcp_members.proofs.shelf.Shelf.bounds_if_left.Given as goal
 
 abbrev pub invariant-cells : goal.invariant-cells
-invariant-cells l = AllStandBy l.bounds (take l.cell-index (entries_in l.cells))
+invariant-cells g l = AllStandBy l.bounds (take l.cell-index (entries_in l.cells))

@@ -8,12 +8,13 @@ use Rattle.rtcp_members.specs.declared.entry.Entry.{Entry}
 use Rattle.rtcp_members.specs.ListViews.{entry_value}
 use Rattle.rtcp_members.specs.storage.Standing.{AllStandBy, StandsBy}
 use Rattle.rtcp_members.specs.storage.Heaps.{entries_in, no_cell, no_entry}
+use Rattle.rtcp_members.specs.storage.Shelves.{ShelfValue}
 use Rattle.rtcp_members.proofs.lists.BoundLemmas.{all_covered, all_picked}
-use Rattle.rtcp_members.proofs.shelf.bounds_if_left.Goals as goal
+use Rattle.rtcp_members.proofs.shelf.Shelf.bounds_if_left.Goals as goal
 
 pub cells-preserved : goal.cells-preserved
-cells-preserved c =
-    let cells : List Cell = c.args.cells.now in
+cells-preserved g c =
+    let cells : List Cell = c.as_slice-cells.result.now in
     let cell : Cell = c.cell-item.result in
     let bounds = c.cover.new.self in
     let at = c.cells.cell-index in
@@ -27,15 +28,19 @@ cells-preserved c =
     (subst (λ (e : Entry). StandsBy bounds (entry_value e)) its c.cover.ensures.stands)
 
 pub returns : goal.returns
-returns c =
-    let cells : List Cell = c.args.cells.now in
-    let past : length (entries_in cells) ≤ c.cells.cell-index =
-    omega (arith, c.cells-test.false, length-map cells (λ (x : Cell). x.entry)) in
-    let all : AllStandBy c.cells.bounds (entries_in cells) = subst (AllStandBy c.cells.bounds)
-    (take_all c.cells.cell-index (entries_in cells) past) c.cells.invariant in
+returns g c =
+    let lent : List Cell = c.as_slice-cells.result.now in
+    let cells : List Cell = g.C.Blocks.items c.self.inside.cells in
+    let slots : List Slot = g.S.Blocks.items c.self.inside.slots in
+    let past : length (entries_in lent) ≤ c.cells.cell-index =
+    omega (arith, c.cells-test.false, length-map lent (λ (x : Cell). x.entry)) in
+    let all : AllStandBy c.cells.bounds (entries_in lent) = subst (AllStandBy c.cells.bounds)
+    (take_all c.cells.cell-index (entries_in lent) past) c.cells.invariant in
     record {
-      stand = all_picked c.cells.bounds (entries_in cells) (take c.args.used c.args.slots.now)
-          (All-take (λ (slot : Slot). slot.place < length (entries_in cells)) c.args.used c.args.slots.now
-          c.requires.heap.places.within) all;
+      stand = subst (AllStandBy c.cells.bounds) (ap (λ (v : ShelfValue). v.items) c.self.view_is)
+          (all_picked c.cells.bounds (entries_in cells) (take c.self.inside.used slots)
+          (All-take (λ (slot : Slot). slot.place < length (entries_in cells)) c.self.inside.used slots
+          c.self.invariant.kept.index.heap.places.within)
+          (subst (λ xs. AllStandBy c.cells.bounds (entries_in xs)) c.as_slice-cells.ensures.items all));
       within = c.reach.ensures c.if-not-reach.false;
     }
