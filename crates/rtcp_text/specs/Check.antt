@@ -60,8 +60,8 @@ module _ (shows : List RtcpPacket → List ℕ) where
   abbrev pub ShowsLinesBefore : (most : ℕ) → List ℕ → List ℕ → Type 0
   ShowsLinesBefore most input text = AnswersLinesBeforeBy (IsCheckTextBy most 1) input text
 
--- What a check promises that shows packets so and answers so many lines at most, by what it wrote, its outcome, and what
--- the reader has left.
+-- What a check promises that shows packets so and answers so many lines at most, by what it wrote, its outcome, and
+-- what the reader has left.
 pub record Checks
     (shows : List RtcpPacket → List ℕ) (most : ℕ) {A : Type 0} (result : Result A TextFault) (left : Option (List ℕ))
     (Leaves : (List ℕ → List ℕ → Type 0) → Type 0)

@@ -9,5 +9,6 @@ returns-clause-tells c =
     let (gives, left, counted) = c.in-Ok.ensures in
     let put = c.put_back.ensures in
     let reply = c.arrive_rtcp_into-reply.ensures in
-    tells (λ m. rtcp_arrived m c.args.peer c.args.word c.args.datagram.now) _ gives counted c.deref_mut.ensures.value refl reply put.held (put.status _)
+    tells (λ m. rtcp_arrived m c.args.peer c.args.word c.args.datagram.now) _ gives counted c.deref_mut.ensures.value
+    refl reply put.held (put.status _)
     (put.handed _ _ reply.tells.leaves) put.shown

@@ -9,5 +9,6 @@ returns-clause-tells c =
     let (gives, left, counted) = c.in-Ok.ensures in
     let put = c.put_back.ensures in
     let reply = c.sent_rtp_into-reply.ensures.replies in
-    tells (λ m. packet_sent m c.args.timestamp c.args.size) _ gives counted c.deref_mut.ensures.value refl reply put.held (put.status _)
+    tells (λ m. packet_sent m c.args.timestamp c.args.size) _ gives counted c.deref_mut.ensures.value refl reply
+    put.held (put.status _)
     (put.handed _ _ reply.tells.leaves) put.shown

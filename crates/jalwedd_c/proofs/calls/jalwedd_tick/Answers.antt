@@ -9,5 +9,6 @@ returns-clause-tells c =
     let (gives, left, counted) = c.in-Ok.ensures in
     let put = c.put_back.ensures in
     let reply = c.tick_into-reply.ensures in
-    tells (λ m. time_passed m c.args.first_word c.args.second_word) _ gives counted c.deref_mut.ensures.value refl reply put.held (put.status _)
+    tells (λ m. time_passed m c.args.first_word c.args.second_word) _ gives counted c.deref_mut.ensures.value refl reply
+    put.held (put.status _)
     (put.handed _ _ reply.tells.leaves) put.shown

@@ -11,7 +11,8 @@ returns-in_err-outcome-in-Check-clause-refused g c = λ line fault is.
     (sym (rw is at c.from_residual-in_err-outcome-in-Check.ensures.1)) in
     subst (λ o. Wrote g.R.Read.remaining g.W.Write.contents c.args.reader.now c.args.writer.now c.flush.new.writer
     (IsTextOfOrder o (Some (line, fault)))) (sym c.in-Check.is)
-    (Writes-kept _ _ _ _ _ c.flush.ensures.kept (c.in_err-outcome-in-Check.ensures.checks.refused line fault (ap Err found)))
+    (Writes-kept _ _ _ _ _ c.flush.ensures.kept
+    (c.in_err-outcome-in-Check.ensures.checks.refused line fault (ap Err found)))
 
 pub returns-in_err-outcome-in-Replay-clause-refused : goal.returns-in_err-outcome-in-Replay-clause-refused
 returns-in_err-outcome-in-Replay-clause-refused g c = λ line fault is.

@@ -18,7 +18,8 @@ returns-clause-in_life g c life at =
       ssrc = c.ssrc.result;
       next = Some c.next_moment.result;
     } in
-    said_at c.self.view_is (ap (λ (p : ParticipantValue). p.phase) c.self.view_is ∙ c.requires) (λ setup life. standing ≡ standing_in_life setup life)
+    said_at c.self.view_is (ap (λ (p : ParticipantValue). p.phase) c.self.view_is ∙ c.requires)
+    (λ setup life. standing ≡ standing_in_life setup life)
     (λ outcome agrees i. record {
       members = c.member_count.ensures.exact outcome agrees i;
       senders = c.sender_count.ensures outcome agrees i;
