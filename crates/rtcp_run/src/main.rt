@@ -28,8 +28,8 @@ pub use rtcp_command::{
 use rtcp_engine::Participant;
 use rtcp_members::HeapTable;
 pub use rtcp_serve::{
-    Cause, End, Ending, Link, LinkFault, MOST_TURNS, Observed, Observer, Port, Received, Until,
-    serve, serve_laws, serve_until,
+    Cause, End, Ending, Link, LinkFault, MOST_TURNS, Observer, Port, Received, Until, serve,
+    serve_laws, serve_until,
 };
 use rtcp_show::{Watcher, Wording, push_header};
 use rtcp_text::record::Recorder;
@@ -131,7 +131,7 @@ fn run_listen(rt: &HostRuntime, order: ListenOrder) -> Result<End, RunFault>
     let _ = rt.stderr().write_all(&warnings);
     let observer = (recorder, watcher);
     let ending = (order.seconds.map(until), StopFile::of(rt, order.stop));
-    let end = serve_on(Observed { link, observer }, participant, rng, ending, turns);
+    let end = serve_on(link, observer, participant, rng, ending, turns);
     let _ = rt.stderr().write_all(&closing);
     write_end(rt, &end)?;
     Ok(end)
@@ -289,9 +289,11 @@ fn until(seconds: u32) -> Until
     }
 }
 
-/// Serves a session on a link, with these words, until this ending or for so many turns, and gives its end.
-fn serve_on<L: Link + Drop, E: Ending + Drop>(
+/// Serves a session on a link, which this observer watches, with these words, until this ending or for so many turns,
+/// and gives its end.
+fn serve_on<L: Link + Drop, O: Observer + Drop, E: Ending + Drop>(
     mut link: L,
+    mut observer: O,
     mut participant: Participant<HeapTable>,
     mut rng: Pcg32,
     mut ending: E,
@@ -308,6 +310,7 @@ fn serve_on<L: Link + Drop, E: Ending + Drop>(
         &mut rng,
         &mut ending,
         turns,
+        &mut observer,
         &mut buf,
     )
 }

@@ -9,9 +9,10 @@ use Rattle.rtcp_serve.specs.declared.serving.Cause.{Cause}
 use Rattle.rtcp_serve.specs.declared.serving.End.{End}
 use Rattle.rtcp_serve.specs.declared.serving.Cause.TheVariants.{Done}
 use Rattle.rtcp_serve.specs.Endings.{AreHeeded, IsCut, IsHeeded, MayAnswer, Pause, pause}
-use Rattle.rtcp_serve.specs.Links.{Call, LinkValue, GrowsBy, WereCalled, clock_read, compound_sent, port_heard, datagram, how_many, is_failed_receive, is_failed_send, Telling, telling}
+use Rattle.rtcp_serve.specs.Links.{Call, LinkValue, GrowsBy, WereCalled, clock_read, compound_sent, port_heard, datagram, how_many, is_failed_receive, is_failed_send}
+use Rattle.rtcp_serve.specs.Observers.{Notice, event_told, send_tried, telling}
 use Rattle.rand_core.specs.Stream.{Stream, next_u32}
-use Rattle.rtcp_engine.specs.Acts.{Act, ticked, left as asked_to_leave, EventValue, time_passed, leave_asked}
+use Rattle.rtcp_engine.specs.Acts.{ticked, left as asked_to_leave, EventValue, IsActOfEvent, rtcp_arrived, rtp_arrived, packet_sent, time_passed, leave_asked, settings_given, forget_asked}
 use Rattle.rtcp_engine.specs.Histories.{History}
 use Rattle.rtcp_engine.specs.Answers.{answer_of, followed_by}
 use Rattle.rtcp_engine.specs.States.{ParticipantValue, StandsAt}
@@ -21,16 +22,16 @@ use Rattle.rtcp_engine.specs.Views.{answer_value}
 use Rattle.rtcp_engine.specs.Steps.{AnswerValue, OutValue}
 use Rattle.rtcp_serve.specs.declared.serving.tally.Tally.{Tally}
 use Rattle.rtcp_serve.specs.Tallies.{HasRoom, end_of, is_limit, with_arrival, with_datagram, with_moment, with_refused, with_send}
-use Rattle.rtcp_serve.specs.Serving.{Reader, Stage, resting, beginning, hearing, deciding, sending, ended, SessionState, rested, going, ReadsClock, Hears, Sends, Fits, at_stage, with_turns, paused, turn_by, turn_or, after_turns, gone_on, left_with, event_at, arrival_at, after_port, came_with, heard_at, after_clock, after_sending, after_call, after_calls, AllFit, at_the_start, stage_to_send, ticked_with, ticked_now, with_tally}
-use Rattle.rtcp_serve.specs.Sessions.{Closes, EndsAs, EndsTurns, HasTurn, Holds, IsLeaveDue, Moves, RunsCut, RunsSession, TellsLink, Walks, led_to, next_at}
+use Rattle.rtcp_serve.specs.Serving.{IsReader, Reader, Stage, act_in, resting, beginning, hearing, deciding, sending, ended, SessionState, rested, going, ReadsClock, Hears, Sends, Fits, at_stage, with_turns, paused, turn_by, turn_or, after_turns, gone_on, left_with, event_at, after_port, came_with, heard_at, after_clock, after_sending, after_call, after_calls, AllFit, at_the_start, stage_to_send, ticked_with, ticked_now, with_tally}
+use Rattle.rtcp_serve.specs.Sessions.{Closes, EndsAs, EndsTurns, HasTurn, Holds, IsLeaveDue, Moves, Kept, Run, RunsCut, RunsSession, Turns, Walks, keeps, led_to, next_at, run_of, turns_of, turns_with}
 
 -- ---- Logs
 
-pub grows_by_none : {A : Type 0} (log : Option (List A)) → GrowsBy [] log log
+grows_by_none : (log : Option (List Call)) → GrowsBy [] log log
 grows_by_none None = tt {0}
 grows_by_none (Some calls) = (calls, refl, refl)
 
-grows_on : {A : Type 0} (calls more : List A) (x y z : Option (List A)) → GrowsBy calls x y → GrowsBy more y z →
+grows_on : (calls more : List Call) (x y z : Option (List Call)) → GrowsBy calls x y → GrowsBy more y z →
     GrowsBy (more ++ calls) x z
 grows_on calls more x y None first second = tt {0}
 grows_on calls more x y (Some log) first (earlier, is, joined) =
@@ -69,7 +70,7 @@ called_on calls more x y z first second = record {
 joined_calls : (reader : Reader) (total : ℕ) (s : SessionState) (more calls : List Call)
     → after_calls reader total s (more ++ calls) ≡ after_calls reader total (after_calls reader total s calls) more
 joined_calls reader total s [] calls = refl
-joined_calls reader total s (call ∷ more) calls = ap (λ t. after_call reader call (going total t))
+joined_calls reader total s (call ∷ more) calls = ap (λ t. after_call reader call (going reader total t))
     (joined_calls reader total s more calls)
 
 joined_fit : (reader : Reader) (total : ℕ) (s : SessionState) (more calls : List Call) → AllFit reader total s calls
@@ -77,130 +78,114 @@ joined_fit : (reader : Reader) (total : ℕ) (s : SessionState) (more calls : Li
 joined_fit reader total s [] calls fit rest = fit
 joined_fit reader total s (call ∷ more) calls fit (rest, fits) = (
   joined_fit reader total s more calls fit rest,
-  subst (λ t. Fits call (going total t).stage) (sym (joined_calls reader total s more calls)) fits,
+  subst (λ t. Fits call (going reader total t).stage) (sym (joined_calls reader total s more calls)) fits,
 )
 
--- What a link is told moves neither its log nor its counts.
-pub moves_still : (reader : Reader) (total : ℕ) (s : SessionState) (x y : LinkValue) → y.log ≡ x.log
-    → y.failed_receives ≡ x.failed_receives → y.failed_sends ≡ x.failed_sends → Moves reader total [] s s x y
-moves_still reader total s x y log receives sends = record {
-  fit = tt {0};
-  reached = refl;
-  called = record {
-    log = subst (GrowsBy [] x.log) (sym log) (grows_by_none x.log);
-    failed_receives = omega (arith, receives);
-    failed_sends = omega (arith, sends);
-  };
-}
-
-moves_on : {reader : Reader} {total : ℕ} {calls more : List Call} {s t u : SessionState} {x y z : LinkValue}
-    → Moves reader total calls s t x y → Moves reader total more t u y z → Moves reader total (more ++ calls) s u x z
-moves_on {reader = reader} {total = total} {calls = calls} {more = more} {s = s} {x = x} {y = y} {z = z} first second =
+moves_on : {O : Type 0} {run : Run O} {calls more : List Call} {s t u : SessionState} {x y z : LinkValue}
+    → Moves run calls s t x y → Moves run more t u y z → Moves run (more ++ calls) s u x z
+moves_on {run = run} {calls = calls} {more = more} {s = s} {x = x} {y = y} {z = z} first second =
     record {
-      fit = joined_fit reader total s more calls first.fit
-          (subst (λ t. AllFit reader total t more) first.reached second.fit);
-      reached = second.reached ∙ ap (λ t. after_calls reader total t more) first.reached
-          ∙ sym (joined_calls reader total s more calls);
+      fit = joined_fit run.reader run.total s more calls first.fit
+          (subst (λ t. AllFit run.reader run.total t more) first.reached second.fit);
+      reached = second.reached ∙ ap (λ t. after_calls run.reader run.total t more) first.reached
+          ∙ sym (joined_calls run.reader run.total s more calls);
       called = called_on calls more x y z first.called second.called;
     }
 
 -- one call, where a session goes on from s as t
-moves_by : (reader : Reader) (total : ℕ) (call : Call) (s t : SessionState) (x y : LinkValue) → going total s ≡ t →
-    Fits call t.stage
-    → WereCalled (call ∷ []) x y → Moves reader total (call ∷ []) s (after_call reader call t) x y
-moves_by reader total call s t x y goes fits called = record {
+moves_by : {O : Type 0} (run : Run O) (call : Call) (s t : SessionState) (x y : LinkValue)
+    → going run.reader run.total s ≡ t → Fits call t.stage → WereCalled (call ∷ []) x y
+    → Moves run (call ∷ []) s (after_call run.reader call t) x y
+moves_by run call s t x y goes fits called = record {
   fit = (tt {0}, subst (λ t. Fits call t.stage) (sym goes) fits);
-  reached = ap (after_call reader call) (sym goes);
+  reached = ap (after_call run.reader call) (sym goes);
   called = called;
 }
 
--- ---- Tellings
-
--- nothing is told
-pub tells_none : (s t : SessionState) (x y : LinkValue) → t.tellings ≡ s.tellings → y.told ≡ x.told → TellsLink s t x y
-tells_none s t x y same kept = record {
-  grows = λ start grown. subst (GrowsBy t.tellings start) (sym kept)
-      (subst (λ tellings. GrowsBy tellings start x.told) (sym same) grown);
-}
-
--- one event is told
-pub tells_one : (one : Telling) (s t : SessionState) (x y : LinkValue) → t.tellings ≡ one ∷ s.tellings
-    → GrowsBy (one ∷ []) x.told y.told → TellsLink s t x y
-tells_one one s t x y same grew = record {
-  grows = λ start grown. subst (λ tellings. GrowsBy tellings start y.told) (sym same)
-      (grows_on s.tellings (one ∷ []) start x.told y.told grown grew);
-}
+-- The act that a reader finds in an event is one of it.
+pub is_act_in : (reader : Reader) → IsReader reader → (event : EventValue) → IsActOfEvent event (act_in reader event)
+is_act_in reader reads (rtcp_arrived moment peer word octets) = (reader.rtcp octets, reads.rtcp octets, refl)
+is_act_in reader reads (rtp_arrived moment peer word octets) = (reader.rtp octets, reads.rtp octets, refl)
+is_act_in reader reads (packet_sent moment timestamp octets) = refl
+is_act_in reader reads (time_passed moment first_word second_word) = refl
+is_act_in reader reads (leave_asked moment word) = refl
+is_act_in reader reads (settings_given moment settings) = refl
+is_act_in reader reads (forget_asked moment ssrc) = refl
 
 -- ---- Parts of a session
 
-pub walks_nowhere : (reader : Reader) (total : ℕ) (s : SessionState) (kept : ParticipantValue) (words : Stream)
-    (counted : Tally) (at : SessionState → Type 0) (v : LinkValue) → Holds s kept words counted → at s
-    → Walks reader total s s v v kept words counted at s.turns s.leaving s.pauses
-walks_nowhere reader total s kept words counted at v holds ends = record {
+pub walks_nowhere : {O : Type 0} (takes : Notice → O → O → Type 0) (run : Run O) (s : SessionState) (kept : Kept O)
+    (counted : Tally) (at : SessionState → Type 0) → Holds takes run s kept counted → at s
+    → Walks takes run s kept.link kept counted at (turns_of s)
+walks_nowhere takes run s kept counted at holds ends = record {
   calls = [];
   reached = s;
-  moves = moves_still reader total s v v refl refl refl;
-  tells = tells_none s s v v refl refl;
+  moves = record {
+    fit = tt {0};
+    reached = refl;
+    called = record {
+      log = grows_by_none kept.link.log;
+      failed_receives = omega (arith);
+      failed_sends = omega (arith);
+    };
+  };
   holds = holds;
   ends = ends;
   turns = refl;
-  leaving = refl;
-  paused = refl;
 }
 
-module _ {reader : Reader} {total : ℕ} {s u : SessionState} {x y : LinkValue} {kept : ParticipantValue} {words : Stream}
-    {counted : Tally} {at : SessionState → Type 0} {n : ℕ} {b : Bool} {pauses : List Pause} where
-  pub walks_to : (walk : Walks reader total s u x y kept words counted at n b pauses) {to : SessionState → Type 0}
-      → to walk.reached → Walks reader total s u x y kept words counted to n b pauses
+module _ {O : Type 0} {takes : Notice → O → O → Type 0} {run : Run O} {s : SessionState} {before : LinkValue}
+    {after : Kept O} {counted : Tally} {at : SessionState → Type 0} {turns : Turns} where
+  pub walks_to : (walk : Walks takes run s before after counted at turns) {to : SessionState → Type 0}
+      → to walk.reached → Walks takes run s before after counted to turns
   walks_to walk ends = record {
     calls = walk.calls;
     reached = walk.reached;
     moves = walk.moves;
-    tells = walk.tells;
     holds = walk.holds;
     ends = ends;
     turns = walk.turns;
-    leaving = walk.leaving;
-    paused = walk.paused;
   }
 
-  -- calls and tellings before it
-  pub walks_after : {w : LinkValue} {v r : SessionState} {calls : List Call} → Moves reader total calls v u w x
-      → TellsLink r s w x → Walks reader total s u x y kept words counted at n b pauses
-      → Walks reader total r v w y kept words counted at n b pauses
-  walks_after {calls = calls} moves tells walk = record {
+  -- calls before it
+  pub walks_after : {start : LinkValue} {r : SessionState} {calls : List Call} → Moves run calls r s start before
+      → Walks takes run s before after counted at turns
+      → Walks takes run r start after counted at turns
+  walks_after {calls = calls} moves walk = record {
     calls = walk.calls ++ calls;
     reached = walk.reached;
     moves = moves_on moves walk.moves;
-    tells = record { grows = λ start grown. walk.tells.grows start (tells.grows start grown) };
     holds = walk.holds;
     ends = walk.ends;
     turns = walk.turns;
-    leaving = walk.leaving;
-    paused = walk.paused;
   }
 
-  pub walks_as : {m : ℕ} {c : Bool} {others : List Pause} → n ≡ m → b ≡ c → pauses ≡ others
-      → Walks reader total s u x y kept words counted at n b pauses
-      → Walks reader total s u x y kept words counted at m c others
-  walks_as {m = m} {c = c} same stays alike walk = record {
+  -- the turns that it leaves
+  pub is_left : (walk : Walks takes run s before after counted at turns) → walk.reached.turns ≡ turns.left
+  is_left walk = ap (λ (t : Turns). t.left) walk.turns
+
+  pub is_leaving : (walk : Walks takes run s before after counted at turns) → walk.reached.leaving ≡ turns.has_left
+  is_leaving walk = ap (λ (t : Turns). t.has_left) walk.turns
+
+  pub is_paused : (walk : Walks takes run s before after counted at turns) → walk.reached.pauses ≡ turns.pauses
+  is_paused walk = ap (λ (t : Turns). t.pauses) walk.turns
+
+  pub walks_as : {others : Turns} → turns ≡ others → Walks takes run s before after counted at turns
+      → Walks takes run s before after counted at others
+  walks_as same walk = record {
     calls = walk.calls;
     reached = walk.reached;
     moves = walk.moves;
-    tells = walk.tells;
     holds = walk.holds;
     ends = walk.ends;
     turns = walk.turns ∙ same;
-    leaving = walk.leaving ∙ stays;
-    paused = walk.paused ∙ alike;
   }
 
-pub walks_on : {reader : Reader} {total : ℕ} {s u : SessionState} {x y z : LinkValue} {kept kept' : ParticipantValue}
-    {words words' : Stream} {counted counted' : Tally} {at to : SessionState → Type 0} {n m k : ℕ} {b : Bool}
-    {pauses more others : List Pause} (first : Walks reader total s u x y kept words counted at n b pauses)
-    → Walks reader total first.reached first.reached y z kept' words' counted' to m first.reached.leaving more → m ≡ k
-    → more ≡ others → Walks reader total s u x z kept' words' counted' to k b others
-walks_on first walk same alike = walks_as same first.leaving alike (walks_after first.moves first.tells walk)
+pub walks_on : {O : Type 0} {takes : Notice → O → O → Type 0} {run : Run O} {s : SessionState}
+    {before : LinkValue} {mid after : Kept O} {counted counted' : Tally} {at to : SessionState → Type 0}
+    {turns more : Turns} (first : Walks takes run s before mid counted at turns)
+    → Walks takes run first.reached mid.link after counted' to more → Walks takes run s before after counted' to more
+walks_on first walk = walks_after first.moves walk
 
 -- the exit of a `?`, where the call's claim and the function's are the same of a cause
 pub stops : {A B : Type 0} {cause : Cause} (P : Result A Cause → Type 0) (Q : Result B Cause → Type 0)
@@ -220,9 +205,9 @@ goes_on : (next s : SessionState) (stage : Stage) → IsUnderWay stage → reste
 goes_on next s resting under_way = absurd under_way
 goes_on next s stage under_way = refl
 
-pub going_under_way : (total : ℕ) (s : SessionState) (stage : Stage) → s.stage ≡ stage → IsUnderWay stage →
-    going total s ≡ s
-going_under_way total s stage is under_way = goes_on _ s s.stage (subst IsUnderWay (sym is) under_way)
+going_under_way : (reader : Reader) (total : ℕ) (s : SessionState) (stage : Stage) → s.stage ≡ stage → IsUnderWay stage →
+    going reader total s ≡ s
+going_under_way reader total s stage is under_way = goes_on _ s s.stage (subst IsUnderWay (sym is) under_way)
 
 pub either_way : (next : Stage) (answer : AnswerValue) → led_to next next answer ≡ next
 either_way next (Ok step) = refl
@@ -236,11 +221,10 @@ led_as next refused (Err refusal) = refl
 -- ---- Turns
 
 -- The participant is told an event, and answers it: where that leads, with these words and counts.
-abbrev pub told_as : EventValue → Act → AnswerValue → Stream → Tally → Stage → SessionState → SessionState
-told_as event act answer words tally stage s = record {
-  history = followed_by s.history act;
-  told = act ∷ s.told;
-  tellings = telling event answer ∷ s.tellings;
+abbrev pub told_as : Reader → EventValue → AnswerValue → Stream → Tally → Stage → SessionState → SessionState
+told_as reader event answer words tally stage s = record {
+  history = followed_by s.history (act_in reader event);
+  notices = event_told (telling event answer) ∷ s.notices;
   words = words;
   tally = tally;
   turns = s.turns;
@@ -250,34 +234,35 @@ told_as event act answer words tally stage s = record {
 }
 
 -- The clock is read, and the participant told that time has passed.
-pub tick_told : (reader : Reader) (total moment : ℕ) (s : SessionState) (before : ParticipantValue)
-    (words mid rest : Stream) (first second : ℕ) (counted told : Tally) (answer : AnswerValue) (x y : LinkValue)
-    → Holds s before words counted → s.stage ≡ deciding
-    → WereCalled (clock_read moment ∷ []) x y → told ≡ with_moment moment counted → (first, mid) ≡ next_u32 words
-    → (second, rest) ≡ next_u32 mid
+pub tick_told : {O : Type 0} {takes : Notice → O → O → Type 0} (run : Run O) (moment : ℕ) (s : SessionState)
+    (before : Kept O) (mid rest : Stream) (first second : ℕ) (counted told : Tally) (answer : AnswerValue)
+    (y : LinkValue) → Holds takes run s before counted → s.stage ≡ deciding
+    → WereCalled (clock_read moment ∷ []) before.link y → told ≡ with_moment moment counted
+    → (first, mid) ≡ next_u32 before.words → (second, rest) ≡ next_u32 mid
     → answer ≡ answer_of s.history (ticked told.moment first second)
-    → Moves reader total (clock_read moment ∷ []) s (told_as (time_passed told.moment first second)
-    (ticked told.moment first second) answer rest told (stage_to_send resting resting answer) s) x y
-tick_told reader total moment s before words mid rest first second counted told answer x y holds is called counts one
-    two answers =
+    → Moves run (clock_read moment ∷ []) s (told_as run.reader (time_passed told.moment first second) answer rest told
+    (stage_to_send resting resting answer) s) before.link y
+tick_told run moment s before mid rest first second counted told answer y holds is called counts one two answers =
+    let reader = run.reader in
+    let event = time_passed told.moment first second in
     let fits : Fits (clock_read moment) s.stage = subst ReadsClock (sym is) (tt {0}) in
-    let at = moves_by reader total (clock_read moment) s s x y (going_under_way total s deciding is (tt {0})) fits
-    called in
+    let at = moves_by run (clock_read moment) s s before.link y
+    (going_under_way reader run.total s deciding is (tt {0})) fits called in
     let drawn : next_u32 s.words ≡ (first, mid) = ap next_u32 (sym holds.words) ∙ sym one in
     let u : Tally → SessionState = λ tally. with_tally tally s in
-    let ticks : told_as (time_passed told.moment first second) (ticked told.moment first second)
-    (answer_of s.history (ticked told.moment first second)) rest told
-    (stage_to_send resting resting (answer_of s.history (ticked told.moment first second))) s
-    ≡ ticked_now (with_tally (with_moment moment s.tally) s) =
-    ap (λ q. ticked_with (first, mid) q (u told)) two ∙ ap (λ p. ticked_with p (next_u32 p.1) (u told)) (sym drawn)
-    ∙ ap (λ tally. ticked_now (u tally)) (counts ∙ ap (with_moment moment) holds.tally) in
-    let there = ap (λ a. told_as (time_passed told.moment first second) (ticked told.moment first second) a rest told
-    (stage_to_send resting resting a) s) answers ∙ ticks ∙ ap (λ stage. after_clock moment stage s) (sym is) in
-    subst (λ t. Moves reader total (clock_read moment ∷ []) s t x y) (sym there) at
+    let given = answer_of s.history (ticked told.moment first second) in
+    let ticks : told_as reader event given rest told (stage_to_send resting resting given) s
+    ≡ ticked_now reader (with_tally (with_moment moment s.tally) s) =
+    ap (λ q. ticked_with reader (first, mid) q (u told)) two
+    ∙ ap (λ p. ticked_with reader p (next_u32 p.1) (u told)) (sym drawn)
+    ∙ ap (λ tally. ticked_now reader (u tally)) (counts ∙ ap (with_moment moment) holds.tally) in
+    let there = ap (λ a. told_as reader event a rest told (stage_to_send resting resting a) s) answers ∙ ticks
+    ∙ ap (λ stage. after_clock reader moment stage s) (sym is) in
+    subst (λ t. Moves run (clock_read moment ∷ []) s t before.link y) (sym there) at
 
-rests_at : (total : ℕ) (s : SessionState) → s.stage ≡ resting →
-    going total s ≡ turn_by (next_at s) s.turns (after_turns total s) s
-rests_at total s rests = ap (λ stage. rested (turn_or (after_turns total s) s) stage s) rests
+rests_at : (reader : Reader) (total : ℕ) (s : SessionState) → s.stage ≡ resting →
+    going reader total s ≡ turn_by (next_at s) s.turns (after_turns reader total s) s
+rests_at reader total s rests = ap (λ stage. rested (turn_or (after_turns reader total s) s) stage s) rests
 
 -- where a turn begins
 turn_there : (left : ℕ) (next : Option ℕ) (otherwise s : SessionState) → IsTrue (is_some next)
@@ -285,80 +270,87 @@ turn_there : (left : ℕ) (next : Option ℕ) (otherwise s : SessionState) → I
 turn_there left None otherwise s there = absurd cc
 turn_there left (Some moment) otherwise s there = refl
 
-turn_begins : (total left : ℕ) (s : SessionState) → HasTurn left s →
-    going total s ≡ at_stage beginning (with_turns left s.leaving (paused false s))
-turn_begins total left s has = rests_at total s has.resting
-    ∙ ap (λ turns. turn_by (next_at s) turns (after_turns total s) s) has.turns
-    ∙ turn_there left (next_at s) (after_turns total s) s has.there
+turn_begins : (reader : Reader) (total left : ℕ) (s : SessionState) → HasTurn left s →
+    going reader total s ≡ at_stage beginning (with_turns left s.leaving (paused false s))
+turn_begins reader total left s has = rests_at reader total s has.resting
+    ∙ ap (λ turns. turn_by (next_at s) turns (after_turns reader total s) s) has.turns
+    ∙ turn_there left (next_at s) (after_turns reader total s) s has.there
 
 -- A turn begins with the clock.
-pub turn_clocked : (reader : Reader) (total left moment : ℕ) (s : SessionState) (kept : ParticipantValue)
-    (words : Stream)
-    (counted told : Tally) (x y : LinkValue)
-    → Holds s kept words counted → HasTurn left s → WereCalled (clock_read moment ∷ []) x y → y.told ≡ x.told →
-    told ≡ with_moment moment counted
-    → Walks reader total s s x y kept words told (λ t. t.stage ≡ hearing RtcpPort) left s.leaving
-    (pause s.leaving s.tally.moment false ∷ s.pauses)
-turn_clocked reader total left moment s kept words counted told x y holds has called still counts =
+pub turn_clocked : {O : Type 0} {takes : Notice → O → O → Type 0} (run : Run O) (left moment : ℕ) (s : SessionState)
+    (kept : Kept O) (counted told : Tally) (y : LinkValue) → Holds takes run s kept counted → HasTurn left s
+    → WereCalled (clock_read moment ∷ []) kept.link y → told ≡ with_moment moment counted
+    → Walks takes run s kept.link (record kept { link = y }) told (λ t. t.stage ≡ hearing RtcpPort)
+    (turns_with left s.leaving (pause s.leaving s.tally.moment false ∷ s.pauses))
+turn_clocked {takes = takes} run left moment s kept counted told y holds has called counts =
     let begun = at_stage beginning (with_turns left s.leaving (paused false s)) in
-    let t = after_call reader (clock_read moment) begun in
-    walks_after (moves_by reader total (clock_read moment) s begun x y (turn_begins total left s has) (tt {0}) called)
-    (tells_none s t x y refl still) (walks_nowhere reader total t kept words told (λ t. t.stage ≡ hearing RtcpPort) y
-    (record {
+    let t = after_call run.reader (clock_read moment) begun in
+    walks_after (moves_by run (clock_read moment) s begun kept.link y (turn_begins run.reader run.total left s has)
+    (tt {0}) called)
+    (walks_nowhere takes run t (record kept { link = y }) told (λ t. t.stage ≡ hearing RtcpPort) (record {
       participant = holds.participant;
       words = holds.words;
       tally = counts ∙ ap (with_moment moment) holds.tally;
+      told = holds.told;
     }) refl)
 
 -- A datagram came, a word is drawn, and the participant is told.
-pub datagram_told : (reader : Reader) (total : ℕ) (port : Port) (peer : ℕ) (octets given : List ℕ) (s : SessionState)
-    (before : ParticipantValue) (words rest : Stream) (word : ℕ) (counted mid told : Tally) (event : EventValue)
-    (answer : AnswerValue) (x y : LinkValue) → Holds s before words counted → s.stage ≡ hearing port
-    → octets ≡ given → WereCalled (port_heard port 20000 (datagram peer given) ∷ []) x y → (word, rest) ≡ next_u32 words
-    → mid ≡ with_datagram counted → told ≡ with_arrival answer mid → event ≡ event_at port mid.moment peer word octets
-    → answer ≡ answer_of s.history (arrival_at reader port mid.moment peer word octets)
-    → Moves reader total (port_heard port 20000 (datagram peer given) ∷ []) s (told_as event
-    (arrival_at reader port mid.moment peer word octets) answer rest told
-    (stage_to_send (after_port port) (after_port port) answer) s) x y
-datagram_told reader total port peer octets given s before words rest word counted mid told event answer x y holds is
-    named called drawn counts tells event_is answers =
+pub datagram_told : {O : Type 0} {takes : Notice → O → O → Type 0} (run : Run O) (port : Port) (peer : ℕ)
+    (octets given : List ℕ) (s : SessionState) (before : Kept O) (rest : Stream) (word : ℕ)
+    (counted mid told : Tally) (event : EventValue) (answer : AnswerValue) (y : LinkValue)
+    → Holds takes run s before counted → s.stage ≡ hearing port → octets ≡ given
+    → WereCalled (port_heard port 20000 (datagram peer given) ∷ []) before.link y
+    → (word, rest) ≡ next_u32 before.words → mid ≡ with_datagram counted → told ≡ with_arrival answer mid
+    → event ≡ event_at port mid.moment peer word octets → answer ≡ answer_of s.history (act_in run.reader event)
+    → Moves run (port_heard port 20000 (datagram peer given) ∷ []) s (told_as run.reader event answer rest told
+    (stage_to_send (after_port port) (after_port port) answer) s) before.link y
+datagram_told run port peer octets given s before rest word counted mid told event answer y holds is named called drawn
+    counts tells event_is answers =
     let next = after_port port in
+    let reader = run.reader in
     let event_by : Tally → EventValue = λ c. event_at port c.moment peer word octets in
-    let act_by : Tally → Act = λ c. arrival_at reader port c.moment peer word octets in
-    let told_by : EventValue → Act → AnswerValue → Tally → SessionState =
-    λ e act a c. told_as e act a rest c (stage_to_send next next a) s in
-    let came : Tally → ℕ × Stream → SessionState = λ c. λ p. came_with (λ w. event_at port c.moment peer w octets)
-    (λ w. arrival_at reader port c.moment peer w octets) next p (with_tally c s) in
-    let there = ap (λ e. told_by e (act_by mid) answer told) event_is
-    ∙ ap (told_by (event_by mid) (act_by mid) answer) tells
-    ∙ ap (λ a. told_by (event_by mid) (act_by mid) a (with_arrival a mid)) answers
-    ∙ ap (λ c. told_by (event_by c) (act_by c) (answer_of s.history (act_by c))
-    (with_arrival (answer_of s.history (act_by c)) c)) counts
+    let told_by : EventValue → AnswerValue → Tally → SessionState =
+    λ e a c. told_as reader e a rest c (stage_to_send next next a) s in
+    let answered : EventValue → Tally → SessionState =
+    λ e c. let a = answer_of s.history (act_in reader e) in told_by e a (with_arrival a c) in
+    let came : Tally → ℕ × Stream → SessionState =
+    λ c. λ p. came_with reader (λ w. event_at port c.moment peer w octets) next p (with_tally c s) in
+    let there = ap (told_by event answer) tells ∙ ap (λ a. told_by event a (with_arrival a mid)) answers
+    ∙ ap (λ e. answered e mid) event_is ∙ ap (λ c. answered (event_by c) c) counts
     ∙ ap (λ c. came c (word, rest)) holds.tally ∙ ap (came s.tally) (drawn ∙ ap next_u32 holds.words)
     ∙ ap (λ o. heard_at reader port (datagram peer o) s) named in
-    subst (λ t. Moves reader total (port_heard port 20000 (datagram peer given) ∷ []) s t x y) (sym there)
-    (moves_by reader total (port_heard port 20000 (datagram peer given)) s s x y
-    (going_under_way total s (hearing port) is (tt {0})) (subst (Hears port 20000) (sym is) (refl, refl)) called)
+    subst (λ t. Moves run (port_heard port 20000 (datagram peer given) ∷ []) s t before.link y) (sym there)
+    (moves_by run (port_heard port 20000 (datagram peer given)) s s before.link y
+    (going_under_way reader run.total s (hearing port) is (tt {0})) (subst (Hears port 20000) (sym is) (refl, refl))
+    called)
 
--- A compound is sent.
-pub sent_over : (reader : Reader) (total : ℕ) (next : Stage) (changed : Option ℕ) (out : OutValue) (octets : List ℕ)
-    (failed lost : Bool) (s : SessionState) (kept : ParticipantValue) (words : Stream) (counted told : Tally)
-    (x y : LinkValue) → Holds s kept words counted → s.stage ≡ sending out changed next → octets ≡ out.octets
-    → WereCalled (compound_sent octets failed ∷ []) x y → y.told ≡ x.told
+-- A compound is sent, and the observer is told of it.
+pub sent_over : {O : Type 0} {takes : Notice → O → O → Type 0} (run : Run O) (next : Stage) (changed : Option ℕ)
+    (out : OutValue) (octets : List ℕ) (failed lost : Bool) (s : SessionState) (before after : Kept O)
+    (counted told : Tally) → Holds takes run s before counted → s.stage ≡ sending out changed next
+    → octets ≡ out.octets → WereCalled (compound_sent octets failed ∷ []) before.link after.link
+    → after.participant ≡ before.participant → after.words ≡ before.words
+    → takes (send_tried lost) before.observer after.observer
     → told ≡ with_send out.kind changed lost counted → lost ≡ failed
-    → Walks reader total s s x y kept words told (λ t. t.stage ≡ next) s.turns s.leaving s.pauses
-sent_over reader total next changed out octets failed lost s kept words counted told x y holds is named called still
-    counts same =
-    let t = at_stage next (with_tally (with_send out.kind changed failed s.tally) s) in
-    let sends = moves_by reader total (compound_sent octets failed) s s x y
-    (going_under_way total s (sending out changed next) is (tt {0})) (subst (Sends octets) (sym is) named) called in
-    let moves = subst (λ t. Moves reader total (compound_sent octets failed ∷ []) s t x y)
+    → Walks takes run s before.link after told (λ t. t.stage ≡ next) (turns_of s)
+sent_over {takes = takes} run next changed out octets failed lost s before after counted told holds is named called same
+    alike takes_it counts fails =
+    let t = after_sending failed (sending out changed next) s in
+    let sends = moves_by run (compound_sent octets failed) s s before.link after.link
+    (going_under_way run.reader run.total s (sending out changed next) is (tt {0}))
+    (subst (Sends octets) (sym is) named) called in
+    let moves = subst (λ t. Moves run (compound_sent octets failed ∷ []) s t before.link after.link)
     (ap (λ stage. after_sending failed stage s) is) sends in
-    walks_after moves (tells_none s t x y refl still) (walks_nowhere reader total t kept words told _ y (record {
-      participant = holds.participant;
-      words = holds.words;
-      tally = counts ∙ ap (λ b. with_send out.kind changed b counted) same
+    walks_after moves (walks_nowhere takes run t after told _ (record {
+      participant = subst (λ p. StandsAt p s.history) (sym same) holds.participant;
+      words = alike ∙ holds.words;
+      tally = counts ∙ ap (λ b. with_send out.kind changed b counted) fails
           ∙ ap (with_send out.kind changed failed) holds.tally;
+      told = (
+        before.observer,
+        holds.told,
+        subst (λ b. takes (send_tried b) before.observer after.observer) fails takes_it,
+      );
     }) refl)
 
 pub none_left : (next : Option ℕ) → is_some next ≡ false → next ≡ None
@@ -372,65 +364,63 @@ turns_left s there (inr zero) = zero
 
 -- ---- What comes next
 
-goes_alike : (reader : Reader) (total : ℕ) (s u : SessionState) (calls : List Call) → going total s ≡ going total u →
+goes_alike : (reader : Reader) (total : ℕ) (s u : SessionState) (calls : List Call) → going reader total s ≡ going reader total u →
     AllFit reader total u calls
-    → AllFit reader total s calls × (going total (after_calls reader total s calls) ≡ going total
+    → AllFit reader total s calls × (going reader total (after_calls reader total s calls) ≡ going reader total
     (after_calls reader total u calls))
 goes_alike reader total s u [] same fit = (tt {0}, same)
 goes_alike reader total s u (call ∷ earlier) same (fit, fits) =
     let (fit', same') = goes_alike reader total s u earlier same fit in
-    ((fit', subst (λ t. Fits call t.stage) (sym same') fits), ap (λ t. going total (after_call reader call t)) same')
+    ((fit', subst (λ t. Fits call t.stage) (sym same') fits), ap (λ t. going reader total (after_call reader call t)) same')
 
 -- From where a part of a session came to, the end comes next.
-abbrev pub IsClosed : (total : ℕ) (t : SessionState) (to : SessionState → Type 0) → Type 0
-IsClosed total t to = (stage : Stage) × (going total t ≡ at_stage stage t) × to (at_stage stage t)
+abbrev pub IsClosed : {O : Type 0} (run : Run O) (t : SessionState) (to : SessionState → Type 0) → Type 0
+IsClosed run t to = (stage : Stage) × (going run.reader run.total t ≡ at_stage stage t) × to (at_stage stage t)
 
 -- The last part of a session, from where it goes on as from an earlier standing.
-pub closes : {reader : Reader} {total : ℕ} {s u : SessionState} {x y : LinkValue} {kept : ParticipantValue}
-    {words : Stream}
-    {counted : Tally} {at to : SessionState → Type 0} {n : ℕ} {b : Bool} {pauses : List Pause}
-    → going total s ≡ going total u → (walk : Walks reader total s u x y kept words counted at n b pauses)
-    → IsClosed total walk.reached to → Closes reader total s x y kept words counted to pauses
-closes {reader = reader} {total = total} {s = s} {u = u} same walk (stage, goes, ends) =
-    let (fit, alike) = goes_alike reader total s u walk.calls same walk.moves.fit in
+pub closes : {O : Type 0} {takes : Notice → O → O → Type 0} {run : Run O} {s u : SessionState} {before : LinkValue}
+    {after : Kept O} {counted : Tally} {at to : SessionState → Type 0} {turns : Turns}
+    → going run.reader run.total s ≡ going run.reader run.total u
+    → (walk : Walks takes run u before after counted at turns) → IsClosed run walk.reached to
+    → Closes takes run s before after counted to turns.pauses
+closes {run = run} {s = s} {u = u} same walk (stage, goes, ends) =
+    let (fit, alike) = goes_alike run.reader run.total s u walk.calls same walk.moves.fit in
     record {
       calls = walk.calls;
       reached = at_stage stage walk.reached;
       comes = record {
         fit = fit;
-        reached = sym goes ∙ ap (going total) walk.moves.reached ∙ sym alike;
+        reached = sym goes ∙ ap (going run.reader run.total) walk.moves.reached ∙ sym alike;
         called = walk.moves.called;
       };
-      tells = record { grows = walk.tells.grows };
       holds = record {
         participant = walk.holds.participant;
         words = walk.holds.words;
         tally = walk.holds.tally;
+        told = walk.holds.told;
       };
       ends = ends;
-      paused = walk.paused;
+      paused = is_paused walk;
     }
 
-pub closes_on : {reader : Reader} {total : ℕ} {s : SessionState} {x y z : LinkValue} {kept kept' : ParticipantValue}
-    {words words' : Stream} {counted counted' : Tally} {at to : SessionState → Type 0} {n : ℕ} {b : Bool}
-    {pauses more : List Pause} (first : Walks reader total s s x y kept words counted at n b pauses)
-    → Closes reader total first.reached y z kept' words' counted' to more →
-    Closes reader total s x z kept' words' counted' to more
-closes_on {reader = reader} {total = total} {s = s} {x = x} {y = y} {z = z} first last =
+pub closes_on : {O : Type 0} {takes : Notice → O → O → Type 0} {run : Run O} {s : SessionState}
+    {before : LinkValue} {mid after : Kept O} {counted counted' : Tally} {at to : SessionState → Type 0}
+    {turns : Turns} {pauses : List Pause} (first : Walks takes run s before mid counted at turns)
+    → Closes takes run first.reached mid.link after counted' to pauses → Closes takes run s before after counted' to pauses
+closes_on {run = run} {s = s} {before = before} {mid = mid} {after = after} first last =
     let calls = first.calls in
     let more = last.calls in
     record {
       calls = more ++ calls;
       reached = last.reached;
       comes = record {
-        fit = joined_fit reader total s more calls first.moves.fit
-            (subst (λ t. AllFit reader total t more) first.moves.reached last.comes.fit);
+        fit = joined_fit run.reader run.total s more calls first.moves.fit
+            (subst (λ t. AllFit run.reader run.total t more) first.moves.reached last.comes.fit);
         reached = last.comes.reached
-            ∙ ap (λ t. going total (after_calls reader total t more)) first.moves.reached
-            ∙ ap (going total) (sym (joined_calls reader total s more calls));
-        called = called_on calls more x y z first.moves.called last.comes.called;
+            ∙ ap (λ t. going run.reader run.total (after_calls run.reader run.total t more)) first.moves.reached
+            ∙ ap (going run.reader run.total) (sym (joined_calls run.reader run.total s more calls));
+        called = called_on calls more before mid.link after.link first.moves.called last.comes.called;
       };
-      tells = record { grows = λ start grown. last.tells.grows start (first.tells.grows start grown) };
       holds = last.holds;
       ends = last.ends;
       paused = last.paused;
@@ -444,92 +434,105 @@ leave_there : (next : Option ℕ) (otherwise s : SessionState) → IsTrue (is_so
 leave_there None otherwise s there = absurd cc
 leave_there (Some moment) otherwise s there = refl
 
-leave_comes : (total : ℕ) (s : SessionState) → IsLeaveDue s →
-    going total s ≡ going total (left_with total (next_u32 s.words) s)
-leave_comes total s due = rests_at total s due.resting
-    ∙ ap (λ turns. turn_by (next_at s) turns (after_turns total s) s) due.turns
-    ∙ leave_there (next_at s) (after_turns total s) s due.there
-    ∙ ap (λ leaving. if leaving then at_stage (ended Done) s else gone_on (left_with total (next_u32 s.words) s))
+leave_comes : (reader : Reader) (total : ℕ) (s : SessionState) → IsLeaveDue s →
+    going reader total s ≡ going reader total (left_with reader total (next_u32 s.words) s)
+leave_comes reader total s due = rests_at reader total s due.resting
+    ∙ ap (λ turns. turn_by (next_at s) turns (after_turns reader total s) s) due.turns
+    ∙ leave_there (next_at s) (after_turns reader total s) s due.there
+    ∙ ap (λ leaving. if leaving then at_stage (ended Done) s else gone_on (left_with reader total (next_u32 s.words) s))
     due.leaving
 
--- A word is drawn, and the participant told to leave, which the link is told and what it hands out is sent.
-pub leave_told : (reader : Reader) (total : ℕ) (s : SessionState) (before after : ParticipantValue)
-    (words rest : Stream)
-    (word : ℕ) (counted told : Tally) (answer : AnswerValue) (at : SessionState → Type 0) (x y : LinkValue)
-    → Holds s before words counted → IsLeaveDue s → (word, rest) ≡ next_u32 words
-    → answer ≡ answer_of s.history (asked_to_leave counted.moment word)
-    → StandsAt after (followed_by s.history (asked_to_leave counted.moment word))
-    → ((s t : SessionState) → Holds t after rest counted → t.stage ≡ stage_to_send resting (ended Done) answer
-    → t.tellings ≡ telling (leave_asked counted.moment word) answer ∷ s.tellings
-    → Walks reader total s t x y after rest told at t.turns t.leaving t.pauses)
-    → (u : SessionState) × (going total s ≡ going total u) × Walks reader total s u x y after rest told at total true
-    (pause false counted.moment true ∷ s.pauses)
-leave_told reader total s before after words rest word counted told answer at x y holds due drawn answers stands tells =
+-- A word is drawn, and the participant told to leave. The observer is told that, and what it hands out is sent.
+pub leave_told : {O : Type 0} {takes : Notice → O → O → Type 0} (run : Run O) (s : SessionState)
+    (before after : Kept O) (participant : ParticipantValue) (rest : Stream) (word : ℕ) (counted told : Tally)
+    (answer : AnswerValue) (at : SessionState → Type 0) → Holds takes run s before counted → IsLeaveDue s
+    → (word, rest) ≡ next_u32 before.words → answer ≡ answer_of s.history (asked_to_leave counted.moment word)
+    → StandsAt participant (followed_by s.history (asked_to_leave counted.moment word))
+    → ((t : SessionState) → ((observer : O)
+    → takes (event_told (telling (leave_asked counted.moment word) answer)) before.observer observer
+    → Holds takes run t (keeps before.link participant rest observer) counted)
+    → t.stage ≡ stage_to_send resting (ended Done) answer
+    → Walks takes run t before.link after told at (turns_of t))
+    → (u : SessionState) × (going run.reader run.total s ≡ going run.reader run.total u)
+    × Walks takes run u before.link after told at
+    (turns_with run.total true (pause false counted.moment true ∷ s.pauses))
+leave_told run s before after participant rest word counted told answer at holds due drawn answers stands tells =
     let tally = holds.tally in
     let stream = holds.words in
-    let u = told_as (leave_asked counted.moment word) (asked_to_leave counted.moment word) answer rest counted
-    (stage_to_send resting (ended Done) answer) (with_turns total true (paused true s)) in
-    let there : left_with total (next_u32 s.words) s ≡ u = cc in (
+    let u = told_as run.reader (leave_asked counted.moment word) answer rest counted
+    (stage_to_send resting (ended Done) answer) (with_turns run.total true (paused true s)) in
+    let there : left_with run.reader run.total (next_u32 s.words) s ≡ u = cc in
+    let walk = tells u (λ observer took. record {
+      participant = stands;
+      words = refl;
+      tally = refl;
+      told = (before.observer, holds.told, took);
+    }) refl in (
       u,
-      leave_comes total s due ∙ ap (going total) there,
-      walks_as refl refl (ap (λ left. pause left s.tally.moment true ∷ s.pauses) due.leaving
-          ∙ ap (λ (t : Tally). pause false t.moment true ∷ s.pauses) (sym tally))
-          (tells s u (record { participant = stands; words = refl; tally = refl }) refl refl),
+      leave_comes run.reader run.total s due ∙ ap (going run.reader run.total) there,
+      walks_as (ap (λ left. turns_with run.total true (pause left s.tally.moment true ∷ s.pauses)) due.leaving
+          ∙ ap (λ (t : Tally). turns_with run.total true (pause false t.moment true ∷ s.pauses)) (sym tally))
+          walk,
     )
 
 -- ---- The end
 
 -- Where turns have ended, what comes next is the end, unless the leave is due.
-pub gone_ends : (total : ℕ) (s : SessionState) → s.stage ≡ resting → next_at s ≡ None →
-    going total s ≡ at_stage (ended Done) s
-gone_ends total s rests none = rests_at total s rests
-    ∙ ap (λ next. turn_by next s.turns (after_turns total s) s) none
+pub gone_ends : (reader : Reader) (total : ℕ) (s : SessionState) → s.stage ≡ resting → next_at s ≡ None →
+    going reader total s ≡ at_stage (ended Done) s
+gone_ends reader total s rests none = rests_at reader total s rests
+    ∙ ap (λ next. turn_by next s.turns (after_turns reader total s) s) none
 
 last_ends : (next : Option ℕ) (otherwise s : SessionState) → otherwise ≡ at_stage (ended Done) s
     → turn_by next 0 otherwise s ≡ at_stage (ended Done) s
 last_ends None otherwise s same = refl
 last_ends (Some moment) otherwise s same = same
 
-turns_end : (total : ℕ) (s : SessionState) → s.stage ≡ resting → (next_at s ≡ None) ⊎ (s.turns ≡ 0) → s.leaving ≡ true
-    → going total s ≡ at_stage (ended Done) s
-turns_end total s rests (inl none) leaving = gone_ends total s rests none
-turns_end total s rests (inr none) leaving = rests_at total s rests
-    ∙ ap (λ turns. turn_by (next_at s) turns (after_turns total s) s) none
-    ∙ last_ends (next_at s) (after_turns total s) s (ap (λ leaving. if leaving then at_stage (ended Done) s else
-    gone_on (left_with total (next_u32 s.words) s)) leaving)
+turns_end : (reader : Reader) (total : ℕ) (s : SessionState) → s.stage ≡ resting → (next_at s ≡ None) ⊎ (s.turns ≡ 0) → s.leaving ≡ true
+    → going reader total s ≡ at_stage (ended Done) s
+turns_end reader total s rests (inl none) leaving = gone_ends reader total s rests none
+turns_end reader total s rests (inr none) leaving = rests_at reader total s rests
+    ∙ ap (λ turns. turn_by (next_at s) turns (after_turns reader total s) s) none
+    ∙ last_ends (next_at s) (after_turns reader total s) s (ap (λ leaving. if leaving then at_stage (ended Done) s else
+    gone_on (left_with reader total (next_u32 s.words) s)) leaving)
 
 -- A cause that ended it stays.
-pub closed_at : (total : ℕ) (t : SessionState) {cause : Cause} → t.stage ≡ ended cause →
-    IsClosed total t (λ t. t.stage ≡ ended cause)
-closed_at total t {cause = cause} is =
-    (ended cause, going_under_way total t (ended cause) is (tt {0}) ∙ ap (λ stage. at_stage stage t) is, refl)
+pub closed_at : {O : Type 0} (run : Run O) (t : SessionState) {cause : Cause} → t.stage ≡ ended cause →
+    IsClosed run t (λ t. t.stage ≡ ended cause)
+closed_at run t {cause = cause} is = (
+  ended cause,
+  going_under_way run.reader run.total t (ended cause) is (tt {0}) ∙ ap (λ stage. at_stage stage t) is,
+  refl,
+)
 
 -- After the leave, the end of turns is that of the session.
-pub closed_after : {A : Type 0} (total : ℕ) (t : SessionState) (result : Result A Cause) → EndsTurns result t →
-    t.leaving ≡ true → IsClosed total t (EndsAs result)
-closed_after total t (Ok done) (rests, over) leaving = (ended Done, turns_end total t rests over leaving, refl)
-closed_after total t (Err cause) is leaving = closed_at total t is
+pub closed_after : {O A : Type 0} (run : Run O) (t : SessionState) (result : Result A Cause) → EndsTurns result t →
+    t.leaving ≡ true → IsClosed run t (EndsAs result)
+closed_after run t (Ok done) (rests, over) leaving =
+    (ended Done, turns_end run.reader run.total t rests over leaving, refl)
+closed_after run t (Err cause) is leaving = closed_at run t is
 
 -- The last part of a session that begins is the whole of it.
-pub runs_as : {reader : Reader} {total : ℕ} {s : SessionState} {x y : LinkValue} {kept : ParticipantValue}
-    {words : Stream} {counted : Tally} {at : SessionState → Type 0} {pauses : List Pause}
-    (closed : Closes reader total s x y kept words counted at pauses) (cause : Cause) (result : End)
-    → closed.reached.stage ≡ ended cause → result ≡ end_of cause counted
-    → s.tellings ≡ [] → RunsSession reader total s kept words result x y
-runs_as {x = x} closed cause result ends is none =
+pub runs_as : {O : Type 0} {takes : Notice → O → O → Type 0} {run : Run O} {s : SessionState} {before : LinkValue}
+    {after : Kept O} {counted : Tally} {at : SessionState → Type 0} {pauses : List Pause}
+    (closed : Closes takes run s before after counted at pauses) (cause : Cause) (result : End)
+    → closed.reached.stage ≡ ended cause → result ≡ end_of cause counted → RunsSession takes run s before after result
+runs_as closed cause result ends is =
     let why = ap (λ (end : End). end.cause) is in
     record {
       calls = closed.calls;
       reached = closed.reached;
       comes = closed.comes;
-      participant = closed.holds.participant;
-      words = closed.holds.words;
+      holds = record {
+        participant = closed.holds.participant;
+        words = closed.holds.words;
+        tally = refl;
+        told = closed.holds.told;
+      };
       ends = (
         ends ∙ ap ended (sym why),
         is ∙ ap (end_of cause) closed.holds.tally ∙ ap (λ cause. end_of cause closed.reached.tally) (sym why),
       );
-      told = closed.tells.grows x.told (subst (λ tellings. GrowsBy tellings x.told x.told) (sym none)
-          (grows_by_none x.told));
     }
 
 -- ---- Endings
@@ -547,33 +550,34 @@ pub uncut : (most made : ℕ) → IsCut (Some false) most made → made ≡ most
 uncut most made cut = never_cut most made cut.whole
 
 -- A session that no ending ends is one of all turns.
-pub runs_whole : {reader : Reader} {history : History} {words left : Stream} {kept : ParticipantValue} {result : End}
-    {x y : LinkValue} (most turns made further : ℕ) → most ≡ turns
+pub runs_whole : {O : Type 0} {takes : Notice → O → O → Type 0} {reader : Reader} {start : O} {history : History}
+    {words : Stream} {before : LinkValue} {after : Kept O} {result : End} (most turns made further : ℕ) → most ≡ turns
     → IsCut (Some false) most made → IsCut (Some false) most further
-    → RunsSession reader further (at_the_start history words made) kept left result x y
-    → RunsSession reader turns (at_the_start history words turns) kept left result x y
-runs_whole {reader = reader} {history = history} {words = words} {left = left} {kept = kept} {result = result} {x = x}
-    {y = y} most turns made further same leaves waits runs =
-    subst (λ n. RunsSession reader n (at_the_start history words turns) kept left result x y)
+    → RunsSession takes (run_of reader further start) (at_the_start history words made) before after result
+    → RunsSession takes (run_of reader turns start) (at_the_start history words turns) before after result
+runs_whole {takes = takes} {reader = reader} {start = start} {history = history} {words = words} {before = before}
+    {after = after} {result = result} most turns made further same leaves waits runs =
+    subst (λ n. RunsSession takes (run_of reader n start) (at_the_start history words turns) before after result)
     (uncut most further waits ∙ same)
-    (subst (λ n. RunsSession reader further (at_the_start history words n) kept left result x y)
+    (subst (λ n. RunsSession takes (run_of reader further start) (at_the_start history words n) before after result)
     (uncut most made leaves ∙ same) runs)
 
 -- A session that may be ended, by its last part, which is the whole of it.
-pub runs_cut : {reader : Reader} {history : History} {words left : Stream} {kept : ParticipantValue} {counted : Tally}
-    {at : SessionState → Type 0} {x y : LinkValue} {pauses : List Pause} (known : Bool → ℕ → Option Bool)
-    (most made further left_at : ℕ)
-    (closed : Closes reader further (at_the_start history words made) x y kept left counted at pauses) (cause : Cause)
-    (result : End) → closed.reached.stage ≡ ended cause → result ≡ end_of cause counted
-    → IsCut (known false left_at) most made → left_at ≤ counted.moment → IsCut (known true counted.moment) most further
-    → AreHeeded known most made pauses → RunsCut reader known most history words kept left result x y
+pub runs_cut : {O : Type 0} {takes : Notice → O → O → Type 0} {reader : Reader} {history : History}
+    {before after : Kept O} {counted : Tally} {at : SessionState → Type 0} {pauses : List Pause}
+    (known : Bool → ℕ → Option Bool) (most made further left_at : ℕ)
+    (closed : Closes takes (run_of reader further before.observer) (at_the_start history before.words made) before.link
+    after counted at pauses) (cause : Cause) (result : End) → closed.reached.stage ≡ ended cause
+    → result ≡ end_of cause counted → IsCut (known false left_at) most made → left_at ≤ counted.moment
+    → IsCut (known true counted.moment) most further → AreHeeded known most made pauses
+    → RunsCut takes reader known most history before after result
 unfolding runs_as
 runs_cut {counted = counted} known most made further left_at closed cause result ends is leaves left_by waits heeded =
     let moment = ap (λ (t : Tally). t.moment) closed.holds.tally in
     record {
       made = made;
       further = further;
-      runs = runs_as closed cause result ends is refl;
+      runs = runs_as closed cause result ends is;
       heeded = subst (AreHeeded known most made) (sym closed.paused) heeded;
       left_at = left_at;
       leaves = leaves;

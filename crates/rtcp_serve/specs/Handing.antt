@@ -1,11 +1,13 @@
--- What a participant hands out over a session, and what its link was given and told. Lists are newest first.
-use Rattle.std.specs.Prelude.{ℕ, List, [], ◌∷◌, ◌++◌, Option, Some, None, Ok, Err}
-use Rattle.rtcp_engine.specs.Acts.{Act, rtcp_came, rtp_came, rtp_sent, ticked, left, configured, forgotten, EventValue, rtcp_arrived, rtp_arrived, packet_sent, time_passed, leave_asked, settings_given, forget_asked}
+-- What a participant hands out over a session, what its link was given, and what its observer was told. Lists are
+-- newest first.
+use Rattle.std.specs.Prelude.{ℕ, Bool, List, [], ◌∷◌, ◌++◌, Option, Some, None, Ok, Err}
+use Rattle.rtcp_engine.specs.Acts.{Act}
 use Rattle.rtcp_engine.specs.Histories.{History}
 use Rattle.rtcp_engine.specs.Steps.{OutValue, AnswerValue}
 use Rattle.rtcp_engine.specs.Answers.{answer_of, followed_by}
-use Rattle.rtcp_serve.specs.Links.{Call, clock_read, port_heard, compound_sent, Telling}
-use Rattle.rtcp_serve.specs.Serving.{Reader}
+use Rattle.rtcp_serve.specs.Links.{Call, clock_read, port_heard, compound_sent}
+use Rattle.rtcp_serve.specs.Observers.{Notice, event_told, send_tried}
+use Rattle.rtcp_serve.specs.Serving.{Reader, act_in}
 
 -- the compound that an answer hands out, if there is one
 abbrev pub octets_of : Option OutValue → List (List ℕ)
@@ -36,27 +38,32 @@ abbrev pub given_in : List Call → List (List ℕ)
 given_in [] = []
 given_in (call ∷ earlier) = given call ++ given_in earlier
 
--- ---- Tellings
+-- ---- Notices
 
--- the act of an event, by what a reader finds in its octets
-abbrev pub act_in : Reader → EventValue → Act
-act_in reader (rtcp_arrived moment peer word octets) = rtcp_came moment peer word octets (reader.rtcp octets)
-act_in reader (rtp_arrived moment peer word octets) = rtp_came moment peer word (reader.rtp octets)
-act_in reader (packet_sent moment timestamp octets) = rtp_sent moment timestamp octets
-act_in reader (time_passed moment first_word second_word) = ticked moment first_word second_word
-act_in reader (leave_asked moment word) = left moment word
-act_in reader (settings_given moment settings) = configured moment settings
-act_in reader (forget_asked moment ssrc) = forgotten moment ssrc
-
--- the acts of all events
-abbrev pub acts_in : Reader → List Telling → List Act
+-- the acts of all events that an observer was told
+abbrev pub acts_in : Reader → List Notice → List Act
 acts_in reader [] = []
-acts_in reader (one ∷ earlier) = act_in reader one.event ∷ acts_in reader earlier
+acts_in reader (event_told one ∷ earlier) = act_in reader one.event ∷ acts_in reader earlier
+acts_in reader (send_tried failed ∷ earlier) = acts_in reader earlier
 
--- the answers to all events
-abbrev pub answers_in : List Telling → List AnswerValue
+-- the answers to all these
+abbrev pub answers_in : List Notice → List AnswerValue
 answers_in [] = []
-answers_in (one ∷ earlier) = one.answer ∷ answers_in earlier
+answers_in (event_told one ∷ earlier) = one.answer ∷ answers_in earlier
+answers_in (send_tried failed ∷ earlier) = answers_in earlier
+
+-- whether each send failed that an observer was told of
+abbrev pub sends_in : List Notice → List Bool
+sends_in [] = []
+sends_in (event_told one ∷ earlier) = sends_in earlier
+sends_in (send_tried failed ∷ earlier) = failed ∷ sends_in earlier
+
+-- whether each send of a link failed
+abbrev pub sends_of : List Call → List Bool
+sends_of [] = []
+sends_of (clock_read moment ∷ earlier) = sends_of earlier
+sends_of (port_heard port wait what ∷ earlier) = sends_of earlier
+sends_of (compound_sent octets failed ∷ earlier) = failed ∷ sends_of earlier
 
 -- the answers to acts, each after those before it
 abbrev pub answers_given : History → List Act → List AnswerValue

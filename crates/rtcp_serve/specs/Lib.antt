@@ -1,7 +1,7 @@
 pub mod Links
+pub mod Observers
 pub mod Endings
 pub mod Tallies
 pub mod Serving
 pub mod Sessions
 pub mod Handing
-pub mod Observers

@@ -1,7 +1,5 @@
--- What is asked of a link, what it answers, and what it is told. Lists of calls and of tellings are newest first.
+-- What is asked of a link, and what it answers. Lists of calls are newest first.
 use Rattle.std.specs.Prelude.{◌≡◌, ◌≤◌, ◌+◌, ℕ, List, ◌++◌, length, filter, take, Option, Some, None, Bool, true, false}
-use Rattle.rtcp_engine.specs.Acts.{EventValue}
-use Rattle.rtcp_engine.specs.Steps.{AnswerValue}
 use Rattle.rtcp_serve.specs.declared.link.Port.{Port}
 use Rattle.rtcp_serve.specs.declared.link.Received.{Received}
 use Rattle.rtcp_serve.specs.declared.link.Received.TheVariants.{Got, Nothing, Failed}
@@ -56,33 +54,20 @@ is_failed_send (clock_read moment) = false
 is_failed_send (port_heard port wait what) = false
 is_failed_send (compound_sent octets failed) = failed
 
--- ---- Tellings
-
--- an event that the participant was told, with its answer
-pub record Telling : Type 0 where
-  pub event : EventValue
-  pub answer : AnswerValue
-
-abbrev pub telling : EventValue → AnswerValue → Telling
-telling event answer = record { event = event; answer = answer }
-
 -- ---- Links
 
 -- what a clause knows of a link
 pub record LinkValue : Type 0 where
   -- the calls so far, of a link that tells them
   pub log : Option (List Call)
-  -- what it was told so far, of a link that keeps it
-  pub told : Option (List Telling)
   -- how many receives and how many sends failed
   pub failed_receives : ℕ
   pub failed_sends : ℕ
 
--- A link that tells its log after some calls told it before them, and it grew by these. What a link was told grows
--- alike.
-abbrev pub GrowsBy : {A : Type 0} → List A → Option (List A) → Option (List A) → Type 0
+-- A link that tells its log after some calls told it before them, and it grew by these.
+abbrev pub GrowsBy : List Call → Option (List Call) → Option (List Call) → Type 0
 GrowsBy more before None = Unit {0}
-GrowsBy {A = A} more before (Some after) = (earlier : List A) × (before ≡ Some earlier) × (after ≡ more ++ earlier)
+GrowsBy more before (Some after) = (earlier : List Call) × (before ≡ Some earlier) × (after ≡ more ++ earlier)
 
 -- how many calls pass a test
 abbrev pub how_many : (Call → Bool) → List Call → ℕ

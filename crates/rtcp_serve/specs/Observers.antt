@@ -1,12 +1,31 @@
--- What watches a session is told.
-use Rattle.std.specs.Prelude.{Bool, Option, Some, None}
-use Rattle.rtcp_serve.specs.Links.{Telling}
+-- What watches a session is told. Lists of notices are newest first.
+use Rattle.std.specs.Prelude.{◌≡◌, Bool, Option, Some, None, List, [], ◌∷◌}
+use Rattle.rtcp_engine.specs.Acts.{EventValue}
+use Rattle.rtcp_engine.specs.Steps.{AnswerValue}
+
+-- an event that the participant was told, with its answer
+pub record Telling : Type 0 where
+  pub event : EventValue
+  pub answer : AnswerValue
+
+abbrev pub telling : EventValue → AnswerValue → Telling
+telling event answer = record { event = event; answer = answer }
 
 pub data Notice : Type 0 where
   -- the participant was told an event, refused or not, with its answer
   event_told : Telling → Notice
   -- the link was asked to send a compound, which failed or not
   send_tried : (failed : Bool) → Notice
+
+-- An observer took notices, one after the other, as it takes each.
+abbrev pub TakesAll : {O : Type 0} → (takes : Notice → O → O → Type 0) → List Notice → (before after : O) → Type 0
+TakesAll takes [] before after = after ≡ before
+TakesAll {O = O} takes (notice ∷ earlier) before after = (mid : O) × TakesAll takes earlier before mid
+    × takes notice mid after
+
+-- one that watches nothing
+abbrev pub unwatched : Notice → Unit {0} → Unit {0} → Type 0
+unwatched notice before after = Unit {0}
 
 -- An observer that may be none took a notice: one takes it as it does, and none stays none.
 abbrev pub TakesIfSome : {O : Type 0} → (takes : O → O → Type 0) → Option O → Option O → Type 0

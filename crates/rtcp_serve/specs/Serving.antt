@@ -6,7 +6,7 @@ use Rattle.rtcp_wire.specs.declared.fault.WireFault.{WireFault}
 use Rattle.rtcp_wire.specs.declared.rtp.fault.RtpFault.{RtpFault}
 use Rattle.rtcp_wire.specs.Values.{RtcpPacket}
 use Rattle.rtcp_wire.specs.RtpHeads.{RtpValue}
-use Rattle.rtcp_engine.specs.Acts.{Act, rtcp_came, rtp_came, ticked, left, IsReading, IsRtpReading, EventValue, rtcp_arrived, rtp_arrived, time_passed, leave_asked}
+use Rattle.rtcp_engine.specs.Acts.{Act, rtcp_came, rtp_came, rtp_sent, ticked, left, configured, forgotten, IsReading, IsRtpReading, EventValue, rtcp_arrived, rtp_arrived, packet_sent, time_passed, leave_asked, settings_given, forget_asked}
 use Rattle.rtcp_engine.specs.Histories.{History, life_at}
 use Rattle.rtcp_engine.specs.Lives.{next_in_life}
 use Rattle.rtcp_engine.specs.Steps.{OutValue, AnswerValue}
@@ -18,7 +18,8 @@ use Rattle.rtcp_serve.specs.declared.serving.Cause.TheVariants.{Done, LinkDown, 
 use Rattle.rtcp_serve.specs.declared.serving.tally.Tally.{Tally}
 use Rattle.rtcp_serve.specs.Tallies.{is_limit, no_calls, with_arrival, with_datagram, with_failed_receive, with_moment, with_send, with_silence}
 use Rattle.rtcp_serve.specs.Endings.{Pause, pause}
-use Rattle.rtcp_serve.specs.Links.{Heard, datagram, silence, failure, Call, clock_read, port_heard, compound_sent, Telling, telling}
+use Rattle.rtcp_serve.specs.Links.{Heard, datagram, silence, failure, Call, clock_read, port_heard, compound_sent}
+use Rattle.rtcp_serve.specs.Observers.{Notice, event_told, send_tried, telling}
 
 -- ---- Readings
 
@@ -31,6 +32,16 @@ pub record Reader : Type 0 where
 pub record IsReader (reader : Reader) : Type 0 where
   pub rtcp : (octets : List ℕ) → IsReading octets (reader.rtcp octets)
   pub rtp : (octets : List ℕ) → IsRtpReading octets (reader.rtp octets)
+
+-- the act of an event, by what a reader finds in its octets
+abbrev pub act_in : Reader → EventValue → Act
+act_in reader (rtcp_arrived moment peer word octets) = rtcp_came moment peer word octets (reader.rtcp octets)
+act_in reader (rtp_arrived moment peer word octets) = rtp_came moment peer word (reader.rtp octets)
+act_in reader (packet_sent moment timestamp octets) = rtp_sent moment timestamp octets
+act_in reader (time_passed moment first_word second_word) = ticked moment first_word second_word
+act_in reader (leave_asked moment word) = left moment word
+act_in reader (settings_given moment settings) = configured moment settings
+act_in reader (forget_asked moment ssrc) = forgotten moment ssrc
 
 -- ---- Where a session stands
 
@@ -52,10 +63,8 @@ pub data Stage : Type 0 where
 pub record SessionState : Type 0 where
   -- the acts that the participant took
   pub history : History
-  -- all acts that it was told in this session, those that it refused too
-  pub told : List Act
-  -- the same as events, each with its answer
-  pub tellings : List Telling
+  -- what its observer was told in this session: all events with their answers, refused ones too, and the sends
+  pub notices : List Notice
   -- the random words that are left
   pub words : Stream
   -- the counts, and the greatest moment so far
@@ -84,13 +93,16 @@ with_turns turns leaving s = record s { turns = turns; leaving = leaving }
 abbrev pub paused : (is_over : Bool) → SessionState → SessionState
 paused is_over s = record s { pauses = pause s.leaving s.tally.moment is_over ∷ s.pauses }
 
--- the participant is told an event, which is this act
-abbrev pub told_act : EventValue → Act → SessionState → SessionState
-told_act event act s =
+-- the observer takes a notice
+abbrev pub noticed : Notice → SessionState → SessionState
+noticed notice s = record s { notices = notice ∷ s.notices }
+
+-- The participant is told an event, and its observer is given that with the answer.
+abbrev pub told_event : Reader → EventValue → SessionState → SessionState
+told_event reader event s = let act = act_in reader event in
     record s {
       history = followed_by s.history act;
-      told = act ∷ s.told;
-      tellings = telling event (answer_of s.history act) ∷ s.tellings;
+      notices = event_told (telling event (answer_of s.history act)) ∷ s.notices;
     }
 
 -- ---- Answers
@@ -107,34 +119,20 @@ stage_to_send next refused (Err refusal) = if is_limit refusal then ended Limit 
 
 -- ---- Arrivals
 
-abbrev pub arrived : (next : Stage) → EventValue → Act → SessionState → SessionState
-arrived next event act s = let answer = answer_of s.history act in
-    at_stage (stage_to_send next next answer) (with_tally (with_arrival answer s.tally) (told_act event act s))
+abbrev pub arrived : Reader → (next : Stage) → EventValue → SessionState → SessionState
+arrived reader next event s = let answer = answer_of s.history (act_in reader event) in
+    at_stage (stage_to_send next next answer) (with_tally (with_arrival answer s.tally) (told_event reader event s))
 
 -- A word is drawn for a datagram, and the participant is told that it came.
-abbrev pub came_with : (event_of : (word : ℕ) → EventValue) → (act_of : (word : ℕ) → Act) → (next : Stage)
-    → (word : ℕ × Stream) → SessionState → SessionState
-came_with event_of act_of next word s =
-    arrived next (event_of word.0) (act_of word.0) (with_words word.1 (with_tally (with_datagram s.tally) s))
-
-abbrev pub heard : (event_of : (peer word : ℕ) → List ℕ → EventValue) → (act_of : (peer word : ℕ) → List ℕ → Act)
-    → (next : Stage) → Heard → SessionState → SessionState
-heard event_of act_of next (datagram peer octets) s =
-    came_with (λ word. event_of peer word octets) (λ word. act_of peer word octets) next (next_u32 s.words) s
-heard event_of act_of next silence s = at_stage next (with_tally (with_silence s.tally) s)
--- the 64th failed receive in a row ends the session
-heard event_of act_of next failure s =
-    at_stage (if suc s.tally.failures == 64 then ended LinkDown else next) (with_tally (with_failed_receive s.tally) s)
+abbrev pub came_with : Reader → (event_of : (word : ℕ) → EventValue) → (next : Stage) → (word : ℕ × Stream)
+    → SessionState → SessionState
+came_with reader event_of next word s =
+    arrived reader next (event_of word.0) (with_words word.1 (with_tally (with_datagram s.tally) s))
 
 -- the event of a datagram that came to a port
 abbrev pub event_at : Port → (moment peer word : ℕ) → List ℕ → EventValue
 event_at RtcpPort moment peer word octets = rtcp_arrived moment peer word octets
 event_at RtpPort moment peer word octets = rtp_arrived moment peer word octets
-
--- the act of a datagram that came to a port
-abbrev pub arrival_at : Reader → Port → (moment peer word : ℕ) → List ℕ → Act
-arrival_at reader RtcpPort moment peer word octets = rtcp_came moment peer word octets (reader.rtcp octets)
-arrival_at reader RtpPort moment peer word octets = rtp_came moment peer word (reader.rtp octets)
 
 -- what comes once a port was listened to
 abbrev pub after_port : Port → Stage
@@ -142,27 +140,33 @@ after_port RtcpPort = hearing RtpPort
 after_port RtpPort = deciding
 
 abbrev pub heard_at : Reader → Port → Heard → SessionState → SessionState
-heard_at reader port what s =
-    heard (event_at port s.tally.moment) (arrival_at reader port s.tally.moment) (after_port port) what s
+heard_at reader port (datagram peer octets) s =
+    came_with reader (λ word. event_at port s.tally.moment peer word octets) (after_port port) (next_u32 s.words) s
+heard_at reader port silence s = at_stage (after_port port) (with_tally (with_silence s.tally) s)
+-- the 64th failed receive in a row ends the session
+heard_at reader port failure s =
+    at_stage (if suc s.tally.failures == 64 then ended LinkDown else after_port port)
+    (with_tally (with_failed_receive s.tally) s)
 
 -- ---- Ticks and the leave
 
-abbrev pub asked : (refused : Stage) → EventValue → Act → SessionState → SessionState
-asked refused event act s = at_stage (stage_to_send resting refused (answer_of s.history act)) (told_act event act s)
+abbrev pub asked : Reader → (refused : Stage) → EventValue → SessionState → SessionState
+asked reader refused event s =
+    at_stage (stage_to_send resting refused (answer_of s.history (act_in reader event))) (told_event reader event s)
 
 -- Two words are drawn, and the participant is told that time has passed.
-abbrev pub ticked_with : (first second : ℕ × Stream) → SessionState → SessionState
-ticked_with first second s = let moment = s.tally.moment in
-    asked resting (time_passed moment first.0 second.0) (ticked moment first.0 second.0) (with_words second.1 s)
+abbrev pub ticked_with : Reader → (first second : ℕ × Stream) → SessionState → SessionState
+ticked_with reader first second s =
+    asked reader resting (time_passed s.tally.moment first.0 second.0) (with_words second.1 s)
 
-abbrev pub ticked_now : SessionState → SessionState
-ticked_now s = let first = next_u32 s.words in ticked_with first (next_u32 first.1) s
+abbrev pub ticked_now : Reader → SessionState → SessionState
+ticked_now reader s = let first = next_u32 s.words in ticked_with reader first (next_u32 first.1) s
 
 -- A word is drawn, and the participant is asked to leave at the greatest moment so far. As many turns again are
 -- left then.
-abbrev pub left_with : (total : ℕ) → (word : ℕ × Stream) → SessionState → SessionState
-left_with total word s = let moment = s.tally.moment in
-    asked (ended Done) (leave_asked moment word.0) (left moment word.0)
+abbrev pub left_with : Reader → (total : ℕ) → (word : ℕ × Stream) → SessionState → SessionState
+left_with reader total word s =
+    asked reader (ended Done) (leave_asked s.tally.moment word.0)
     (with_turns total true (with_words word.1 (paused true s)))
 
 -- ---- Turns
@@ -186,13 +190,13 @@ abbrev pub gone_on : SessionState → SessionState
 gone_on s = rested (turn_or (at_stage (ended Done) s) s) s.stage s
 
 -- what comes after the last turn: the leave, or after that the end
-abbrev pub after_turns : (total : ℕ) → SessionState → SessionState
-after_turns total s =
-    if s.leaving then at_stage (ended Done) s else gone_on (left_with total (next_u32 s.words) s)
+abbrev pub after_turns : Reader → (total : ℕ) → SessionState → SessionState
+after_turns reader total s =
+    if s.leaving then at_stage (ended Done) s else gone_on (left_with reader total (next_u32 s.words) s)
 
 -- What comes next, of so many turns before the leave and as many after it.
-abbrev pub going : (total : ℕ) → SessionState → SessionState
-going total s = rested (turn_or (after_turns total s) s) s.stage s
+abbrev pub going : Reader → (total : ℕ) → SessionState → SessionState
+going reader total s = rested (turn_or (after_turns reader total s) s) s.stage s
 
 -- ---- Calls
 
@@ -217,40 +221,40 @@ Fits (port_heard port wait what) stage = Hears port wait stage
 Fits (compound_sent octets failed) stage = Sends octets stage
 
 -- a turn begins with the moment, and it is taken again before the tick
-abbrev pub after_clock : (moment : ℕ) → Stage → SessionState → SessionState
-after_clock moment beginning s = at_stage (hearing RtcpPort) (with_tally (with_moment moment s.tally) s)
-after_clock moment deciding s = ticked_now (with_tally (with_moment moment s.tally) s)
-after_clock moment stage s = s
+abbrev pub after_clock : Reader → (moment : ℕ) → Stage → SessionState → SessionState
+after_clock reader moment beginning s = at_stage (hearing RtcpPort) (with_tally (with_moment moment s.tally) s)
+after_clock reader moment deciding s = ticked_now reader (with_tally (with_moment moment s.tally) s)
+after_clock reader moment stage s = s
 
--- Whether or not sending it failed, a compound is sent once.
+-- Whether or not sending it failed, a compound is sent once. The observer is then told which.
 abbrev pub after_sending : (failed : Bool) → Stage → SessionState → SessionState
 after_sending failed (sending out changed next) s =
-    at_stage next (with_tally (with_send out.kind changed failed s.tally) s)
+    at_stage next (noticed (send_tried failed) (with_tally (with_send out.kind changed failed s.tally) s))
 after_sending failed stage s = s
 
 -- where a session stands after a call that fits
 abbrev pub after_call : Reader → Call → SessionState → SessionState
-after_call reader (clock_read moment) s = after_clock moment s.stage s
+after_call reader (clock_read moment) s = after_clock reader moment s.stage s
 after_call reader (port_heard port wait what) s = heard_at reader port what s
 after_call reader (compound_sent octets failed) s = after_sending failed s.stage s
 
 -- where it stands after calls, from where it stood before them
 abbrev pub after_calls : Reader → (total : ℕ) → SessionState → List Call → SessionState
 after_calls reader total s [] = s
-after_calls reader total s (call ∷ earlier) = after_call reader call (going total (after_calls reader total s earlier))
+after_calls reader total s (call ∷ earlier) =
+    after_call reader call (going reader total (after_calls reader total s earlier))
 
 -- Each call was the one that came next.
 abbrev pub AllFit : Reader → (total : ℕ) → SessionState → List Call → Type 0
 AllFit reader total s [] = Unit {0}
 AllFit reader total s (call ∷ earlier) =
-    AllFit reader total s earlier × Fits call (going total (after_calls reader total s earlier)).stage
+    AllFit reader total s earlier × Fits call (going reader total (after_calls reader total s earlier)).stage
 
 -- where a session stands before its first call
 abbrev pub at_the_start : History → Stream → (turns : ℕ) → SessionState
 at_the_start history words turns = record {
   history = history;
-  told = [];
-  tellings = [];
+  notices = [];
   words = words;
   tally = no_calls;
   turns = turns;

@@ -11,14 +11,55 @@ use Rattle.rtcp_serve.specs.declared.serving.Cause.TheVariants.{Done}
 use Rattle.rtcp_serve.specs.declared.serving.tally.Tally.{Tally}
 use Rattle.rtcp_serve.specs.Tallies.{end_of}
 use Rattle.rtcp_serve.specs.Endings.{Pause, IsCut, AreHeeded}
-use Rattle.rtcp_serve.specs.Links.{Call, LinkValue, WereCalled, Telling, GrowsBy}
+use Rattle.rtcp_serve.specs.Links.{Call, LinkValue, WereCalled}
+use Rattle.rtcp_serve.specs.Observers.{Notice, TakesAll}
 use Rattle.rtcp_serve.specs.Serving.{Reader, Stage, resting, ended, SessionState, going, after_calls, AllFit, at_the_start}
 
--- What is kept is where a session stands.
-pub record Holds (s : SessionState) (kept : ParticipantValue) (left : Stream) (counted : Tally) : Type 0 where
-  pub participant : StandsAt kept s.history
-  pub words : left ≡ s.words
+-- ---- What is kept
+
+-- what is kept of a session at some point of it
+pub record Kept (O : Type 0) : Type 0 where
+  pub link : LinkValue
+  pub participant : ParticipantValue
+  -- the random words that are left
+  pub words : Stream
+  pub observer : O
+
+abbrev pub keeps : {O : Type 0} → LinkValue → ParticipantValue → Stream → O → Kept O
+keeps link participant words observer =
+    record { link = link; participant = participant; words = words; observer = observer }
+
+-- what a session is of: how datagrams are read, how many turns are made after the leave, and its observer at the start
+pub record Run (O : Type 0) : Type 0 where
+  pub reader : Reader
+  pub total : ℕ
+  pub start : O
+
+abbrev pub run_of : {O : Type 0} → Reader → (total : ℕ) → (start : O) → Run O
+run_of reader total start = record { reader = reader; total = total; start = start }
+
+-- What is kept, and what was counted, is where a session stands, and its observer has taken what it was told there.
+pub record Holds
+    {O : Type 0} (takes : Notice → O → O → Type 0) (run : Run O) (s : SessionState) (kept : Kept O) (counted : Tally)
+    : Type 0 where
+  pub participant : StandsAt kept.participant s.history
+  pub words : kept.words ≡ s.words
   pub tally : counted ≡ s.tally
+  pub told : TakesAll takes s.notices run.start kept.observer
+
+-- the turns of a session: how many are left, before the leave or after it, and its pauses
+pub record Turns : Type 0 where
+  pub left : ℕ
+  pub has_left : Bool
+  pub pauses : List Pause
+
+abbrev pub turns_with : (left : ℕ) → (has_left : Bool) → (pauses : List Pause) → Turns
+turns_with left has_left pauses = record { left = left; has_left = has_left; pauses = pauses }
+
+abbrev pub turns_of : SessionState → Turns
+turns_of s = turns_with s.turns s.leaving s.pauses
+
+-- ---- Parts of a session
 
 -- A result is the stage that a session has come to.
 abbrev pub Reaches : {A : Type 0} → (next : Stage) → Result A Cause → SessionState → Type 0
@@ -51,40 +92,30 @@ EndsAs (Ok done) s = s.stage ≡ ended Done
 EndsAs (Err cause) s = s.stage ≡ ended cause
 
 -- Calls of a link, each the one that came next, led from one standing to another.
-pub record Moves (reader : Reader) (total : ℕ) (calls : List Call) (s t : SessionState) (before after : LinkValue)
+pub record Moves {O : Type 0} (run : Run O) (calls : List Call) (s t : SessionState) (before after : LinkValue)
     : Type 0 where
-  pub fit : AllFit reader total s calls
-  pub reached : t ≡ after_calls reader total s calls
+  pub fit : AllFit run.reader run.total s calls
+  pub reached : t ≡ after_calls run.reader run.total s calls
   pub called : WereCalled calls before after
 
--- Between two standings a link was told what the participant was told: if all that it was told since some start was
--- what the participant had been told at the first, it is so at the second.
-pub record TellsLink (s t : SessionState) (before after : LinkValue) : Type 0 where
-  pub grows : (start : Option (List Telling)) → GrowsBy s.tellings start before.told
-      → GrowsBy t.tellings start after.told
-
 -- A part of a session: the calls that it made of the link led from one standing to another, at which it keeps what it
--- keeps and comes to what it comes to, and the link was told what the participant was told since an earlier standing.
+-- keeps and comes to what it comes to.
 pub record Walks
-    (reader : Reader) (total : ℕ) (since from : SessionState) (before after : LinkValue) (kept : ParticipantValue)
-    (words : Stream) (counted : Tally) (at : SessionState → Type 0) (turns_left : ℕ) (has_left : Bool)
-    (pauses : List Pause) : Type 0 where
+    {O : Type 0} (takes : Notice → O → O → Type 0) (run : Run O) (s : SessionState) (before : LinkValue)
+    (after : Kept O) (counted : Tally) (at : SessionState → Type 0) (rest : Turns) : Type 0 where
   pub calls : List Call
   pub reached : SessionState
-  pub moves : Moves reader total calls from reached before after
-  pub tells : TellsLink since reached before after
-  pub holds : Holds reached kept words counted
+  pub moves : Moves run calls s reached before after.link
+  pub holds : Holds takes run reached after counted
   pub ends : at reached
-  pub turns : reached.turns ≡ turns_left
-  pub leaving : reached.leaving ≡ has_left
-  pub paused : reached.pauses ≡ pauses
+  pub turns : turns_of reached ≡ rest
 
 -- Calls of a link, each the one that came next, led from one standing to another and on to what comes next.
 pub record Comes (reader : Reader) (total : ℕ) (calls : List Call) (s t : SessionState) (before after : LinkValue) :
     Type
     0 where
   pub fit : AllFit reader total s calls
-  pub reached : t ≡ going total (after_calls reader total s calls)
+  pub reached : t ≡ going reader total (after_calls reader total s calls)
   pub called : WereCalled calls before after
 
 -- No turn is left, and the leave comes next.
@@ -96,13 +127,12 @@ pub record IsLeaveDue (s : SessionState) : Type 0 where
 
 -- The last part of a session: the same, up to what comes next, which is its end.
 pub record Closes
-    (reader : Reader) (total : ℕ) (s : SessionState) (before after : LinkValue) (kept : ParticipantValue)
-    (words : Stream) (counted : Tally) (at : SessionState → Type 0) (pauses : List Pause) : Type 0 where
+    {O : Type 0} (takes : Notice → O → O → Type 0) (run : Run O) (s : SessionState) (before : LinkValue)
+    (after : Kept O) (counted : Tally) (at : SessionState → Type 0) (pauses : List Pause) : Type 0 where
   pub calls : List Call
   pub reached : SessionState
-  pub comes : Comes reader total calls s reached before after
-  pub tells : TellsLink s reached before after
-  pub holds : Holds reached kept words counted
+  pub comes : Comes run.reader run.total calls s reached before after.link
+  pub holds : Holds takes run reached after counted
   pub ends : at reached
   pub paused : reached.pauses ≡ pauses
 
@@ -110,19 +140,17 @@ pub record Closes
 abbrev pub IsEnd : End → SessionState → Type 0
 IsEnd end t = (t.stage ≡ ended end.cause) × (end ≡ end_of end.cause t.tally)
 
--- A session over a link, from its start to its end: the calls of the link are those that a session makes, the
--- participant and the words are where these leave them, the result says what they come to, and the link is told what
--- the participant is told.
+-- A session over a link, from its start to its end: the calls of the link are those that a session makes, and the
+-- participant and the words are where these leave them. The result says what they come to, and the observer has taken
+-- what it was told.
 pub record RunsSession
-    (reader : Reader) (total : ℕ) (start : SessionState) (kept : ParticipantValue) (left : Stream) (result : End)
-    (before after : LinkValue) : Type 0 where
+    {O : Type 0} (takes : Notice → O → O → Type 0) (run : Run O) (start : SessionState) (before : LinkValue)
+    (after : Kept O) (result : End) : Type 0 where
   pub calls : List Call
   pub reached : SessionState
-  pub comes : Comes reader total calls start reached before after
-  pub participant : StandsAt kept reached.history
-  pub words : left ≡ reached.words
+  pub comes : Comes run.reader run.total calls start reached before after.link
+  pub holds : Holds takes run reached after reached.tally
   pub ends : IsEnd result reached
-  pub told : GrowsBy reached.tellings before.told after.told
 
 -- ---- Endings
 
@@ -130,11 +158,12 @@ pub record RunsSession
 -- made before the leave, and of so many at most after it. Its ending is heeded in each pause, and at the end of the
 -- turns after the leave.
 pub record RunsCut
-    (reader : Reader) (known : Bool → ℕ → Option Bool) (most : ℕ) (history : History) (words : Stream)
-    (kept : ParticipantValue) (left : Stream) (result : End) (before after : LinkValue) : Type 0 where
+    {O : Type 0} (takes : Notice → O → O → Type 0) (reader : Reader) (known : Bool → ℕ → Option Bool) (most : ℕ)
+    (history : History) (before after : Kept O) (result : End) : Type 0 where
   pub made : ℕ
   pub further : ℕ
-  pub runs : RunsSession reader further (at_the_start history words made) kept left result before after
+  pub runs : RunsSession takes (run_of reader further before.observer) (at_the_start history before.words made) before.link
+      after result
   pub heeded : AreHeeded known most made runs.reached.pauses
   -- the moment at which the turns before the leave were over
   pub left_at : ℕ

@@ -10,7 +10,7 @@
 //! assert_eq!(rt; end.cause, Cause::Done);
 //! ```
 //!
-//! A host implements [`Link`]. What watches a session is an [`Observer`], which an [`Observed`] link tells of it.
+//! A host implements [`Link`]. What watches a session is an [`Observer`], which [`serve_until`] tells of it.
 //! `specs/` defines what contracts see of a link (`Links`) and the state of a session after its calls (`Serving`,
 //! `Sessions`); `serve_laws` states in plain words what follows.
 #![tactic(auto)]
@@ -23,5 +23,5 @@ mod serving;
 
 pub use ending::{Ending, Until};
 pub use link::{Link, LinkFault, Port, Received};
-pub use observer::{Observed, Observer};
+pub use observer::Observer;
 pub use serving::{Cause, End, MOST_TURNS, serve, serve_until};

@@ -1,11 +1,8 @@
 //! What a participant needs of a network and a clock.
 
 ghost use Rattle.std.specs.Prelude.{◌≡◌, ◌<◌, ◌-◌, ◌^◌, [], ◌∷◌, length, is_err};
-ghost use Rattle.rtcp_engine.specs.Views.{answer_value, event_value};
-ghost use Rattle.rtcp_serve.specs.Links.{LinkValue, WereCalled, GrowsBy, IsWithin, clock_read, port_heard, compound_sent, heard_in, telling};
+ghost use Rattle.rtcp_serve.specs.Links.{LinkValue, WereCalled, IsWithin, clock_read, port_heard, compound_sent, heard_in};
 
-use rtcp_engine::{Answer, Event, Participant};
-use rtcp_members::MemberTable;
 use thiserror::Error;
 
 /// One of the two ports of a session (RFC 3550, 11).
@@ -35,14 +32,12 @@ pub struct LinkFault;
 
 /// A clock and two ports. What becomes of a datagram that was handed over nobody promises.
 pub trait Link {
-    /// What a clause knows of it: its calls so far and what it was told, where it exposes these, and how many calls
-    /// failed.
+    /// What a clause knows of it: its calls so far, where it exposes these, and how many calls failed.
     ghost value: { Self → LinkValue };
 
     /// The moment, in microseconds since the session began. It may go back.
     fn now(&mut self) -> u64
-        ensures called { WereCalled (clock_read result ∷ []) (value self.old) (value self.new) }
-        ensures told { (value self.new).told ≡ (value self.old).told };
+        ensures called { WereCalled (clock_read result ∷ []) (value self.old) (value self.new) };
 
     /// Waits for a datagram on a port, for `wait_us` microseconds at most. What does not fit the buffer is lost.
     fn recv(&mut self, port: Port, buf: &mut [u8], wait_us: u64) -> Received
@@ -50,8 +45,7 @@ pub trait Link {
         ensures called { WereCalled (port_heard port wait_us (heard_in buf.new result) ∷ [])
             (value self.old) (value self.new) }
         ensures length { length buf.new ≡ length buf.old }
-        ensures within { IsWithin result buf.new }
-        ensures told { (value self.new).told ≡ (value self.old).told };
+        ensures within { IsWithin result buf.new };
 
     /// Sends a datagram to the others.
     ///
@@ -61,21 +55,5 @@ pub trait Link {
     fn send(&mut self, bytes: &[u8]) -> Result<(), LinkFault>
         requires { (value self.old).failed_sends < 2 ^ 64 - 1 }
         ensures called { WereCalled (compound_sent bytes.now (is_err result) ∷ [])
-            (value self.old) (value self.new) }
-        ensures told { (value self.new).told ≡ (value self.old).told };
-
-    /// Is called after each event that the participant was told, refused or not, with its answer and the participant as
-    /// it is then, and before the compound of the answer is sent, if it has one. A link that does not watch its session
-    /// does nothing here.
-    fn told<T: MemberTable>(
-        &mut self,
-        event: &Event<'_>,
-        answer: &Answer,
-        participant: &Participant<T>,
-    )
-        ensures told { GrowsBy (telling (event_value event.now) (answer_value answer.now) ∷ [])
-            (value self.old).told (value self.new).told }
-        ensures log { (value self.new).log ≡ (value self.old).log }
-        ensures receives { (value self.new).failed_receives ≡ (value self.old).failed_receives }
-        ensures sends { (value self.new).failed_sends ≡ (value self.old).failed_sends };
+            (value self.old) (value self.new) };
 }

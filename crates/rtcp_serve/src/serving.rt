@@ -3,14 +3,16 @@
 ghost use Rattle.std.specs.Prelude.{◌≡◌, ◌≤◌, ◌<◌, ◌^◌};
 ghost use Rattle.rtcp_engine.specs.Histories.{History};
 ghost use Rattle.rtcp_engine.specs.States.{StandsAt};
+ghost use Rattle.rtcp_serve.specs.Observers.{unwatched};
 ghost use Rattle.rtcp_serve.specs.Serving.{IsReader, Reader, SessionState, at_the_start, ended};
-ghost use Rattle.rtcp_serve.specs.Sessions.{EndsAs, RunsCut, RunsSession};
+ghost use Rattle.rtcp_serve.specs.Sessions.{EndsAs, RunsCut, RunsSession, keeps, run_of};
 
 mod tally;
 mod turns;
 
 use crate::ending::{Ending, Until};
 use crate::link::Link;
+use crate::observer::Observer;
 use rand_core::Rng;
 use rtcp_engine::Participant;
 use rtcp_members::MemberTable;
@@ -56,8 +58,7 @@ pub struct End {
 /// A turn reads the clock, listens to the port of RTCP and then to that of RTP, for 20 milliseconds each, reads the
 /// clock again, draws two words, asks the participant what is due, and sends what it answers. For a datagram that
 /// came it draws a word too, before the participant is told. Where one changes the SSRC (RFC 3550, 8.2), the BYE of
-/// the old one goes out at once, before the turn goes on. The link is told each event with its answer, before the
-/// compound of the answer goes out. The moment is the greatest that the clock gave, and a compound goes to the link
+/// the old one goes out at once, before the turn goes on. The moment is the greatest that the clock gave, and a compound goes to the link
 /// once, whether or not it failed to send it. After the last turn a word is drawn for the leave, at that moment.
 /// Once the participant has left, there is no further call.
 ///
@@ -73,16 +74,24 @@ pub fn serve<L: Link, T: MemberTable, R: Rng>(
     requires receives { (L.value link.old).failed_receives < 2 ^ 63 }
     requires sends { (L.value link.old).failed_sends < 2 ^ 63 }
     // The calls of the link were those that a session makes, each the one that came next, up to its end. The
-    // participant stands where they left it, and the result says what they came to. In that session the link was told
-    // the events that the participant was told, in their order, each with its answer.
+    // participant stands where they left it, and the result says what they came to.
     ensures serves { (reader : Reader) (history : History) → IsReader reader → StandsAt participant.old history →
-        RunsSession reader turns (at_the_start history (R.stream rng.old) turns) participant.new (R.stream rng.new)
-        result (L.value link.old) (L.value link.new) }
+        RunsSession unwatched (run_of reader turns (tt {0})) (at_the_start history (R.stream rng.old) turns)
+        (L.value link.old) (keeps (L.value link.new) participant.new (R.stream rng.new) (tt {0})) result }
 {
     let mut tally = Tally::new();
     let ending = &mut None::<Until>;
     let most = u64::from(turns);
-    let returned = turns::session(link, participant, rng, &mut tally, ending, most, buf);
+    let returned = turns::session(
+        link,
+        participant,
+        rng,
+        &mut (),
+        &mut tally,
+        ending,
+        most,
+        buf,
+    );
     tally.end(cause_of(returned))
 }
 
@@ -90,13 +99,17 @@ pub fn serve<L: Link, T: MemberTable, R: Rng>(
 /// before each turn, with the greatest moment so far. It is asked again before each of the turns that are made after
 /// the leave, where the participant backs off before its BYE.
 ///
+/// The observer is told each event with its answer, before the compound of the answer goes out, and then whether that
+/// failed.
+///
 /// It leaves after so many turns too, at most [`MOST_TURNS`], so that it ends whatever the clock and the ending say.
-pub fn serve_until<L: Link, T: MemberTable, R: Rng, E: Ending>(
+pub fn serve_until<L: Link, T: MemberTable, R: Rng, E: Ending, O: Observer>(
     link: &mut L,
     participant: &mut Participant<T>,
     rng: &mut R,
     ending: &mut E,
     turns: u64,
+    observer: &mut O,
     buf: &mut [u8; 65_535],
 ) -> End
     requires turns { turns ≤ 2 ^ 59 }
@@ -105,13 +118,24 @@ pub fn serve_until<L: Link, T: MemberTable, R: Rng, E: Ending>(
     // The session is one of some number of turns before the leave, and of some number at most after it. It pauses
     // before each turn and before the leave. A turn is made only at a moment at which the ending may have said that
     // they are not over, and fewer turns than may be only if it may have said, at the moment at which they end, that
-    // they are.
+    // they are. The observer took what happened in that session: the events that the participant was told, each with
+    // its answer, and the sends, in their order.
     ensures serves { (reader : Reader) (history : History) → IsReader reader → StandsAt participant.old history →
-        RunsCut reader (E.known ending.old) turns history (R.stream rng.old) participant.new (R.stream rng.new)
-        result (L.value link.old) (L.value link.new) }
+        RunsCut O.takes reader (E.known ending.old) turns history
+        (keeps (L.value link.old) participant.old (R.stream rng.old) observer.old)
+        (keeps (L.value link.new) participant.new (R.stream rng.new) observer.new) result }
 {
     let mut tally = Tally::new();
-    let returned = turns::session(link, participant, rng, &mut tally, ending, turns, buf);
+    let returned = turns::session(
+        link,
+        participant,
+        rng,
+        observer,
+        &mut tally,
+        ending,
+        turns,
+        buf,
+    );
     tally.end(cause_of(returned))
 }
 

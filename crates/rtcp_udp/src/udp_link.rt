@@ -7,8 +7,6 @@ ghost use Rattle.rtcp_serve.specs.Links.{IsWithin, WereCalled, clock_read};
 
 use mio::net::UdpSocket;
 use mio::{Events, Interest, Poll, Token};
-use rtcp_engine::{Answer, Event, Participant};
-use rtcp_members::MemberTable;
 use rtcp_serve::{Link, LinkFault, Port, Received};
 use std::alloc::Global;
 use std::io::{self, ErrorKind};
@@ -122,7 +120,6 @@ impl<'r, R: Net + Clock> Link for UdpLink<'r, R> {
     /// The moment by the clock, or the last one where the clock cannot be read: never one less than the last.
     fn now(&mut self) -> u64
         ensures called { WereCalled (clock_read result ∷ []) (value_of self.old) (value_of self.new) }
-        ensures told { (value_of self.new).told ≡ (value_of self.old).told }
         ensures forward { self.old.last ≤ result }
         ensures kept { self.new.last ≡ result }
     {
@@ -164,13 +161,6 @@ impl<'r, R: Net + Clock> Link for UdpLink<'r, R> {
         self.failed_sends += 1;
         Err(LinkFault)
     }
-
-    fn told<T: MemberTable>(
-        &mut self,
-        _event: &Event<'_>,
-        _answer: &Answer,
-        _participant: &Participant<T>,
-    ) {}
 }
 
 /// A socket at an address, for whose datagrams `poll` waits, and that address with the port that it has.

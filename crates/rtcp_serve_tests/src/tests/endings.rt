@@ -10,6 +10,7 @@ use super::zeros::Zeros;
 use super::*;
 use rtcp_serve::{Ending, Until, serve_until};
 use std::alloc::Global;
+use std::cell::Cell;
 
 /// The moments of a first turn that sends a report, and of a second one.
 const MOMENTS: &[u64] = &[0, 1_026_037, 500_000, 2_000_000];
@@ -63,7 +64,15 @@ fn limited<L: Link, E: Ending>(
 {
     let mut rng = Zeros(0);
     let mut buf = [0; 65_535];
-    let end = serve_until(link, participant, &mut rng, ending, turns, &mut buf);
+    let end = serve_until(
+        link,
+        participant,
+        &mut rng,
+        ending,
+        turns,
+        &mut (),
+        &mut buf,
+    );
     (end, rng.0)
 }
 
@@ -77,7 +86,8 @@ fn left_at(
 ) -> Result<(usize, usize, u32), Fail>
     requires { turns ≤ 2 ^ 59 }
 {
-    let mut link = MemoryLink::new(alloc, MOMENTS, &[], &[], 300)?;
+    let made = Cell::new(0);
+    let mut link = MemoryLink::new(alloc, MOMENTS, &[], &[], 300, &made)?;
     let mut participant = participant(rt);
     let (end, drawn) = limited(&mut link, &mut participant, &mut Until { moment }, turns);
     assert_eq!(rt; end.cause, Cause::Done);
@@ -111,7 +121,8 @@ fn moments(rt: HostRuntime) -> Result<(), Fail> {
 /// It is asked before each turn at the greatest moment so far, and no more once the participant has left.
 #[test]
 fn questions(rt: HostRuntime) -> Result<(), Fail> {
-    let mut link = MemoryLink::new(rt.alloc(), MOMENTS, &[], &[], 300)?;
+    let made = Cell::new(0);
+    let mut link = MemoryLink::new(rt.alloc(), MOMENTS, &[], &[], 300, &made)?;
     let mut ending = Script::new(rt.alloc(), 2, 9);
     let (end, drawn) = limited(&mut link, &mut participant(&rt), &mut ending, 1_000);
     let left = End {
@@ -141,7 +152,8 @@ fn backs_off(
         coming.push(Coming::Named(ssrc))?;
         coming.push(Coming::Nothing)?;
     }
-    let mut link = MemoryLink::new(alloc, &clock, &coming, &[], 900)?;
+    let made = Cell::new(0);
+    let mut link = MemoryLink::new(alloc, &clock, &coming, &[], 900, &made)?;
     let mut ending = Script::new(alloc, 61, after);
     let (end, _) = limited(&mut link, &mut participant(rt), &mut ending, 1_000);
     assert_eq!(rt; (end.cause, end.received), (Cause::Done, 60));

@@ -4,10 +4,12 @@ use super::memory_link::MemoryLink;
 use super::session::participant;
 use super::zeros::Zeros;
 use super::*;
+use std::cell::Cell;
 
 #[test]
 fn example(rt: HostRuntime) -> Result<(), Fail> {
-    let mut link = MemoryLink::new(rt.alloc(), &[0], &[], &[], 0)?;
+    let made = Cell::new(0);
+    let mut link = MemoryLink::new(rt.alloc(), &[0], &[], &[], 0, &made)?;
     let mut participant = participant(&rt);
     let mut rng = Zeros(0);
     let mut buf = [0; 65_535];

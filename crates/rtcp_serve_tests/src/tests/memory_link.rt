@@ -5,11 +5,9 @@ ghost use Rattle.rtcp_serve.specs.Links.{LinkValue, IsWithin};
 
 use super::log::{Log, Told};
 use super::session::named;
-use super::watch::{Watch, Watched};
-use rtcp_engine::{Answer, Event, Participant};
-use rtcp_members::MemberTable;
 use rtcp_serve::{Link, LinkFault, Port, Received};
 use std::alloc::{AllocError, Global};
+use std::cell::Cell;
 
 /// What comes while a port is listened to.
 #[derive(Clone, Copy, PartialEq, Eq)]
@@ -22,9 +20,9 @@ pub(crate) enum Coming {
     Failure,
 }
 
-/// A link that answers from lists, and keeps a log and what it is told.
+/// A link that answers from lists, and keeps a log.
 #[derive(Drop)]
-pub(crate) struct MemoryLink {
+pub(crate) struct MemoryLink<'a> {
     /// The moments that the clock gives, the last one again once they are used up.
     moments: Vec<u64>,
     reads: usize,
@@ -37,21 +35,23 @@ pub(crate) struct MemoryLink {
     failing: Vec<u64>,
     sends: u64,
     pub(crate) log: Log,
-    pub(crate) watch: Watch,
+    /// How many calls were made, for who watches.
+    made: &'a Cell<usize>,
     failed_receives: u64,
     failed_sends: u64,
 }
 
-impl MemoryLink {
+impl<'a> MemoryLink<'a> {
     /// A link that gives these moments, to which these come and then nothing, and which fails at the sends of
-    /// these numbers. Its log has room for so many calls, and it keeps as many events.
+    /// these numbers. Its log has room for so many calls, and `made` has how many it keeps.
     pub(crate) fn new(
         alloc: Global,
         moments: &[u64],
         coming: &[Coming],
         failing: &[u64],
         room: usize,
-    ) -> Result<MemoryLink, AllocError>
+        made: &'a Cell<usize>,
+    ) -> Result<MemoryLink<'a>, AllocError>
         ensures receives { IfOk result (λ link. link.failed_receives ≡ 0) }
         ensures sends { IfOk result (λ link. link.failed_sends ≡ 0) }
     {
@@ -64,7 +64,7 @@ impl MemoryLink {
             failing: Vec::from_slice(alloc, failing)?,
             sends: 0,
             log: Log::new(alloc, room),
-            watch: Watch::new(alloc, room),
+            made,
             failed_receives: 0,
             failed_sends: 0,
         })
@@ -73,7 +73,6 @@ impl MemoryLink {
     /// What comes next.
     fn next(&mut self) -> Coming
         ensures log { self.new.log ≡ self.old.log }
-        ensures watch { self.new.watch ≡ self.old.watch }
         ensures receives { self.new.failed_receives ≡ self.old.failed_receives }
         ensures sends { self.new.failed_sends ≡ self.old.failed_sends }
     {
@@ -86,10 +85,9 @@ impl MemoryLink {
     }
 }
 
-impl Link for MemoryLink {
+impl<'a> Link for MemoryLink<'a> {
     ghost value = { λ link. record {
       log = ⟦<Log as Told>⟧.calls link.log;
-      told = ⟦<Watch as Watched>⟧.told link.watch;
       failed_receives = link.failed_receives;
       failed_sends = link.failed_sends;
     } };
@@ -102,6 +100,7 @@ impl Link for MemoryLink {
         };
         self.reads = self.reads.saturating_add(1);
         self.log.clock(moment);
+        self.made.set(self.log.calls.len());
         moment
     }
 
@@ -111,6 +110,7 @@ impl Link for MemoryLink {
             self.failed_receives += 1;
         }
         self.log.receive(port, wait_us, buf, received);
+        self.made.set(self.log.calls.len());
         received
     }
 
@@ -118,20 +118,12 @@ impl Link for MemoryLink {
         let failed = self.failing.contains(&self.sends);
         self.sends = self.sends.saturating_add(1);
         self.log.send(bytes, failed);
+        self.made.set(self.log.calls.len());
         if failed {
             self.failed_sends += 1;
             return Err(LinkFault);
         }
         Ok(())
-    }
-
-    fn told<T: MemberTable>(
-        &mut self,
-        event: &Event<'_>,
-        answer: &Answer,
-        _participant: &Participant<T>,
-    ) {
-        self.watch.note(self.log.calls.len(), event, answer);
     }
 }
 

@@ -2,11 +2,13 @@
 
 use super::memory_link::{Coming, MemoryLink};
 use super::reader::reads;
-use super::session::{participant, served};
+use super::session::{participant, watched};
+use super::watch::Watch;
 use super::*;
 use rtcp_engine::Event;
 use rtcp_members::MemberTable;
-use rtcp_serve::{Observed, Observer};
+use rtcp_serve::Observer;
+use std::cell::Cell;
 
 /// Counts what it is told, and how often the participant had as many members as the answer says.
 #[derive(Drop)]
@@ -49,7 +51,7 @@ impl Observer for Counts {
     }
 }
 
-/// A participant that gains two members, refuses a datagram and leaves. Both observers and the link inside are told.
+/// A participant that gains two members, refuses a datagram and leaves. Each observer is told.
 #[test]
 fn observers_see_the_participant(rt: HostRuntime) -> Result<(), Fail> {
     let coming = [
@@ -59,20 +61,21 @@ fn observers_see_the_participant(rt: HostRuntime) -> Result<(), Fail> {
         Coming::Nothing,
         Coming::Named(8),
     ];
+    let made = Cell::new(0);
+    let mut link = MemoryLink::new(rt.alloc(), &[0], &coming, &[], 40, &made)?;
     let (first, second) = (Counts::new(), Counts::new());
-    let mut link = Observed {
-        link: MemoryLink::new(rt.alloc(), &[0], &coming, &[], 40)?,
-        observer: ((first, Some(second)), None::<Counts>),
-    };
-    let (end, _) = served(&mut link, &mut participant(&rt), 3);
+    let watch = Watch::new(rt.alloc(), 40, &made);
+    let mut observer = (((first, Some(second)), None::<Counts>), (watch, ()));
+    let (end, _) = watched(&mut link, &mut participant(&rt), &mut observer, 3);
     assert_eq!(rt; (end.cause, end.received, end.refused), (Cause::Done, 3, 1));
     // Three datagrams, three ticks and the leave.
-    let (first, second) = link.observer.0;
+    let ((counts, _), (watch, ())) = observer;
+    let (first, second) = counts;
     assert_eq!(rt; (first.told, first.agreed), (7, 6));
     let second = second.map(|counts| (counts.told, counts.agreed));
     assert_eq!(rt; second, Some((7, 6)));
-    assert_eq!(rt; link.link.watch.tellings.len(), 7);
-    let cause = reads(&rt, rt.alloc(), &link.link, participant(&rt), 3);
+    assert_eq!(rt; watch.tellings.len(), 7);
+    let cause = reads(&rt, rt.alloc(), (&link, &watch), participant(&rt), 3);
     assert_eq!(rt; cause, Cause::Done);
     Ok(())
 }
@@ -81,13 +84,12 @@ fn observers_see_the_participant(rt: HostRuntime) -> Result<(), Fail> {
 #[test]
 fn observers_are_told_of_sends(rt: HostRuntime) -> Result<(), Fail> {
     let moments = [0, 1_026_037, 500_000, 2_000_000];
-    let mut link = Observed {
-        link: MemoryLink::new(rt.alloc(), &moments, &[], &[0], 40)?,
-        observer: (Counts::new(), Some(Counts::new())),
-    };
-    let (end, _) = served(&mut link, &mut participant(&rt), 2);
+    let made = Cell::new(0);
+    let mut link = MemoryLink::new(rt.alloc(), &moments, &[], &[0], 40, &made)?;
+    let mut observer = (Counts::new(), Some(Counts::new()));
+    let (end, _) = watched(&mut link, &mut participant(&rt), &mut observer, 2);
     assert_eq!(rt; (end.sent, end.send_failures), (2, 1));
-    let (first, second) = link.observer;
+    let (first, second) = observer;
     assert_eq!(rt; first.sent, (2, 1));
     assert_eq!(rt; second.map(|counts| counts.sent), Some((2, 1)));
     Ok(())

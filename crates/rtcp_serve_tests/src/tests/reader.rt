@@ -8,6 +8,7 @@ use super::*;
 use rand_core::Rng;
 use rtcp_engine::{Event, Refusal};
 use std::alloc::Global;
+use std::cell::Cell;
 
 /// Walks a log, tells a participant of its own what the log says, and keeps what it tells and is answered.
 #[derive(Drop)]
@@ -21,30 +22,31 @@ pub(crate) struct Reader<'a, R> {
     moment: u64,
     /// The failed receives in a row, over both ports.
     failures: u32,
-    watch: Watch,
+    watch: Watch<'a>,
 }
 
 /// Reads the log of a link whose session had so many turns and words of 0, with a participant that stands where that of
-/// the session began. The link was told what the reader tells, and no more. Returns why the session ended.
+/// the session began. The watch was told what the reader tells, and no more. Returns why the session ended.
 pub(crate) fn reads(
     rt: &impl Abort,
     alloc: Global,
-    link: &MemoryLink,
+    (link, watch): (&MemoryLink<'_>, &Watch<'_>),
     participant: Participant<SortedTable>,
     turns: u32,
 ) -> Cause {
-    reads_with(rt, alloc, link, participant, Zeros(0), turns)
+    reads_with(rt, alloc, (link, watch), participant, Zeros(0), turns)
 }
 
 /// The same with other words.
 pub(crate) fn reads_with<R: Rng + Drop>(
     rt: &impl Abort,
     alloc: Global,
-    link: &MemoryLink,
+    (link, watch): (&MemoryLink<'_>, &Watch<'_>),
     participant: Participant<SortedTable>,
     words: R,
     turns: u32,
 ) -> Cause {
+    let read = Cell::new(0);
     let mut reader = Reader {
         calls: link.log.calls.as_slice(),
         place: 0,
@@ -52,15 +54,15 @@ pub(crate) fn reads_with<R: Rng + Drop>(
         words,
         moment: 0,
         failures: 0,
-        watch: Watch::new(alloc, link.watch.tellings.len()),
+        watch: Watch::new(alloc, watch.tellings.len(), &read),
     };
     let cause = match reader.session(rt, turns) {
         Ok(()) => Cause::Done,
         Err(cause) => cause,
     };
-    assert!(rt; link.log.is_whole && link.watch.is_whole && reader.watch.is_whole);
+    assert!(rt; link.log.is_whole && watch.is_whole && reader.watch.is_whole);
     assert_eq!(rt; reader.place, link.log.calls.len());
-    assert_eq!(rt; reader.watch.tellings, link.watch.tellings);
+    assert_eq!(rt; reader.watch.tellings, watch.tellings);
     cause
 }
 

@@ -3,9 +3,11 @@
 use super::log::Made;
 use super::memory_link::{Coming, MemoryLink};
 use super::reader::reads;
-use super::session::{BYE, REPORT, participant, served};
+use super::session::{BYE, REPORT, participant, served, watched};
+use super::watch::Watch;
 use super::*;
 use std::alloc::{AllocError, Global};
+use std::cell::Cell;
 
 /// A session over a link in memory.
 #[derive(Drop)]
@@ -37,7 +39,7 @@ pub(super) struct Seen<'a> {
     /// How many calls the link had, and which ones.
     pub(super) calls: Option<usize>,
     pub(super) log: &'a [Noted<'a>],
-    /// How many events it was told.
+    /// How many events the watch was told.
     pub(super) tellings: Option<usize>,
 }
 
@@ -500,18 +502,26 @@ fn sessions(rt: HostRuntime) -> Result<(), Fail> {
     Ok(())
 }
 
-/// Plays a session: it comes to what is seen of it, and the reader of its log finds why it ended.
+/// Plays a session: it comes to what is seen of it, and the reader of its log finds why it ended. Unwatched it makes the
+/// same calls.
 pub(super) fn play(rt: &impl Abort, alloc: Global, case: &Case<'_>) -> Result<(), Fail> {
     let coming = repeated(alloc, case.coming)?;
-    let mut link = MemoryLink::new(alloc, case.moments, &coming, case.failing, 300)?;
+    let made = Cell::new(0);
+    let mut link = MemoryLink::new(alloc, case.moments, &coming, case.failing, 300, &made)?;
     link.in_the_end = case.in_the_end;
+    let mut again = MemoryLink::new(alloc, case.moments, &coming, case.failing, 300, &made)?;
+    again.in_the_end = case.in_the_end;
     assert!(rt; 1 <= case.turns && case.turns <= 1_000);
     let mut present = begun(rt, case);
-    let (end, drawn) = served(&mut link, &mut present, case.turns);
+    let mut watch = Watch::new(alloc, 300, &made);
+    let (end, drawn) = watched(&mut link, &mut present, &mut watch, case.turns);
     check_end(rt, case, (end, drawn), &present);
-    check_log(rt, case, &link);
-    let cause = reads(rt, alloc, &link, begun(rt, case), case.turns);
+    check_log(rt, case, &link, &watch);
+    let cause = reads(rt, alloc, (&link, &watch), begun(rt, case), case.turns);
     assert_eq!(rt; cause, end.cause, "{}", case.name);
+    let unwatched = served(&mut again, &mut begun(rt, case), case.turns);
+    assert_eq!(rt; unwatched, (end, drawn), "{}", case.name);
+    assert_eq!(rt; again.log.calls, link.log.calls, "{}", case.name);
     Ok(())
 }
 
@@ -551,10 +561,10 @@ fn check_end(
     assert_eq!(rt; found, wanted, "{}", case.name);
 }
 
-/// The link had these calls, and was told so much.
-fn check_log(rt: &impl Abort, case: &Case<'_>, link: &MemoryLink) {
+/// The link had these calls, and the watch was told so much.
+fn check_log(rt: &impl Abort, case: &Case<'_>, link: &MemoryLink<'_>, watch: &Watch<'_>) {
     let (wanted, made) = (&case.seen, &link.log.calls);
-    let found = (link.log.is_whole, made.len(), link.watch.tellings.len());
+    let found = (link.log.is_whole, made.len(), watch.tellings.len());
     let calls = if wanted.log.is_empty() {
         found.1
     } else {

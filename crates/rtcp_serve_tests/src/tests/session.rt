@@ -5,6 +5,7 @@ ghost use Rattle.std.specs.Prelude.{◌≤◌, ◌<◌, ◌^◌};
 use super::memory_link::MemoryLink;
 use super::zeros::Zeros;
 use super::*;
+use rtcp_serve::{Observer, Until, serve_until};
 
 /// The report of the participant, which has SSRC 000000aa and CNAME `a`, without news.
 pub(crate) const REPORT: [u8; 20] = [
@@ -62,5 +63,29 @@ pub(crate) fn served<L: Link>(
     let mut rng = Zeros(0);
     let mut buf = [0; 65_535];
     let end = serve(link, participant, &mut rng, turns, &mut buf);
+    (end, rng.0)
+}
+
+/// The same, of a session that is watched.
+pub(crate) fn watched<L: Link, O: Observer>(
+    link: &mut L,
+    participant: &mut Participant<SortedTable>,
+    observer: &mut O,
+    turns: u32,
+) -> (End, u32)
+    requires receives { (L.value link.old).failed_receives < 2 ^ 63 }
+    requires sends { (L.value link.old).failed_sends < 2 ^ 63 }
+{
+    let (mut rng, mut buf) = (Zeros(0), [0; 65_535]);
+    let (none, most) = (&mut None::<Until>, u64::from(turns));
+    let end = serve_until(
+        link,
+        participant,
+        &mut rng,
+        none,
+        most,
+        observer,
+        &mut buf,
+    );
     (end, rng.0)
 }

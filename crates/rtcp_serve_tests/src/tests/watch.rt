@@ -1,15 +1,10 @@
-//! What a link is told, as a test reads it.
+//! What an observer is told, as a test reads it.
 
-ghost use Rattle.std.specs.Prelude.{◌≡◌, List, [], ◌∷◌, map, reverse, Option, Some, None, IfOk, if◌then◌else◌};
-ghost use Rattle.rtcp_engine.specs.Acts.{packet_sent, time_passed, leave_asked};
-ghost use Rattle.rtcp_engine.specs.Views.{answer_value, event_value, reply_value};
-ghost use Rattle.rtcp_serve.specs.Links.{Telling as TellingValue, GrowsBy, telling};
-ghost use Rattle.rtcp_serve.specs.Serving.{event_at};
-ghost use Rattle.rtcp_serve_tests.specs.declared.tests.watch.Happening.TheVariants.{Came, SentRtp, Tick, Leave};
-
-use rtcp_engine::{Answer, Event, Reply, Standing, Told, Written};
-use rtcp_serve::Port;
+use rtcp_engine::{Answer, Event, Participant, Reply, Standing, Told, Written};
+use rtcp_members::MemberTable;
+use rtcp_serve::{Observer, Port};
 use std::alloc::{AllocError, Global};
+use std::cell::Cell;
 
 /// An event, as a test keeps it: with its moment, its peer and its words.
 #[derive(Drop, Debug, PartialEq, Eq)]
@@ -34,40 +29,30 @@ pub(crate) struct Telling {
     octets: Vec<u8>,
 }
 
-/// What a clause knows of a watch.
-pub(crate) trait Watched {
-    ghost told: { Self → Option (List TellingValue) };
-}
-
-/// What a link was told, in its order, as long as it fits the room that was reserved for it.
+/// What an observer was told, in its order, as long as it fits the room that was reserved for it.
 #[derive(Drop)]
-pub(crate) struct Watch {
+pub(crate) struct Watch<'a> {
     alloc: Global,
+    /// How many calls of the link were made.
+    made: &'a Cell<usize>,
     pub(crate) tellings: Vec<Telling>,
     /// Whether all of it fitted.
     pub(crate) is_whole: bool,
 }
 
-impl Watched for Watch {
-    ghost told = { λ watch. if watch.is_whole then Some (reverse (map (λ noted. telling (elim noted.event [
-      | Came port now peer w octets ↦ event_at port now peer w octets.items
-      | SentRtp now timestamp octets ↦ packet_sent now timestamp octets
-      | Tick now first second ↦ time_passed now first second
-      | Leave now w ↦ leave_asked now w
-    ]) (reply_value noted.octets.items noted.reply)) watch.tellings.items)) else None };
-}
-
-impl Watch {
+impl<'a> Watch<'a> {
     /// A watch with room for so many events, and none where there is no memory for them.
-    pub(crate) fn new(alloc: Global, room: usize) -> Watch {
+    pub(crate) fn new(alloc: Global, room: usize, made: &'a Cell<usize>) -> Watch<'a> {
         match Vec::with_capacity(alloc, room) {
             Ok(tellings) => Watch {
                 alloc,
+                made,
                 tellings,
                 is_whole: true,
             },
             Err(_) => Watch {
                 alloc,
+                made,
                 tellings: Vec::new(alloc),
                 is_whole: false,
             },
@@ -75,29 +60,28 @@ impl Watch {
     }
 
     /// Notes an event with its answer, after so many calls of the link, if it fits.
-    pub(crate) fn note(&mut self, calls: usize, event: &Event<'_>, answer: &Answer)
-        ensures { GrowsBy (telling (event_value event.now) (answer_value answer.now) ∷ [])
-            (⟦<Watch as Watched>⟧.told self.old) (⟦<Watch as Watched>⟧.told self.new) }
-    {
-        match telling_of(self.alloc, calls, event, answer) {
-            Ok(noted) => self.push(noted),
-            Err(_) => self.is_whole = false,
-        }
+    pub(crate) fn note(&mut self, calls: usize, event: &Event<'_>, answer: &Answer) {
+        self.is_whole = match telling_of(self.alloc, calls, event, answer) {
+            Ok(noted) =>
+                self.is_whole
+                    && self.tellings.len() < self.tellings.capacity()
+                    && self.tellings.push(noted).is_ok(),
+            Err(_) => false,
+        };
+    }
+}
+
+impl<'a> Observer for Watch<'a> {
+    fn told<T: MemberTable>(
+        &mut self,
+        event: &Event<'_>,
+        answer: &Answer,
+        _participant: &Participant<T>,
+    ) {
+        self.note(self.made.get(), event, answer);
     }
 
-    fn push(&mut self, noted: Telling)
-        ensures { GrowsBy (telling (elim noted.event [
-          | Came port now peer w octets ↦ event_at port now peer w octets.items
-          | SentRtp now timestamp octets ↦ packet_sent now timestamp octets
-          | Tick now first second ↦ time_passed now first second
-          | Leave now w ↦ leave_asked now w
-        ]) (reply_value noted.octets.items noted.reply) ∷ [])
-            (⟦<Watch as Watched>⟧.told self.old) (⟦<Watch as Watched>⟧.told self.new) }
-    {
-        self.is_whole = self.is_whole
-            && self.tellings.len() < self.tellings.capacity()
-            && self.tellings.push(noted).is_ok();
-    }
+    fn sent(&mut self, _failed: bool) {}
 }
 
 /// An event with its answer, as it is noted.
@@ -106,15 +90,7 @@ fn telling_of(
     calls: usize,
     event: &Event<'_>,
     answer: &Answer,
-) -> Result<Telling, AllocError>
-    ensures { IfOk result (λ noted. telling (elim noted.event [
-      | Came port now peer w octets ↦ event_at port now peer w octets.items
-      | SentRtp now timestamp octets ↦ packet_sent now timestamp octets
-      | Tick now first second ↦ time_passed now first second
-      | Leave now w ↦ leave_asked now w
-    ]) (reply_value noted.octets.items noted.reply)
-        ≡ telling (event_value event.now) (answer_value answer.now)) }
-{
+) -> Result<Telling, AllocError> {
     let event = happening_of(alloc, event)?;
     let (reply, octets) = reply_of(alloc, answer)?;
     Ok(Telling {
@@ -126,14 +102,7 @@ fn telling_of(
 }
 
 /// An event, as it is noted.
-fn happening_of(alloc: Global, event: &Event<'_>) -> Result<Happening, AllocError>
-    ensures { IfOk result (λ noted. elim noted [
-      | Came port now peer w octets ↦ event_at port now peer w octets.items
-      | SentRtp now timestamp octets ↦ packet_sent now timestamp octets
-      | Tick now first second ↦ time_passed now first second
-      | Leave now w ↦ leave_asked now w
-    ] ≡ event_value event.now) }
-{
+fn happening_of(alloc: Global, event: &Event<'_>) -> Result<Happening, AllocError> {
     match *event {
         Event::ArriveRtcp {
             now,
@@ -166,9 +135,7 @@ fn happening_of(alloc: Global, event: &Event<'_>) -> Result<Happening, AllocErro
 }
 
 /// An answer without its compound, and the octets of that. An answer has no SSRC: 0 stands in its place.
-fn reply_of(alloc: Global, answer: &Answer) -> Result<(Reply, Vec<u8>), AllocError>
-    ensures { IfOk result (λ noted. reply_value noted.1.items noted.0 ≡ answer_value answer.now) }
-{
+fn reply_of(alloc: Global, answer: &Answer) -> Result<(Reply, Vec<u8>), AllocError> {
     let step = match answer {
         Ok(step) => step,
         Err(refusal) => return Ok((Err(*refusal), Vec::new(alloc))),

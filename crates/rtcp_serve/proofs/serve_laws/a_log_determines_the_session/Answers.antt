@@ -8,7 +8,7 @@ returns c = record {
   calls = λ reader history words turns further calls others s t before after log told one other.
       let same = one_growth calls others before.log after.log log told one.called.log other.called.log in (
         same,
-        one.reached ∙ ap (λ calls. going further (after_calls reader further
+        one.reached ∙ ap (λ calls. going reader further (after_calls reader further
             (at_the_start history words turns) calls))
             same ∙ sym other.reached,
       );

@@ -1,24 +1,27 @@
 -- A datagram that came: the participant is told, and then the compound of its answer goes out, if it has one.
 use Rattle.std.proofs.Common.{refl, subst}
-use Rattle.rtcp_engine.specs.Views.{answer_value}
-use Rattle.rtcp_serve.specs.Serving.{after_port}
+use Rattle.rtcp_engine.specs.Views.{answer_value, event_value}
+use Rattle.rtcp_serve.specs.Serving.{act_in, after_port}
 use Rattle.rtcp_serve.specs.Sessions.{Reaches}
-use Rattle.rtcp_serve.proofs.LinkCalls.{datagram_room, datagram_told, either_way, tells_none, walks_after, walks_to}
+use Rattle.rtcp_serve.proofs.LinkCalls.{datagram_room, datagram_told, either_way, is_act_in, walks_after, walks_to}
 use Rattle.rtcp_serve.proofs.serving.turns.hear.Goals as goal
 
 pub returns-in-Got-clause-leads : goal.returns-in-Got-clause-leads
-returns-in-Got-clause-leads g c = λ reader total s reads holds stage.
+returns-in-Got-clause-leads g c = λ run s reads holds stage.
     let next = after_port c.args.port in
-    let takes = c.arrive-answer.ensures reader reads in
-    let answers = takes.answer s.history holds.participant in
-    let moves = datagram_told reader total c.args.port c.in-Got.peer c.split_at.result.0.now _ s _ _ _ _ _ _ _ _ _ _ _
-    holds stage c.split_at.ensures.front c.in-Got.ensures.called c.next_u32-drawn.ensures c.datagram.ensures.moved
-    c.arrival.ensures.moved c.arrival_event-event.ensures answers in
-    let walk = c.tell.ensures.leads reader total next next _ _ s _
-    (record { participant = takes.stands s.history holds.participant; words = refl; tally = refl }) refl refl in
-    walks_after moves (tells_none s s _ _ refl c.in-Got.ensures.told)
-    (walks_to walk (subst (λ stage. Reaches stage c.tell.result walk.reached)
-    (either_way next (answer_value c.arrive-answer.result)) walk.ends))
+    let event = event_value c.arrival-event.result in
+    let takes = c.tell-answer.ensures.takes (act_in run.reader event) (is_act_in run.reader reads event) in
+    let moves = datagram_told run c.args.port c.in-Got.peer c.split_at.result.0.now _ s _ _ _ _ _ _ _ _ _ holds stage
+    c.split_at.ensures.front c.in-Got.ensures.called c.next_u32.ensures c.datagram.ensures.moved
+    c.arrival.ensures.moved c.arrival-event.ensures (takes.answer s.history holds.participant) in
+    let walk = c.tell.ensures.leads run next next _ _ _ (λ after took. record {
+      participant = takes.stands s.history holds.participant;
+      words = refl;
+      tally = refl;
+      told = (_, holds.told, took);
+    }) refl in
+    walks_after moves (walks_to walk (subst (λ stage. Reaches stage c.tell.result walk.reached)
+    (either_way next (answer_value c.tell-answer.result)) walk.ends))
 
 pub returns-in-Got-clause-room : goal.returns-in-Got-clause-room
 returns-in-Got-clause-room g c = λ more room.

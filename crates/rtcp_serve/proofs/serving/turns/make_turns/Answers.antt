@@ -1,8 +1,9 @@
 -- Turn by turn, as long as the participant has not left and the ending is not met.
-use Rattle.std.proofs.Common.{◌≡◌, ◌+◌, ◌*◌, ◌-◌, inl, inr, is_some, not, refl, sym, ap, ◌∙◌, subst, arith}
+use Rattle.std.proofs.Common.{◌≡◌, ◌∷◌, false, ◌+◌, ◌*◌, ◌-◌, inl, inr, is_some, not, refl, sym, ap, ◌∙◌, subst, arith}
+use Rattle.rtcp_serve.specs.Endings.{pause}
 use Rattle.rtcp_serve.specs.Serving.{resting}
-use Rattle.rtcp_serve.specs.Sessions.{HasTurn, Reaches, EndsTurns, next_at}
-use Rattle.rtcp_serve.proofs.LinkCalls.{answers_as, heeds_turn, less_room, none_left, stops, uncut_whole, walks_as, walks_nowhere, walks_on, walks_to}
+use Rattle.rtcp_serve.specs.Sessions.{HasTurn, Reaches, EndsTurns, next_at, turns_with}
+use Rattle.rtcp_serve.proofs.LinkCalls.{answers_as, heeds_turn, is_leaving, is_left, is_paused, less_room, none_left, stops, uncut_whole, walks_as, walks_nowhere, walks_on, walks_to}
 use Rattle.rtcp_serve.proofs.serving.turns.make_turns.Goals as goal
 
 pub turns-init : goal.turns-init
@@ -10,9 +11,13 @@ turns-init g c = record {
   row = c.requires.row;
   later = omega (arith);
   room = λ more room. less_room (more + 0) more _ _ (omega (arith)) room;
-  leads = λ reader total left s reads holds stage turns leaving.
-      let walk = walks_nowhere reader total s _ _ _ (λ t. t.stage ≡ resting) _ holds stage in
-      (s.pauses, λ most before heeded. heeded, walks_as (omega (arith, turns)) refl refl walk);
+  leads = λ run left s reads holds stage turns leaving.
+      let same : s.turns ≡ left = omega (arith, turns) in
+      let walk = walks_nowhere _ run s _ _ (λ t. t.stage ≡ resting) holds stage in (
+        s.pauses,
+        λ most before heeded. heeded,
+        walks_as (ap (λ n. turns_with n s.leaving s.pauses) same) walk,
+      );
   ending = λ left at. refl;
 }
 
@@ -20,8 +25,8 @@ pub returns-then-is_none-clause-leads : goal.returns-then-is_none-clause-leads
 returns-then-is_none-clause-leads g c = (
   c.args.turns,
   uncut_whole _ _,
-  λ reader total s reads holds stage turns leaving.
-      let (pauses, heeds, walk) = c.turns.invariant.leads reader total (c.args.turns - c.turns.counter) s reads holds
+  λ run s reads holds stage turns leaving.
+      let (pauses, heeds, walk) = c.turns.invariant.leads run (c.args.turns - c.turns.counter) s reads holds
       stage (omega (arith, turns, c.turns-test.true)) leaving in (
         _,
         pauses,
@@ -47,10 +52,10 @@ returns-then-is_over-clause-leads g c = (
     within = omega (arith, c.turns-test.true);
     whole = inr (answers_as _ _ _ _ (c.turns.invariant.ending _ _) c.if-is_over.true c.is_over.ensures.answer);
   },
-  λ reader total s reads holds stage turns leaving.
-      let (pauses, heeds, walk) = c.turns.invariant.leads reader total 0 s reads holds stage (omega (arith, turns))
+  λ run s reads holds stage turns leaving.
+      let (pauses, heeds, walk) = c.turns.invariant.leads run 0 s reads holds stage (omega (arith, turns))
       leaving in
-      (_, pauses, heeds, walks_to walk (walk.ends, inr walk.turns)),
+      (_, pauses, heeds, walks_to walk (walk.ends, inr (is_left walk))),
 )
 
 pub returns-then-is_over-clause-room : goal.returns-then-is_over-clause-room
@@ -69,21 +74,24 @@ pub returns-in_err-turn-clause-leads : goal.returns-in_err-turn-clause-leads
 returns-in_err-turn-clause-leads g c = (
   c.args.turns,
   uncut_whole _ _,
-  λ reader total s reads holds stage turns leaving.
+  λ run s reads holds stage turns leaving.
       let left = c.args.turns - (c.turns.counter + 1) in
-      let (pauses, heeds, walk) = c.turns.invariant.leads reader total (left + 1) s reads holds stage
+      let (pauses, heeds, walk) = c.turns.invariant.leads run (left + 1) s reads holds stage
       (omega (arith, turns, c.turns-test.true)) leaving in
       let has : HasTurn left walk.reached = record {
         resting = walk.ends;
         there = ap is_some (sym (c.next.ensures.exact walk.reached.history walk.holds.participant)) ∙ c.is_none.ensures
             ∙ ap not c.if-is_none.false;
-        turns = omega (arith, walk.turns);
+        turns = omega (arith, is_left walk);
       } in
-      let further = walks_on walk (c.turn.ensures.leads reader total left walk.reached reads walk.holds has) refl refl
-      in (
+      let now = walk.reached in
+      let paused = pause now.leaving now.tally.moment false ∷ now.pauses in
+      let further = walks_as (ap (λ b. turns_with left b paused) (is_leaving walk))
+      (walks_on walk (c.turn.ensures.leads run left walk.reached reads walk.holds has)) in (
         left,
         _,
-        λ most before heeded. heeds_turn _ most before _ _ _ _ _ _ (walk.leaving ∙ leaving) walk.holds.tally walk.paused
+        λ most before heeded. heeds_turn _ most before _ _ _ _ _ _ (is_leaving walk ∙ leaving) walk.holds.tally
+            (is_paused walk)
             (answers_as _ _ _ _ (c.turns.invariant.ending _ _) c.if-is_over.false c.is_over.ensures.answer)
             (heeds most before heeded),
         walks_to further (stops (λ r. Reaches resting r further.reached) (λ r. EndsTurns r further.reached)
@@ -106,19 +114,22 @@ turns-preserved g c = record {
   room = λ more room. c.turn.ensures.room more
       (c.turns.invariant.room (more + 5)
       (less_room (more + (c.turns.counter + 1) * 5) (more + 5 + c.turns.counter * 5) _ _ (omega (arith)) room));
-  leads = λ reader total left s reads holds stage turns leaving.
-      let (pauses, heeds, walk) = c.turns.invariant.leads reader total (left + 1) s reads holds stage
+  leads = λ run left s reads holds stage turns leaving.
+      let (pauses, heeds, walk) = c.turns.invariant.leads run (left + 1) s reads holds stage
       (omega (arith, turns)) leaving in
       let has : HasTurn left walk.reached = record {
         resting = walk.ends;
         there = ap is_some (sym (c.next.ensures.exact walk.reached.history walk.holds.participant)) ∙ c.is_none.ensures
             ∙ ap not c.if-is_none.false;
-        turns = omega (arith, walk.turns);
+        turns = omega (arith, is_left walk);
       } in
-      let further = walks_on walk (c.turn.ensures.leads reader total left walk.reached reads walk.holds has) refl refl
-      in (
+      let now = walk.reached in
+      let paused = pause now.leaving now.tally.moment false ∷ now.pauses in
+      let further = walks_as (ap (λ b. turns_with left b paused) (is_leaving walk))
+      (walks_on walk (c.turn.ensures.leads run left walk.reached reads walk.holds has)) in (
         _,
-        λ most before heeded. heeds_turn _ most before _ _ _ _ _ _ (walk.leaving ∙ leaving) walk.holds.tally walk.paused
+        λ most before heeded. heeds_turn _ most before _ _ _ _ _ _ (is_leaving walk ∙ leaving) walk.holds.tally
+            (is_paused walk)
             (answers_as _ _ _ _ (c.turns.invariant.ending _ _) c.if-is_over.false c.is_over.ensures.answer)
             (heeds most before heeded),
         walks_to further (subst (λ r. Reaches resting r further.reached) c.in_ok-turn.was further.ends),
@@ -130,10 +141,10 @@ pub returns-clause-leads : goal.returns-clause-leads
 returns-clause-leads g c = (
   c.args.turns,
   uncut_whole _ _,
-  λ reader total s reads holds stage turns leaving.
-      let (pauses, heeds, walk) = c.turns.invariant.leads reader total 0 s reads holds stage
+  λ run s reads holds stage turns leaving.
+      let (pauses, heeds, walk) = c.turns.invariant.leads run 0 s reads holds stage
       (omega (arith, turns, c.turns.auto.counter-end)) leaving in
-      (_, pauses, heeds, walks_to walk (walk.ends, inr walk.turns)),
+      (_, pauses, heeds, walks_to walk (walk.ends, inr (is_left walk))),
 )
 
 pub returns-clause-room : goal.returns-clause-room

@@ -3,20 +3,23 @@ use Rattle.std.proofs.Common.{◌+◌, refl, subst}
 use Rattle.rtcp_engine.specs.Views.{answer_value}
 use Rattle.rtcp_serve.specs.Serving.{resting}
 use Rattle.rtcp_serve.specs.Sessions.{Reaches}
-use Rattle.rtcp_serve.proofs.LinkCalls.{either_way, tick_told, tells_none, walks_after, walks_to}
+use Rattle.rtcp_serve.proofs.LinkCalls.{either_way, tick_told, walks_after, walks_to}
 use Rattle.rtcp_serve.proofs.serving.turns.tick.Goals as goal
 
 pub returns-clause-leads : goal.returns-clause-leads
-returns-clause-leads g c = λ reader total s holds stage.
+returns-clause-leads g c = λ run s holds stage.
     let (moment, read, counts) = c.read_clock.ensures.called in
-    let takes = c.tick-answer.ensures.takes in
-    let moves = tick_told reader total moment s _ _ _ _ _ _ _ _ _ _ _ holds stage read counts
-    c.next_u32-first.ensures c.next_u32-second.ensures (takes.answer s.history holds.participant) in
-    let walk = c.tell.ensures.leads reader total resting resting _ _ s _
-    (record { participant = takes.stands s.history holds.participant; words = refl; tally = refl }) refl refl in
-    walks_after moves (tells_none s s _ _ refl c.read_clock.ensures.told)
-    (walks_to walk (subst (λ stage. Reaches stage c.tell.result walk.reached)
-    (either_way resting (answer_value c.tick-answer.result)) walk.ends))
+    let takes = c.tell-answer.ensures.takes _ refl in
+    let moves = tick_told run moment s _ _ _ _ _ _ _ _ _ holds stage read counts c.next_u32.ensures
+    c.next_u32-2.ensures (takes.answer s.history holds.participant) in
+    let walk = c.tell.ensures.leads run resting resting _ _ _ (λ after took. record {
+      participant = takes.stands s.history holds.participant;
+      words = refl;
+      tally = refl;
+      told = (_, holds.told, took);
+    }) refl in
+    walks_after moves (walks_to walk (subst (λ stage. Reaches stage c.tell.result walk.reached)
+    (either_way resting (answer_value c.tell-answer.result)) walk.ends))
 
 pub returns-clause-room : goal.returns-clause-room
 returns-clause-room g c = λ more room. c.tell.ensures.room more (c.read_clock.ensures.room (more + 1) room)
