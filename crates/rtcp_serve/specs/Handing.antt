@@ -5,7 +5,7 @@ use Rattle.rtcp_engine.specs.Acts.{Act}
 use Rattle.rtcp_engine.specs.Histories.{History}
 use Rattle.rtcp_engine.specs.Steps.{OutValue, AnswerValue}
 use Rattle.rtcp_engine.specs.Answers.{answer_of, followed_by}
-use Rattle.rtcp_serve.specs.Links.{Call, clock_read, port_heard, compound_sent}
+use Rattle.rtcp_serve.specs.Links.{Call, compound_sent}
 use Rattle.rtcp_serve.specs.Observers.{Notice, event_told, send_tried}
 use Rattle.rtcp_serve.specs.Serving.{Reader, act_in}
 
@@ -30,9 +30,8 @@ handed_out start (act ∷ earlier) = handed_by (answer_of (history_after start e
 
 -- all compounds that a link was given to send
 abbrev pub given : Call → List (List ℕ)
-given (clock_read moment) = []
-given (port_heard port wait what) = []
 given (compound_sent octets failed) = octets ∷ []
+given call = []
 
 abbrev pub given_in : List Call → List (List ℕ)
 given_in [] = []
@@ -61,9 +60,8 @@ sends_in (send_tried failed ∷ earlier) = failed ∷ sends_in earlier
 -- whether each send of a link failed
 abbrev pub sends_of : List Call → List Bool
 sends_of [] = []
-sends_of (clock_read moment ∷ earlier) = sends_of earlier
-sends_of (port_heard port wait what ∷ earlier) = sends_of earlier
 sends_of (compound_sent octets failed ∷ earlier) = failed ∷ sends_of earlier
+sends_of (call ∷ earlier) = sends_of earlier
 
 -- the answers to acts, each after those before it
 abbrev pub answers_given : History → List Act → List AnswerValue

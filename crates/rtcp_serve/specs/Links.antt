@@ -28,31 +28,24 @@ heard_in buffer Nothing = silence
 heard_in buffer Failed = failure
 
 abbrev pub is_failure : Heard → Bool
-is_failure (datagram peer octets) = false
-is_failure silence = false
 is_failure failure = true
+is_failure what = false
 
 abbrev pub is_datagram : Call → Bool
-is_datagram (clock_read moment) = false
 is_datagram (port_heard port wait (datagram peer octets)) = true
-is_datagram (port_heard port wait silence) = false
-is_datagram (port_heard port wait failure) = false
-is_datagram (compound_sent octets failed) = false
+is_datagram call = false
 
 abbrev pub is_sent : Call → Bool
-is_sent (clock_read moment) = false
-is_sent (port_heard port wait what) = false
 is_sent (compound_sent octets failed) = true
+is_sent call = false
 
 abbrev pub is_failed_receive : Call → Bool
-is_failed_receive (clock_read moment) = false
 is_failed_receive (port_heard port wait what) = is_failure what
-is_failed_receive (compound_sent octets failed) = false
+is_failed_receive call = false
 
 abbrev pub is_failed_send : Call → Bool
-is_failed_send (clock_read moment) = false
-is_failed_send (port_heard port wait what) = false
 is_failed_send (compound_sent octets failed) = failed
+is_failed_send call = false
 
 -- ---- Links
 
@@ -84,5 +77,4 @@ pub record WereCalled (calls : List Call) (before after : LinkValue) : Type 0 wh
 -- A datagram that came has no more octets than the buffer.
 abbrev pub IsWithin : Received → (buffer : List ℕ) → Type 0
 IsWithin (Got count peer) buffer = count ≤ length buffer
-IsWithin Nothing buffer = Unit {0}
-IsWithin Failed buffer = Unit {0}
+IsWithin received buffer = Unit {0}

@@ -3,7 +3,7 @@ use Rattle.std.specs.Prelude.{◌≡◌, ◌<◌, ◌^◌, ℕ, ◌+◌, ◌||�
 use Rattle.rtcp_engine.specs.declared.step.OutKind.{OutKind}
 use Rattle.rtcp_engine.specs.declared.step.OutKind.TheVariants.{Report, Bye}
 use Rattle.rtcp_engine.specs.declared.refusal.Refusal.{Refusal}
-use Rattle.rtcp_engine.specs.declared.refusal.Refusal.TheVariants.{Left, Backwards, TooFar, TooMany, Wire, Rtp, OwnSsrc, Settings}
+use Rattle.rtcp_engine.specs.declared.refusal.Refusal.TheVariants.{TooFar, TooMany}
 use Rattle.rtcp_engine.specs.Outcomes.{one_if}
 use Rattle.rtcp_engine.specs.Steps.{AnswerValue}
 use Rattle.rtcp_serve.specs.Links.{LinkValue}
@@ -14,14 +14,9 @@ use Rattle.rtcp_serve.specs.declared.serving.tally.Tally.{Tally}
 
 -- the refusals that end a session: E3 and E4
 abbrev pub is_limit : Refusal → Bool
-is_limit Left = false
-is_limit Backwards = false
 is_limit TooFar = true
 is_limit TooMany = true
-is_limit (Wire fault) = false
-is_limit (Rtp fault) = false
-is_limit OwnSsrc = false
-is_limit (Settings error) = false
+is_limit refusal = false
 
 -- ---- Events
 
