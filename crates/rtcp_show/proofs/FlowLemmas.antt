@@ -5,7 +5,8 @@ use Rattle.rtcp_members.specs.Told.{StateValue}
 use Rattle.rtcp_show.specs.declared.flows.Flow.{Flow}
 use Rattle.rtcp_show.specs.declared.notes.Note.{Note}
 use Rattle.rtcp_wire.specs.Values.{RtcpPacket}
-use Rattle.rtcp_show.specs.Flows.{flow_looked, heard_if, looked_at, no_flow, reporter_of, with_rtcp, with_rtp}
+use Rattle.rtcp_show.specs.Listings.{if_listed}
+use Rattle.rtcp_show.specs.Flows.{flow_looked, heard_after, looked_at, no_flow, reporter_of, with_rtcp, with_rtp}
 use Rattle.rtcp_show.specs.Notes.{kept_if, note_value, nothing}
 use Rattle.rtcp_show.proofs.ListingLemmas.{by_same}
 
@@ -40,7 +41,7 @@ pub heard_both :
     (listed : Bool) (peer : ℕ) (packets : List RtcpPacket) (media : Option ℕ) (ssrc : ℕ) (before between after : Flow)
     → between ≡ (if listed then with_rtp media peer ssrc before else before)
     → after ≡ (if listed then with_rtcp (reporter_of packets) peer ssrc between else between)
-    → after ≡ heard_if listed peer packets media ssrc before
+    → after ≡ if_listed listed (heard_after peer packets media ssrc) before
 heard_both true peer packets media ssrc before between after first second =
     second ∙ ap (with_rtcp (reporter_of packets) peer ssrc) first
 heard_both false peer packets media ssrc before between after first second = second ∙ first

@@ -15,11 +15,7 @@ use Rattle.rtcp_show.specs.Listings.{takes_part, told_in_life, told_of}
 
 abbrev is_left : Act → Bool
 is_left (left moment word) = true
-is_left (arrived moment peer word datagram) = false
-is_left (rtp_sent moment timestamp octets) = false
-is_left (ticked moment first_word second_word) = false
-is_left (configured moment settings) = false
-is_left (forgotten moment ssrc) = false
+is_left act = false
 
 present_after :
     (setup : Setup) (act : Act) (outcome : Outcome) → is_left act ≡ false

@@ -4,7 +4,8 @@ use Rattle.rtcp_wire.specs.Facts.{is_cname}
 use Rattle.rtcp_wire.specs.Values.{ItemValue, ReportBlock, RtcpPacket}
 use Rattle.rtcp_wire.specs.About.{blocks_about}
 use Rattle.rtcp_show.proofs.ListingLemmas.{by_same}
-use Rattle.rtcp_show.specs.Notes.{NoteValue, cnames_by, cnames_of, has_lsr, named_if, newest_of, noted_if, trip_of, tripped_if, with_cnames}
+use Rattle.rtcp_show.specs.Listings.{if_listed}
+use Rattle.rtcp_show.specs.Notes.{NoteValue, cnames_by, cnames_of, has_lsr, newest_of, noted_after, trip_of, with_cnames, with_trips}
 
 -- ---- What is newest
 
@@ -21,7 +22,8 @@ cnames-append xs ys ssrc note = ap (λ cname. record note { cname = cname }) (ne
 
 pub named-append :
     (listed : Bool) (xs ys : List (ℕ × List ℕ)) (ssrc : ℕ) (note : NoteValue)
-    → named_if listed (xs ++ ys) ssrc note ≡ named_if listed ys ssrc (named_if listed xs ssrc note)
+    → if_listed listed (with_cnames (xs ++ ys) ssrc) note
+    ≡ if_listed listed (with_cnames ys ssrc) (if_listed listed (with_cnames xs ssrc) note)
 named-append true xs ys ssrc note = cnames-append xs ys ssrc note
 named-append false xs ys ssrc note = refl
 
@@ -56,30 +58,31 @@ others_stay own (item ∷ items) ssrc before other =
 
 named_other :
     (listed : Bool) (own : ℕ) (items : List ItemValue) (ssrc : ℕ) (note : NoteValue) → nat_eq own ssrc ≡ false
-    → named_if listed (cnames_by own items) ssrc note ≡ note
+    → if_listed listed (with_cnames (cnames_by own items) ssrc) note ≡ note
 named_other true own items ssrc note other =
     ap (λ cname. record note { cname = cname }) (others_stay own items ssrc note.cname other)
 named_other false own items ssrc note other = refl
 
 pub unlisted_chunk :
     (listed : ℕ → Bool) (own : ℕ) (items : List ItemValue) (ssrc : ℕ) (note : NoteValue) → listed own ≡ false
-    → note ≡ named_if (listed ssrc) (cnames_by own items) ssrc note
+    → note ≡ if_listed (listed ssrc) (with_cnames (cnames_by own items) ssrc) note
 unlisted_chunk listed own items ssrc note never = by_same own ssrc
-    (λ test same. ap (λ t. named_if t (cnames_by own items) ssrc note) (sym never ∙ ap listed same))
+    (λ test same. ap (λ t. if_listed t (with_cnames (cnames_by own items) ssrc) note) (sym never ∙ ap listed same))
     (λ test. sym (named_other (listed ssrc) own items ssrc note test))
 
 pub listed_chunk :
     (listed : ℕ → Bool) (own : ℕ) (items : List ItemValue) (ssrc : ℕ) (note : NoteValue) → listed own ≡ true
-    → with_cnames (cnames_by own items) ssrc note ≡ named_if (listed ssrc) (cnames_by own items) ssrc note
+    → with_cnames (cnames_by own items) ssrc note
+    ≡ if_listed (listed ssrc) (with_cnames (cnames_by own items) ssrc) note
 listed_chunk listed own items ssrc note holds = by_same own ssrc
-    (λ test same. ap (λ t. named_if t (cnames_by own items) ssrc note) (sym holds ∙ ap listed same))
+    (λ test same. ap (λ t. if_listed t (with_cnames (cnames_by own items) ssrc) note) (sym holds ∙ ap listed same))
     (λ test. named_other true own items ssrc note test ∙ sym (named_other (listed ssrc) own items ssrc note test))
 
 -- ---- One block
 
 tripped_other :
     (listed : Bool) (arrived : ℕ) (x : ℕ × ReportBlock) (ssrc : ℕ) (note : NoteValue) → nat_eq x.0 ssrc ≡ false
-    → note ≡ tripped_if listed arrived (x ∷ []) ssrc note
+    → note ≡ if_listed listed (with_trips arrived (x ∷ []) ssrc) note
 tripped_other true arrived x ssrc note other = elim (has_lsr x) as (λ t.
     note ≡ record note { trip = newest_of ssrc (map (trip_of arrived) (if t then x ∷ [] else [])) note.trip }) [
       | true ↦ ap (λ t. record note { trip = if t then Some (trip_of arrived x).1 else note.trip }) (sym other)
@@ -91,7 +94,7 @@ pub listed_block :
     (listed : ℕ → Bool) (arrived : ℕ) (x : ℕ × ReportBlock) (ssrc : ℕ) (note : NoteValue) → listed x.0 ≡ true
     → has_lsr x ≡ true
     → (if nat_eq x.0 ssrc then record note { trip = Some (trip_of arrived x).1 } else note)
-    ≡ tripped_if (listed ssrc) arrived (x ∷ []) ssrc note
+    ≡ if_listed (listed ssrc) (with_trips arrived (x ∷ []) ssrc) note
 listed_block listed arrived x ssrc note holds has = by_same x.0 ssrc
     (λ test same. rw (sym (ap listed same), holds, has, test) refl)
     (λ test. rw test (tripped_other (listed ssrc) arrived x ssrc note test))
@@ -100,9 +103,9 @@ listed_block listed arrived x ssrc note holds has = by_same x.0 ssrc
 
 pub noted_both :
     (listed : Bool) (arrived own : ℕ) (packets : List RtcpPacket) (ssrc : ℕ) (before between after : NoteValue)
-    → between ≡ tripped_if listed arrived (blocks_about own packets) ssrc before
-    → after ≡ named_if listed (cnames_of packets) ssrc between
-    → after ≡ noted_if listed arrived own packets ssrc before
+    → between ≡ if_listed listed (with_trips arrived (blocks_about own packets) ssrc) before
+    → after ≡ if_listed listed (with_cnames (cnames_of packets) ssrc) between
+    → after ≡ if_listed listed (noted_after arrived own packets ssrc) before
 noted_both true arrived own packets ssrc before between after first second =
     second ∙ ap (with_cnames (cnames_of packets) ssrc) first
 noted_both false arrived own packets ssrc before between after first second = second ∙ first
@@ -110,9 +113,10 @@ noted_both false arrived own packets ssrc before between after first second = se
 -- What the rest names follows what one part of a list named.
 pub named_on :
     {A : Type 0} (names : A → List (ℕ × List ℕ)) (listed : Bool) (x : A) (rest whole : List A) (ssrc : ℕ)
-    (before after : NoteValue) → whole ≡ x ∷ rest → after ≡ named_if listed (names x) ssrc before
-    → named_if listed (flat_map names rest) ssrc after ≡ named_if listed (flat_map names whole) ssrc before
+    (before after : NoteValue) → whole ≡ x ∷ rest → after ≡ if_listed listed (with_cnames (names x) ssrc) before
+    → if_listed listed (with_cnames (flat_map names rest) ssrc) after
+    ≡ if_listed listed (with_cnames (flat_map names whole) ssrc) before
 named_on names listed x rest whole ssrc before after is named =
-    ap (named_if listed (flat_map names rest) ssrc) named
+    ap (if_listed listed (with_cnames (flat_map names rest) ssrc)) named
     ∙ sym (named-append listed (names x) (flat_map names rest) ssrc before)
-    ∙ ap (λ xs. named_if listed (flat_map names xs) ssrc before) (sym is)
+    ∙ ap (λ xs. if_listed listed (with_cnames (flat_map names xs) ssrc) before) (sym is)

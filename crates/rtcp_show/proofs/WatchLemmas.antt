@@ -12,10 +12,10 @@ use Rattle.rtcp_show.specs.declared.board.Board.{Board}
 use Rattle.rtcp_show.specs.declared.page.Page.{Page}
 use Rattle.rtcp_show.specs.declared.watcher.Watcher.{Watcher}
 use Rattle.rtcp_show.specs.Changes.{KeepsListing, ShowsChanges, lists_anew, tells_of_others}
-use Rattle.rtcp_show.specs.Flows.{IsMediaOf, elapsed_since, flow_in, flow_looked, heard_if, peer_of_event}
+use Rattle.rtcp_show.specs.Flows.{IsMediaOf, elapsed_since, flow_in, flow_looked, heard_after, peer_of_event}
 use Rattle.rtcp_show.specs.Lines.{HasPackets, ShowsBothBy, moment_of_event}
-use Rattle.rtcp_show.specs.Listings.{lists, told_of}
-use Rattle.rtcp_show.specs.Notes.{kept_if, noted_if, noted_in}
+use Rattle.rtcp_show.specs.Listings.{if_listed, lists, told_of}
+use Rattle.rtcp_show.specs.Notes.{kept_if, noted_after, noted_in}
 use Rattle.rtcp_show.specs.Watchers.{KeepsRows, LooksIf, Watches, arrival_at, held_on, is_due, listed_in, news_text, second_after, terms_of}
 use Rattle.rtcp_show.specs.Observations.{Knows, Observation}
 use Rattle.rtcp_show.specs.Wordings.{shown_in}
@@ -53,11 +53,12 @@ second_ok P (Err e) b given = tt
 pub record Notes
     (event : EventValue) (answer : AnswerValue) (history : History) (arrived : ℕ) (before after : Board) : Type 0 where
   pub noted : (packets : List RtcpPacket) → HasPackets event answer packets → (ssrc : ℕ) →
-      noted_in after.notes ssrc ≡ noted_if (lists history ssrc) arrived (setup_at history).ssrc packets ssrc
+      noted_in after.notes ssrc ≡ if_listed (lists history ssrc)
+      (noted_after arrived (setup_at history).ssrc packets ssrc)
       (noted_in before.notes ssrc)
   pub flowing : (packets : List RtcpPacket) (media : Option ℕ) → HasPackets event answer packets →
       IsMediaOf event answer media → (ssrc : ℕ) →
-      flow_in after.flows ssrc ≡ heard_if (lists history ssrc) (peer_of_event event) packets media ssrc
+      flow_in after.flows ssrc ≡ if_listed (lists history ssrc) (heard_after (peer_of_event event) packets media ssrc)
       (flow_in before.flows ssrc)
   pub looked : after.flows.looked ≡ before.flows.looked
   pub rows : after.rows ≡ before.rows

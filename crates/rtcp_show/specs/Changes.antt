@@ -1,7 +1,7 @@
 -- The lines of sources that joined, left, began or ceased to send, as `rtcp listen --show` writes them.
 use Rattle.std.specs.Prelude.{◌≡◌, ◌&&◌, ℕ, not, Bool, true, false, if◌then◌else◌, List, [], ◌∷◌, ◌++◌, map, codes, Ok, Err}
 use Rattle.std.specs.List.{flat_map}
-use Rattle.rtcp_engine.specs.Acts.{EventValue, rtcp_arrived, rtp_arrived, packet_sent, time_passed, leave_asked, settings_given, forget_asked}
+use Rattle.rtcp_engine.specs.Acts.{EventValue, leave_asked, forget_asked}
 use Rattle.rtcp_engine.specs.Histories.{History, life_at, setup_at}
 use Rattle.rtcp_engine.specs.Lives.{WalksInLife}
 use Rattle.rtcp_engine.specs.Steps.{AnswerValue}
@@ -37,21 +37,11 @@ changes_text moment before after =
 
 abbrev pub is_leave : EventValue → Bool
 is_leave (leave_asked moment word) = true
-is_leave (rtcp_arrived moment peer word octets) = false
-is_leave (rtp_arrived moment peer word octets) = false
-is_leave (packet_sent moment timestamp octets) = false
-is_leave (time_passed moment first_word second_word) = false
-is_leave (settings_given moment settings) = false
-is_leave (forget_asked moment ssrc) = false
+is_leave event = false
 
 abbrev pub is_dismissal : EventValue → Bool
 is_dismissal (forget_asked moment ssrc) = true
-is_dismissal (rtcp_arrived moment peer word octets) = false
-is_dismissal (rtp_arrived moment peer word octets) = false
-is_dismissal (packet_sent moment timestamp octets) = false
-is_dismissal (time_passed moment first_word second_word) = false
-is_dismissal (settings_given moment settings) = false
-is_dismissal (leave_asked moment word) = false
+is_dismissal event = false
 
 abbrev pub others_changed_in : AnswerValue → Bool
 others_changed_in (Ok step) = step.others_changed

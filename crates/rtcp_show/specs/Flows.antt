@@ -3,12 +3,13 @@ use Rattle.std.specs.Prelude.{◌≡◌, ℕ, ℤ, pos, negsuc, ◌+◌, ◌-◌
 use Rattle.std.specs.BTreeMap as stored
 use Rattle.std.specs.Option.{option_map_or}
 use Rattle.std.specs.Ordering.{nat_cmp}
-use Rattle.rtcp_engine.specs.Acts.{EventValue, rtcp_arrived, rtp_arrived, packet_sent, time_passed, leave_asked, settings_given, forget_asked}
+use Rattle.rtcp_engine.specs.Acts.{EventValue, rtcp_arrived, rtp_arrived}
 use Rattle.rtcp_engine.specs.Steps.{AnswerValue}
 use Rattle.rtcp_members.specs.Told.{StateValue}
 use Rattle.rtcp_source.specs.Receptions.{ReceptionValue}
 use Rattle.rtcp_wire.specs.RtpHeads.{RtpValue, IsRtpHead}
-use Rattle.rtcp_wire.specs.Values.{RtcpPacket, sr, rr, sdes, bye, app, other}
+use Rattle.rtcp_wire.specs.Values.{RtcpPacket, sr, rr}
+use Rattle.rtcp_show.specs.Listings.{if_listed}
 use Rattle.rtcp_show.specs.declared.flows.Flow.{Flow}
 use Rattle.rtcp_show.specs.declared.flows.Flows.{Flows}
 
@@ -25,11 +26,7 @@ flow_in flows ssrc = option_map_or (λ flow. flow) (stored.get nat_cmp flows.by_
 abbrev pub peer_of_event : EventValue → ℕ
 peer_of_event (rtcp_arrived moment peer word octets) = peer
 peer_of_event (rtp_arrived moment peer word octets) = peer
-peer_of_event (packet_sent moment timestamp octets) = 0
-peer_of_event (time_passed moment first_word second_word) = 0
-peer_of_event (leave_asked moment word) = 0
-peer_of_event (settings_given moment settings) = 0
-peer_of_event (forget_asked moment ssrc) = 0
+peer_of_event event = 0
 
 -- whose RTP packet came with an event, where it was taken (RFC 3550, 5.1)
 abbrev pub IsMedia : (octets : List ℕ) → AnswerValue → (media : Option ℕ) → Type 0
@@ -38,22 +35,14 @@ IsMedia octets (Err refusal) media = media ≡ None
 
 abbrev pub IsMediaOf : EventValue → AnswerValue → (media : Option ℕ) → Type 0
 IsMediaOf (rtp_arrived moment peer word octets) answer media = IsMedia octets answer media
-IsMediaOf (rtcp_arrived moment peer word octets) answer media = media ≡ None
-IsMediaOf (packet_sent moment timestamp octets) answer media = media ≡ None
-IsMediaOf (time_passed moment first_word second_word) answer media = media ≡ None
-IsMediaOf (leave_asked moment word) answer media = media ≡ None
-IsMediaOf (settings_given moment settings) answer media = media ≡ None
-IsMediaOf (forget_asked moment ssrc) answer media = media ≡ None
+IsMediaOf event answer media = media ≡ None
 
 -- whose report a compound begins with
 abbrev pub reporter_of : List RtcpPacket → Option ℕ
 reporter_of [] = None
 reporter_of (sr sender blocks extension ∷ packets) = Some sender.ssrc
 reporter_of (rr ssrc blocks extension ∷ packets) = Some ssrc
-reporter_of (sdes chunks ∷ packets) = None
-reporter_of (bye ids reason ∷ packets) = None
-reporter_of (app subtype ssrc name content ∷ packets) = None
-reporter_of (other kind count body ∷ packets) = None
+reporter_of (packet ∷ packets) = None
 
 abbrev pub is_source : Option ℕ → (ssrc : ℕ) → Bool
 is_source None ssrc = false
@@ -67,11 +56,9 @@ with_rtp source peer ssrc flow = if is_source source ssrc then record flow { rtp
 abbrev pub with_rtcp : (source : Option ℕ) → (peer ssrc : ℕ) → Flow → Flow
 with_rtcp source peer ssrc flow = if is_source source ssrc then record flow { rtcp_peer = Some peer } else flow
 
--- What is kept of a source after a datagram from a peer, where the participant lists it: a compound, or the RTP packet
--- of a source.
-abbrev pub heard_if : (listed : Bool) → (peer : ℕ) → List RtcpPacket → (media : Option ℕ) → (ssrc : ℕ) → Flow → Flow
-heard_if listed peer packets media ssrc flow =
-    if listed then with_rtcp (reporter_of packets) peer ssrc (with_rtp media peer ssrc flow) else flow
+-- What is kept of a source after a datagram from a peer: a compound, or the RTP packet of a source.
+abbrev pub heard_after : (peer : ℕ) → List RtcpPacket → (media : Option ℕ) → (ssrc : ℕ) → Flow → Flow
+heard_after peer packets media ssrc flow = with_rtcp (reporter_of packets) peer ssrc (with_rtp media peer ssrc flow)
 
 -- ---- How packets come, when the rows are due
 
@@ -119,5 +106,5 @@ flow_looked elapsed (Some state) flow = looked_at elapsed state flow
 abbrev pub flow_told : (due : Bool) → (elapsed : ℕ) → (told : Option StateValue) → (peer : ℕ) → List RtcpPacket
     → (media : Option ℕ) → (ssrc : ℕ) → Flow → Flow
 flow_told due elapsed told peer packets media ssrc flow =
-    let heard = heard_if (is_some told) peer packets media ssrc flow in
+    let heard = if_listed (is_some told) (heard_after peer packets media ssrc) flow in
     if due then flow_looked elapsed told heard else heard

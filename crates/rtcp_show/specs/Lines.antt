@@ -36,12 +36,7 @@ ArePackets octets (Err refusal) packets = packets ≡ []
 -- the packets that came with an event, where they were taken
 abbrev pub HasPackets : EventValue → AnswerValue → List RtcpPacket → Type 0
 HasPackets (rtcp_arrived moment peer word octets) answer packets = ArePackets octets answer packets
-HasPackets (rtp_arrived moment peer word octets) answer packets = packets ≡ []
-HasPackets (packet_sent moment timestamp octets) answer packets = packets ≡ []
-HasPackets (time_passed moment first_word second_word) answer packets = packets ≡ []
-HasPackets (leave_asked moment word) answer packets = packets ≡ []
-HasPackets (settings_given moment settings) answer packets = packets ≡ []
-HasPackets (forget_asked moment ssrc) answer packets = packets ≡ []
+HasPackets event answer packets = packets ≡ []
 
 -- An RTCP datagram has the text of `check` where it was taken.
 abbrev pub ShowsRtcp : (shows : List RtcpPacket → List ℕ) → (moment peer : ℕ) → (octets : List ℕ) → AnswerValue →
@@ -61,14 +56,19 @@ abbrev pub told_text : (moment : ℕ) → AnswerValue → List ℕ
 told_text moment (Ok step) = []
 told_text moment (Err refusal) = moment_text moment ++ codes " " ++ refused_text refusal
 
+abbrev pub moment_of_event : EventValue → ℕ
+moment_of_event (rtcp_arrived moment peer word octets) = moment
+moment_of_event (rtp_arrived moment peer word octets) = moment
+moment_of_event (packet_sent moment timestamp octets) = moment
+moment_of_event (time_passed moment first_word second_word) = moment
+moment_of_event (leave_asked moment word) = moment
+moment_of_event (settings_given moment settings) = moment
+moment_of_event (forget_asked moment ssrc) = moment
+
 abbrev pub ShowsEvent : (shows : List RtcpPacket → List ℕ) → EventValue → AnswerValue → List ℕ → Type 0
 ShowsEvent shows (rtcp_arrived moment peer word octets) answer text = ShowsRtcp shows moment peer octets answer text
 ShowsEvent shows (rtp_arrived moment peer word octets) answer text = text ≡ rtp_text moment peer answer
-ShowsEvent shows (packet_sent moment timestamp octets) answer text = text ≡ told_text moment answer
-ShowsEvent shows (time_passed moment first_word second_word) answer text = text ≡ told_text moment answer
-ShowsEvent shows (leave_asked moment word) answer text = text ≡ told_text moment answer
-ShowsEvent shows (settings_given moment settings) answer text = text ≡ told_text moment answer
-ShowsEvent shows (forget_asked moment ssrc) answer text = text ≡ told_text moment answer
+ShowsEvent shows event answer text = text ≡ told_text (moment_of_event event) answer
 
 -- ---- What was answered
 
@@ -94,15 +94,6 @@ abbrev pub unsent_text : (moment to : ℕ) → List ℕ
 unsent_text moment to = moment_text moment ++ codes " unsent " ++ peer_text to ++ 10 ∷ []
 
 -- ---- Both
-
-abbrev pub moment_of_event : EventValue → ℕ
-moment_of_event (rtcp_arrived moment peer word octets) = moment
-moment_of_event (rtp_arrived moment peer word octets) = moment
-moment_of_event (packet_sent moment timestamp octets) = moment
-moment_of_event (time_passed moment first_word second_word) = moment
-moment_of_event (leave_asked moment word) = moment
-moment_of_event (settings_given moment settings) = moment
-moment_of_event (forget_asked moment ssrc) = moment
 
 -- what came, and then what was answered
 abbrev pub ShowsBothBy : (shows : List RtcpPacket → List ℕ) → (to : ℕ) → EventValue → AnswerValue → List ℕ → Type 0

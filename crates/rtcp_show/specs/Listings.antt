@@ -26,6 +26,10 @@ told_of history ssrc = told_in_life (setup_at history) (life_at history) ssrc
 abbrev pub lists : History → (ssrc : ℕ) → Bool
 lists history ssrc = is_some (told_of history ssrc)
 
+-- what is kept of a source, which is changed only where it is listed
+abbrev pub if_listed : {A : Type 0} → (listed : Bool) → (change : A → A) → A → A
+if_listed listed change kept = if listed then change kept else kept
+
 -- what a listing has of a source, if it is there
 abbrev pub state_in : List StateValue → (ssrc : ℕ) → Option StateValue
 state_in [] ssrc = None

@@ -6,7 +6,8 @@ use Rattle.std.specs.Ordering.{nat_cmp}
 use Rattle.rtcp_clock.specs.Moments.{time_of_trip}
 use Rattle.rtcp_wire.specs.About.{blocks_about}
 use Rattle.rtcp_wire.specs.Facts.{is_cname}
-use Rattle.rtcp_wire.specs.Values.{ChunkValue, ItemValue, ReportBlock, RtcpPacket, sr, rr, sdes, bye, app, other}
+use Rattle.rtcp_wire.specs.Values.{ChunkValue, ItemValue, ReportBlock, RtcpPacket, sdes}
+use Rattle.rtcp_show.specs.Listings.{if_listed}
 use Rattle.rtcp_show.specs.declared.notes.Note.{Note}
 use Rattle.rtcp_show.specs.declared.notes.Notes.{Notes}
 
@@ -44,11 +45,7 @@ cnames_of_chunk chunk = cnames_by chunk.id chunk.items
 
 abbrev pub cnames_of_packet : RtcpPacket → List (ℕ × List ℕ)
 cnames_of_packet (sdes chunks) = flat_map cnames_of_chunk chunks
-cnames_of_packet (sr sender blocks extension) = []
-cnames_of_packet (rr ssrc blocks extension) = []
-cnames_of_packet (bye ids reason) = []
-cnames_of_packet (app subtype ssrc name content) = []
-cnames_of_packet (other kind count body) = []
+cnames_of_packet packet = []
 
 abbrev pub cnames_of : List RtcpPacket → List (ℕ × List ℕ)
 cnames_of packets = flat_map cnames_of_packet packets
@@ -73,24 +70,14 @@ trips_of arrived blocks = map (trip_of arrived) (filter has_lsr blocks)
 abbrev pub with_trips : (arrived : ℕ) → List (ℕ × ReportBlock) → (ssrc : ℕ) → NoteValue → NoteValue
 with_trips arrived blocks ssrc note = record note { trip = newest_of ssrc (trips_of arrived blocks) note.trip }
 
-abbrev pub tripped_if :
-    (listed : Bool) → (arrived : ℕ) → List (ℕ × ReportBlock) → (ssrc : ℕ) → NoteValue → NoteValue
-tripped_if listed arrived blocks ssrc note = if listed then with_trips arrived blocks ssrc note else note
-
 abbrev pub with_cnames : List (ℕ × List ℕ) → (ssrc : ℕ) → NoteValue → NoteValue
 with_cnames cnames ssrc note = record note { cname = newest_of ssrc cnames note.cname }
 
--- What is noted of a source after a compound that arrived then, where the participant of this identifier lists it. The
--- moment of arrival is the middle 32 bits of its NTP timestamp.
+-- What is noted of a source after a compound that arrived then, by the participant of this identifier. The moment of
+-- arrival is the middle 32 bits of its NTP timestamp.
 abbrev pub noted_after : (arrived own : ℕ) → List RtcpPacket → (ssrc : ℕ) → NoteValue → NoteValue
 noted_after arrived own packets ssrc note =
     with_cnames (cnames_of packets) ssrc (with_trips arrived (blocks_about own packets) ssrc note)
-
-abbrev pub named_if : (listed : Bool) → List (ℕ × List ℕ) → (ssrc : ℕ) → NoteValue → NoteValue
-named_if listed cnames ssrc note = if listed then with_cnames cnames ssrc note else note
-
-abbrev pub noted_if : (listed : Bool) → (arrived own : ℕ) → List RtcpPacket → (ssrc : ℕ) → NoteValue → NoteValue
-noted_if listed arrived own packets ssrc note = if listed then noted_after arrived own packets ssrc note else note
 
 -- Where the rows are due, what is noted of sources that are not listed is forgotten.
 abbrev pub kept_if : (listed : Bool) → NoteValue → NoteValue
@@ -100,5 +87,5 @@ kept_if listed note = if listed then note else nothing
 abbrev pub note_told :
     (due listed : Bool) → (arrived own : ℕ) → List RtcpPacket → (ssrc : ℕ) → NoteValue → NoteValue
 note_told due listed arrived own packets ssrc note =
-    let noted = noted_if listed arrived own packets ssrc note in
+    let noted = if_listed listed (noted_after arrived own packets ssrc) note in
     if due then kept_if listed noted else noted

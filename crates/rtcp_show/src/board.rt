@@ -4,9 +4,9 @@ ghost use Rattle.std.specs.Prelude.{◌≡◌, ◌++◌, [], ℕ, Option, OnOk, 
 ghost use Rattle.rtcp_engine.specs.Histories.{History, setup_at};
 ghost use Rattle.rtcp_engine.specs.States.{StandsAt};
 ghost use Rattle.rtcp_engine.specs.Views.{answer_value, event_value};
-ghost use Rattle.rtcp_show.specs.Flows.{IsMediaOf, flow_in, heard_if, no_flow, peer_of_event};
-ghost use Rattle.rtcp_show.specs.Listings.{lists};
-ghost use Rattle.rtcp_show.specs.Notes.{noted_if, noted_in, nothing};
+ghost use Rattle.rtcp_show.specs.Flows.{IsMediaOf, flow_in, heard_after, no_flow, peer_of_event};
+ghost use Rattle.rtcp_show.specs.Listings.{if_listed, lists};
+ghost use Rattle.rtcp_show.specs.Notes.{noted_after, noted_in, nothing};
 ghost use Rattle.rtcp_show.specs.Watchers.{news_text};
 
 use crate::flows::Flows;
@@ -66,12 +66,13 @@ impl Board {
         participant: &Participant<T>,
     ) -> Result<(), AllocError>
         ensures noted { (history : History) → StandsAt participant.now history → OnOk result ((ssrc : ℕ) →
-            noted_in self.new.notes ssrc ≡ noted_if (lists history ssrc) arrived (setup_at history).ssrc
-            (unwrap_or compound.now []) ssrc (noted_in self.old.notes ssrc)) }
+            noted_in self.new.notes ssrc ≡ if_listed (lists history ssrc)
+            (noted_after arrived (setup_at history).ssrc (unwrap_or compound.now []) ssrc)
+            (noted_in self.old.notes ssrc)) }
         ensures flowing { (history : History) (media : Option ℕ) → StandsAt participant.now history →
             IsMediaOf (event_value event.now) (answer_value answer.now) media →
-            OnOk result ((ssrc : ℕ) → flow_in self.new.flows ssrc ≡ heard_if (lists history ssrc)
-            (peer_of_event (event_value event.now)) (unwrap_or compound.now []) media ssrc
+            OnOk result ((ssrc : ℕ) → flow_in self.new.flows ssrc ≡ if_listed (lists history ssrc)
+            (heard_after (peer_of_event (event_value event.now)) (unwrap_or compound.now []) media ssrc)
             (flow_in self.old.flows ssrc)) }
         ensures looked { self.new.flows.looked ≡ self.old.flows.looked }
         ensures rows { self.new.rows ≡ self.old.rows }

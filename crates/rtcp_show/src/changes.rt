@@ -83,30 +83,14 @@ pub(crate) fn tells_of_others(event: &Event<'_>, answer: &Answer) -> bool
 fn is_leave(event: &Event<'_>) -> bool
     ensures { result ≡ is_leave (event_value event.now) }
 {
-    match event {
-        Event::Leave { .. } => true,
-        Event::ArriveRtcp { .. }
-        | Event::ArriveRtp { .. }
-        | Event::SentRtp { .. }
-        | Event::Tick { .. }
-        | Event::Configure { .. }
-        | Event::Forget { .. } => false,
-    }
+    matches!(event, Event::Leave { .. })
 }
 
 /// Whether the host said that a source is gone.
 fn is_dismissal(event: &Event<'_>) -> bool
     ensures { result ≡ is_dismissal (event_value event.now) }
 {
-    match event {
-        Event::Forget { .. } => true,
-        Event::ArriveRtcp { .. }
-        | Event::ArriveRtp { .. }
-        | Event::SentRtp { .. }
-        | Event::Tick { .. }
-        | Event::Leave { .. }
-        | Event::Configure { .. } => false,
-    }
+    matches!(event, Event::Forget { .. })
 }
 
 /// Appends the sources that the participant tells of to a list.

@@ -6,8 +6,8 @@ ghost use Rattle.rtcp_engine.specs.States.{StandsAt};
 ghost use Rattle.rtcp_engine.specs.Views.{answer_value, event_value};
 ghost use Rattle.rtcp_members.specs.ListViews.{state_value};
 ghost use Rattle.rtcp_source.specs.Views.{reception_value};
-ghost use Rattle.rtcp_show.specs.Flows.{IsMedia, IsMediaOf, counted_in, elapsed_since, flow_in, flow_looked, heard_if, looked_at, loss_of, lost_packets, no_flow, pace_between, peer_of_event, reporter_of, with_rtcp, with_rtp};
-ghost use Rattle.rtcp_show.specs.Listings.{lists, told_of};
+ghost use Rattle.rtcp_show.specs.Flows.{IsMedia, IsMediaOf, counted_in, elapsed_since, flow_in, flow_looked, heard_after, looked_at, loss_of, lost_packets, no_flow, pace_between, peer_of_event, reporter_of, with_rtcp, with_rtp};
+ghost use Rattle.rtcp_show.specs.Listings.{if_listed, lists, told_of};
 
 use crate::notes::is_listed;
 use rtcp_engine::{Answer, Event, Participant};
@@ -93,8 +93,9 @@ impl Flows {
     ) -> Result<(), AllocError>
         ensures noted { (history : History) (media : Option ℕ) → StandsAt participant.now history →
             IsMediaOf (event_value event.now) (answer_value answer.now) media →
-            OnOk result ((ssrc : ℕ) → flow_in self.new ssrc ≡ heard_if (lists history ssrc)
-            (peer_of_event (event_value event.now)) (unwrap_or compound.now []) media ssrc (flow_in self.old ssrc)) }
+            OnOk result ((ssrc : ℕ) → flow_in self.new ssrc ≡ if_listed (lists history ssrc)
+            (heard_after (peer_of_event (event_value event.now)) (unwrap_or compound.now []) media ssrc)
+            (flow_in self.old ssrc)) }
         ensures looked { self.new.looked ≡ self.old.looked }
     {
         let peer = peer_of(event);
@@ -110,8 +111,8 @@ impl Flows {
         participant: &Participant<T>,
     ) -> Result<(), AllocError>
         ensures noted { (history : History) → StandsAt participant.now history → OnOk result ((ssrc : ℕ) →
-            flow_in self.new ssrc ≡ (if lists history ssrc then with_rtp source peer ssrc (flow_in self.old ssrc)
-            else flow_in self.old ssrc)) }
+            flow_in self.new ssrc ≡ if_listed (lists history ssrc) (with_rtp source peer ssrc)
+            (flow_in self.old ssrc)) }
         ensures looked { self.new.looked ≡ self.old.looked }
     {
         let Some(ssrc) = source else {
@@ -136,8 +137,8 @@ impl Flows {
         participant: &Participant<T>,
     ) -> Result<(), AllocError>
         ensures noted { (history : History) → StandsAt participant.now history → OnOk result ((ssrc : ℕ) →
-            flow_in self.new ssrc ≡ (if lists history ssrc then with_rtcp source peer ssrc (flow_in self.old ssrc)
-            else flow_in self.old ssrc)) }
+            flow_in self.new ssrc ≡ if_listed (lists history ssrc) (with_rtcp source peer ssrc)
+            (flow_in self.old ssrc)) }
         ensures looked { self.new.looked ≡ self.old.looked }
     {
         let Some(ssrc) = source else {
@@ -201,11 +202,7 @@ fn peer_of(event: &Event<'_>) -> u64
 {
     match event {
         Event::ArriveRtcp { peer, .. } | Event::ArriveRtp { peer, .. } => *peer,
-        Event::SentRtp { .. }
-        | Event::Tick { .. }
-        | Event::Leave { .. }
-        | Event::Configure { .. }
-        | Event::Forget { .. } => 0,
+        _ => 0,
     }
 }
 
@@ -216,12 +213,7 @@ fn media_of(event: &Event<'_>, answer: &Answer) -> Option<u32>
 {
     match event {
         Event::ArriveRtp { bytes, .. } => media_in(bytes, answer),
-        Event::ArriveRtcp { .. }
-        | Event::SentRtp { .. }
-        | Event::Tick { .. }
-        | Event::Leave { .. }
-        | Event::Configure { .. }
-        | Event::Forget { .. } => None,
+        _ => None,
     }
 }
 

@@ -9,8 +9,8 @@ ghost use Rattle.rtcp_members.specs.Pending.{is_after};
 ghost use Rattle.rtcp_wire.specs.About.{blocks_about};
 ghost use Rattle.rtcp_wire.specs.Views.{block_value, packet_value};
 ghost use Rattle.rtcp_wire.specs.WriterViews.{item_ref_of};
-ghost use Rattle.rtcp_show.specs.Listings.{lists};
-ghost use Rattle.rtcp_show.specs.Notes.{cnames_by, cnames_of, cnames_of_chunk, cnames_of_packet, kept_if, named_if, names_report, note_value, noted_if, noted_in, nothing, stored_in, tripped_if, with_cnames};
+ghost use Rattle.rtcp_show.specs.Listings.{if_listed, lists};
+ghost use Rattle.rtcp_show.specs.Notes.{cnames_by, cnames_of, cnames_of_chunk, cnames_of_packet, kept_if, names_report, note_value, noted_after, noted_in, nothing, stored_in, with_cnames, with_trips};
 ghost use Rattle.rtcp_show.specs.declared.notes.Note.{Note as Noted};
 
 use arrayvec::ArrayVec;
@@ -81,8 +81,8 @@ impl Notes {
         participant: &Participant<T>,
     ) -> Result<(), AllocError>
         ensures { (history : History) → StandsAt participant.now history → OnOk result ((ssrc : ℕ) →
-            noted_in self.new ssrc ≡ noted_if (lists history ssrc) arrived (setup_at history).ssrc
-            (unwrap_or compound.now []) ssrc (noted_in self.old ssrc)) }
+            noted_in self.new ssrc ≡ if_listed (lists history ssrc)
+            (noted_after arrived (setup_at history).ssrc (unwrap_or compound.now []) ssrc) (noted_in self.old ssrc)) }
     {
         let Some(compound) = compound else {
             return Ok(());
@@ -99,8 +99,8 @@ impl Notes {
         participant: &Participant<T>,
     ) -> Result<(), AllocError>
         ensures { (history : History) → StandsAt participant.now history → OnOk result ((ssrc : ℕ) →
-            noted_in self.new ssrc ≡ tripped_if (lists history ssrc) arrived
-            (blocks_about (setup_at history).ssrc compound.now) ssrc (noted_in self.old ssrc)) }
+            noted_in self.new ssrc ≡ if_listed (lists history ssrc)
+            (with_trips arrived (blocks_about (setup_at history).ssrc compound.now) ssrc) (noted_in self.old ssrc)) }
     {
         for reported in compound.about(participant.ssrc()) {
             self.note_block(arrived, reported.0, &reported.1, participant)?;
@@ -118,8 +118,8 @@ impl Notes {
         participant: &Participant<T>,
     ) -> Result<(), AllocError>
         ensures { (history : History) → StandsAt participant.now history → OnOk result ((ssrc : ℕ) →
-            noted_in self.new ssrc ≡ tripped_if (lists history ssrc) arrived ((reporter, block_value block.now) ∷ [])
-            ssrc (noted_in self.old ssrc)) }
+            noted_in self.new ssrc ≡ if_listed (lists history ssrc)
+            (with_trips arrived ((reporter, block_value block.now) ∷ []) ssrc) (noted_in self.old ssrc)) }
     {
         if !names_report(block) {
             return Ok(());
@@ -137,7 +137,7 @@ impl Notes {
         participant: &Participant<T>,
     ) -> Result<(), AllocError>
         ensures { (history : History) → StandsAt participant.now history → OnOk result ((ssrc : ℕ) →
-            noted_in self.new ssrc ≡ named_if (lists history ssrc) (cnames_of compound.now) ssrc
+            noted_in self.new ssrc ≡ if_listed (lists history ssrc) (with_cnames (cnames_of compound.now) ssrc)
             (noted_in self.old ssrc)) }
     {
         for packet in compound.packets() {
@@ -153,7 +153,8 @@ impl Notes {
         participant: &Participant<T>,
     ) -> Result<(), AllocError>
         ensures { (history : History) → StandsAt participant.now history → OnOk result ((ssrc : ℕ) →
-            noted_in self.new ssrc ≡ named_if (lists history ssrc) (cnames_of_packet (packet_value packet.now)) ssrc
+            noted_in self.new ssrc ≡ if_listed (lists history ssrc)
+            (with_cnames (cnames_of_packet (packet_value packet.now)) ssrc)
             (noted_in self.old ssrc)) }
     {
         match packet {
@@ -169,7 +170,8 @@ impl Notes {
         participant: &Participant<T>,
     ) -> Result<(), AllocError>
         ensures { (history : History) → StandsAt participant.now history → OnOk result ((ssrc : ℕ) →
-            noted_in self.new ssrc ≡ named_if (lists history ssrc) (flat_map cnames_of_chunk description.now) ssrc
+            noted_in self.new ssrc ≡ if_listed (lists history ssrc)
+            (with_cnames (flat_map cnames_of_chunk description.now) ssrc)
             (noted_in self.old ssrc)) }
     {
         for chunk in description.chunks() {
@@ -185,7 +187,7 @@ impl Notes {
         participant: &Participant<T>,
     ) -> Result<(), AllocError>
         ensures { (history : History) → StandsAt participant.now history → OnOk result ((ssrc : ℕ) →
-            noted_in self.new ssrc ≡ named_if (lists history ssrc) (cnames_of_chunk chunk.now) ssrc
+            noted_in self.new ssrc ≡ if_listed (lists history ssrc) (with_cnames (cnames_of_chunk chunk.now) ssrc)
             (noted_in self.old ssrc)) }
     {
         if is_listed(chunk.id(), participant) {

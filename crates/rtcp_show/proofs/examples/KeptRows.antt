@@ -3,7 +3,8 @@ use Rattle.std.specs.Prelude.{◌≡◌, ℕ, ℤ, pos, negsuc, true, false, Lis
 use Rattle.std.proofs.Common.{refl}
 use Rattle.rtcp_source.specs.Receptions.{ReceptionValue}
 use Rattle.rtcp_wire.specs.Values.{ChunkValue, ReportBlock, RtcpPacket, bye, rr, sdes}
-use Rattle.rtcp_show.specs.Flows.{heard_if, loss_of, no_flow, pace_between, reporter_of}
+use Rattle.rtcp_show.specs.Listings.{if_listed}
+use Rattle.rtcp_show.specs.Flows.{heard_after, loss_of, no_flow, pace_between, reporter_of}
 use Rattle.rtcp_show.specs.Notes.{NoteValue, cnames_of, newest_of, note_told, nothing, trips_of}
 
 -- ---- Loss: 2 of 152, 1 of 3, all of 5, and more came than were expected
@@ -93,14 +94,15 @@ first_report = refl
 no_report : reporter_of (bye (7 ∷ []) None ∷ []) ≡ None
 no_report = refl
 
-report_of_it : heard_if true 5007 (rr 7 [] [] ∷ []) None 7 no_flow ≡ record no_flow { rtcp_peer = Some 5007 }
+report_of_it : if_listed true (heard_after 5007 (rr 7 [] [] ∷ []) None 7) no_flow
+    ≡ record no_flow { rtcp_peer = Some 5007 }
 report_of_it = refl
 
-report_of_another : heard_if true 5007 (rr 8 [] [] ∷ []) None 7 no_flow ≡ no_flow
+report_of_another : if_listed true (heard_after 5007 (rr 8 [] [] ∷ []) None 7) no_flow ≡ no_flow
 report_of_another = refl
 
-packet_of_it : heard_if true 5006 [] (Some 7) 7 no_flow ≡ record no_flow { rtp_peer = Some 5006 }
+packet_of_it : if_listed true (heard_after 5006 [] (Some 7) 7) no_flow ≡ record no_flow { rtp_peer = Some 5006 }
 packet_of_it = refl
 
-heard_unlisted : heard_if false 5006 [] (Some 7) 7 no_flow ≡ no_flow
+heard_unlisted : if_listed false (heard_after 5006 [] (Some 7) 7) no_flow ≡ no_flow
 heard_unlisted = refl
