@@ -78,14 +78,6 @@ pub(crate) fn watched<L: Link, O: Observer>(
 {
     let (mut rng, mut buf) = (Zeros(0), [0; 65_535]);
     let (none, most) = (&mut None::<Until>, u64::from(turns));
-    let end = serve_until(
-        link,
-        participant,
-        &mut rng,
-        none,
-        most,
-        observer,
-        &mut buf,
-    );
+    let end = serve_until(link, participant, &mut rng, none, most, observer, &mut buf);
     (end, rng.0)
 }

@@ -62,10 +62,9 @@ impl<'a> Watch<'a> {
     /// Notes an event with its answer, after so many calls of the link, if it fits.
     pub(crate) fn note(&mut self, calls: usize, event: &Event<'_>, answer: &Answer) {
         self.is_whole = match telling_of(self.alloc, calls, event, answer) {
-            Ok(noted) =>
-                self.is_whole
-                    && self.tellings.len() < self.tellings.capacity()
-                    && self.tellings.push(noted).is_ok(),
+            Ok(noted) => self.is_whole
+                && self.tellings.len() < self.tellings.capacity()
+                && self.tellings.push(noted).is_ok(),
             Err(_) => false,
         };
     }
