@@ -1,5 +1,2 @@
-mod Locating
 mod Serving
 mod Refusing
-mod Walking
-mod OwnApps

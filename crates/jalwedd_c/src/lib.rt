@@ -24,7 +24,6 @@
 //! Memory comes from three functions that the host may replace (package/memory.c). Only `jalwedd_new` allocates.
 #![tactic(auto)]
 
-mod app;
 mod begin;
 mod calls;
 mod change;

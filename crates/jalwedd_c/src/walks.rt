@@ -8,12 +8,11 @@ ghost use Rattle.jalwedd_host.specs.Parts.{ShowsGoodbye, ShowsItem, ShowsSender}
 ghost use Rattle.jalwedd_host.specs.Readings.{ShowsBlock};
 ghost use Rattle.jalwedd_host.specs.Walks.{Continues};
 
-use jalwedd_host::app::{AppPlace, app_place};
-use jalwedd_host::parts::{GoodbyePlace, ItemPlace, SenderInfo, goodbye_place, item_place};
-use jalwedd_host::reading::{Report, shown};
-use jalwedd_host::status::{NO_COMPOUND, NO_PART, TAKEN};
-use jalwedd_host::walks::sender_info;
-use rtcp_parts::Cursor;
+use jalwedd_host::app::AppPlace;
+use jalwedd_host::parts::{GoodbyePlace, ItemPlace, SenderInfo};
+use jalwedd_host::reading::Report;
+use jalwedd_host::walks::tell_next;
+use rtcp_parts::{Cursor, PlacedApp, PlacedGoodbye, PlacedItem, Reported, Sender};
 
 /// Tells of the next part of a walk over the sender reports of a datagram, in their order, and moves the cursor after
 /// it. Begin with a cursor of zeros, and go on with it until the status is not 0: then each part was told once. Else
@@ -31,14 +30,7 @@ pub extern "C" fn jalwedd_next_sender(
     ensures { Continues packet_senders LeavesNone ShowsSender
         datagram.now cursor.old cursor.new result sender.old sender.new }
 {
-    match rtcp_parts::next_sender(datagram, cursor) {
-        Ok(Some(next)) => {
-            *sender = sender_info(&next);
-            TAKEN
-        }
-        Ok(None) => NO_PART,
-        Err(_) => NO_COMPOUND,
-    }
+    tell_next::<Sender>(datagram, cursor, sender)
 }
 
 /// The same, of a walk over the blocks of all reports.
@@ -51,14 +43,7 @@ pub extern "C" fn jalwedd_next_block(
     ensures { Continues packet_blocks LeavesBlocks ShowsBlock
         datagram.now cursor.old cursor.new result report.old report.new }
 {
-    match rtcp_parts::next_block(datagram, cursor) {
-        Ok(Some((reporter, block))) => {
-            *report = shown(reporter, &block);
-            TAKEN
-        }
-        Ok(None) => NO_PART,
-        Err(_) => NO_COMPOUND,
-    }
+    tell_next::<Reported>(datagram, cursor, report)
 }
 
 /// The same, of a walk over the items of all chunks of all source descriptions, and where the text of each stands.
@@ -72,14 +57,7 @@ pub extern "C" fn jalwedd_next_sdes_item(
         datagram.now cursor.old cursor.new result item.old item.new }
     ensures within { result ≡ 0 → item.new.offset + item.new.size ≤ length datagram.now }
 {
-    match rtcp_parts::next_item(datagram, cursor) {
-        Ok(Some(placed)) => {
-            *item = item_place(&placed);
-            TAKEN
-        }
-        Ok(None) => NO_PART,
-        Err(_) => NO_COMPOUND,
-    }
+    tell_next::<PlacedItem>(datagram, cursor, item)
 }
 
 /// The same, of a walk over the sources that all goodbyes name, and where the reason of its goodbye stands.
@@ -93,14 +71,7 @@ pub extern "C" fn jalwedd_next_goodbye(
         datagram.now cursor.old cursor.new result goodbye.old goodbye.new }
     ensures within { result ≡ 0 → goodbye.new.offset + goodbye.new.size ≤ length datagram.now }
 {
-    match rtcp_parts::next_goodbye(datagram, cursor) {
-        Ok(Some(placed)) => {
-            *goodbye = goodbye_place(&placed);
-            TAKEN
-        }
-        Ok(None) => NO_PART,
-        Err(_) => NO_COMPOUND,
-    }
+    tell_next::<PlacedGoodbye>(datagram, cursor, goodbye)
 }
 
 /// The same, of a walk over the packets of applications, and where the data of each stand. With a cursor at a
@@ -113,12 +84,5 @@ pub extern "C" fn jalwedd_next_app(datagram: &[u8], cursor: &mut Cursor, app: &m
     ensures within { result ≡ 0 → app.new.offset + app.new.size ≤ length datagram.now }
     ensures own { WalksOwn datagram.now cursor.old cursor.new result app.new }
 {
-    match rtcp_parts::next_app(datagram, cursor) {
-        Ok(Some(placed)) => {
-            *app = app_place(&placed);
-            TAKEN
-        }
-        Ok(None) => NO_PART,
-        Err(_) => NO_COMPOUND,
-    }
+    tell_next::<PlacedApp>(datagram, cursor, app)
 }

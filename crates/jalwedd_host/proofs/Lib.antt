@@ -10,6 +10,8 @@ mod Turning
 mod Turns
 mod Held
 mod WholeWalks
-mod OwnWalks
+pub mod OwnWalks
+pub mod Walking
+mod Locating
 mod Reasons
 mod HeadReasons

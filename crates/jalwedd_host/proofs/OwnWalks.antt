@@ -1,13 +1,14 @@
 -- A walk over the packets of applications of an accepted datagram tells of the datagram's own.
 use Rattle.std.proofs.Common.{◌≡◌, ℕ, List, [], ◌∷◌, flat_map, take, refl, subst, arith}
-use Rattle.rtcp_wire.specs.Contents.{packet_apps}
-use Rattle.rtcp_wire.specs.Grammar.{Joins, IsSpelling}
-use Rattle.rtcp_wire.specs.Values.{AppValue}
+use Rattle.rtcp_wire.specs.Contents.{all_apps, packet_apps}
+use Rattle.rtcp_wire.specs.Grammar.{Joins, IsAccepted, IsSpelling}
+use Rattle.rtcp_wire.specs.Values.{AppValue, RtcpPacket}
 use Rattle.rtcp_parts.specs.declared.cursor.Cursor.{Cursor}
 use Rattle.rtcp_parts.specs.Cursors.{IsBoundary, LeavesNone}
 use Rattle.rtcp_parts.proofs.Boundaries.{boundary_at_start}
 use Rattle.jalwedd_host.specs.declared.app.AppPlace.{AppPlace}
 use Rattle.jalwedd_host.specs.Apps.{AreOwnTold, IsOwnPlace, ShowsApp, ShowsOwnApp, TellsOwnApps}
+use Rattle.jalwedd_host.specs.Parts.{Locates}
 use Rattle.jalwedd_host.specs.Walks.{AreTold, ShowEach, begins}
 use Rattle.jalwedd_host.proofs.WholeWalks.{tells_all}
 
@@ -29,7 +30,7 @@ module _ (datagram : List ℕ) where
   as_told (place ∷ places) was last told = (told.0, told.1, told.2, as_told places told.0 last told.4)
 
   -- What shows a packet there shows one of the datagram's own.
-  shows_own : (place : AppPlace) (part : AppValue) → IsOwnPlace datagram place → ShowsApp datagram place part →
+  pub shows_own : (place : AppPlace) (part : AppValue) → IsOwnPlace datagram place → ShowsApp datagram place part →
       ShowsOwnApp datagram place part
   shows_own place part own shows =
       let same : own.before ≡ shows.before = omega (arith, own.offset, shows.offset) in
@@ -54,3 +55,16 @@ tells_own datagram packets places last end before after accepted told ends =
     (all_own datagram places begins last (boundary_at_start datagram packets accepted) told)
     (tells_all packet_apps LeavesNone ShowsApp datagram packets places last end before after accepted
     (as_told datagram places begins last told) ends)
+
+-- A packet at an index that is told is one of the datagram's own.
+pub own_located : (datagram : List ℕ) (index result : ℕ) (was place : AppPlace)
+    → Locates all_apps (ShowsApp datagram) datagram index result was place
+    → ((packets : List RtcpPacket) → IsAccepted datagram packets → result ≡ 0 → IsOwnPlace datagram place)
+    → Locates all_apps (ShowsOwnApp datagram) datagram index result was place
+own_located datagram index result was place h own = record {
+  found = λ packets part accepted at.
+      let found = h.found packets part accepted at in
+      (found.0, shows_own datagram place part (own packets accepted found.0) found.1);
+  none = h.none;
+  refused = h.refused;
+}

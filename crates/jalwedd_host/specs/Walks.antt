@@ -26,6 +26,20 @@ pub record Continues
   pub untold : result ≢ 0 → place ≡ before
   pub further : result ≡ 0 → (position was < position now) × (position now ≤ length datagram)
 
+-- ---- What is told of what was given
+
+-- The host's structure shows each part, of any datagram, that was given so.
+abbrev pub Carries :
+    {Part Given Place : Type 0} → (List ℕ → Part → Given → Type 0) → (List ℕ → Place → Part → Type 0) → Place → Given
+    → Type 0
+Carries {Part = Part} Gave Shows place given =
+    (datagram : List ℕ) (part : Part) → Gave datagram part given → Shows datagram place part
+
+-- The host's structure tells what was given of a part.
+abbrev pub TellsGiven :
+    {Part Given Place : Type 0} → (Part → Given → Type 0) → (Place → Given → Type 0) → Place → Part → Type 0
+TellsGiven {Given = Given} Gave Tells place part = (given : Given) × Gave part given × Tells place given
+
 -- ---- Whole walks
 
 -- the cursor with which a host begins

@@ -1,11 +1,12 @@
 //! How a host is told of the packets of a datagram that applications define.
 
-ghost use Rattle.std.specs.Prelude.{◌≡◌, List, ℕ};
-ghost use Rattle.rtcp_wire.specs.Placed.{PlacesApp, PlacesOwnApp};
-ghost use Rattle.rtcp_wire.specs.Values.{AppValue};
-ghost use Rattle.jalwedd_host.specs.Apps.{ShowsApp, ShowsOwnApp};
+ghost use Rattle.std.specs.Prelude.{◌≤◌, ◌+◌, length};
+ghost use Rattle.rtcp_parts.specs.Placed.{PlacesApp};
+ghost use Rattle.jalwedd_host.specs.Apps.{IsOwnPlace, ShowsApp};
+ghost use Rattle.jalwedd_host.specs.Walks.{Carries};
 
-use rtcp_wire::PlacedApp;
+use crate::walks::Told;
+use rtcp_parts::PlacedApp;
 
 /// A packet that an application defines (RFC 3550, 6.7), and where its data stand.
 #[repr(C)]
@@ -23,19 +24,22 @@ pub struct AppPlace {
     pub name: [u8; 4],
 }
 
-/// A packet of an application, and where its data stand.
-pub fn app_place(placed: &PlacedApp) -> AppPlace
-    ensures shows { (datagram : List ℕ) (part : AppValue) → PlacesApp datagram part placed.now →
-        ShowsApp datagram result part }
-    ensures own { (datagram : List ℕ) (part : AppValue) → PlacesOwnApp datagram part placed.now →
-        ShowsOwnApp datagram result part }
-    ensures place { (result.offset ≡ placed.now.content.place) × (result.size ≡ placed.now.content.size) }
-{
-    AppPlace {
-        offset: placed.content.place as u64,
-        size: placed.content.size as u64,
-        ssrc: placed.ssrc,
-        subtype: u32::from(placed.subtype),
-        name: placed.name,
+impl Told for PlacedApp {
+    type Place = AppPlace;
+
+    ghost tells = { Carries PlacesApp ShowsApp };
+
+    ghost tells_within = { λ datagram place. place.offset + place.size ≤ length datagram };
+
+    ghost tells_own = { IsOwnPlace };
+
+    fn told(&self) -> AppPlace {
+        AppPlace {
+            offset: self.content.place as u64,
+            size: self.content.size as u64,
+            ssrc: self.ssrc,
+            subtype: u32::from(self.subtype),
+            name: self.name,
+        }
     }
 }

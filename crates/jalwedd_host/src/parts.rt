@@ -1,12 +1,13 @@
 //! How a host is told of the parts of a datagram: senders, SDES items and goodbyes.
 
-ghost use Rattle.std.specs.Prelude.{◌≡◌, ℕ, List, Option, MatchOption};
-ghost use Rattle.rtcp_wire.specs.Placed.{PlacesGoodbye, PlacesItem};
-ghost use Rattle.rtcp_wire.specs.Values.{ItemValue};
-ghost use Rattle.rtcp_wire.specs.Views.{sender_value};
+ghost use Rattle.std.specs.Prelude.{◌≤◌, ◌+◌, length};
+ghost use Rattle.rtcp_parts.specs.Placed.{PlacesGoodbye, PlacesItem};
+ghost use Rattle.rtcp_parts.specs.Senders.{ShowsSender as SaysSender};
 ghost use Rattle.jalwedd_host.specs.Parts.{ShowsGoodbye, ShowsItem, ShowsSender};
+ghost use Rattle.jalwedd_host.specs.Walks.{Carries};
 
-use rtcp_wire::{PlacedGoodbye, PlacedItem, SenderReport};
+use crate::walks::Told;
+use rtcp_parts::{PlacedGoodbye, PlacedItem, Sender};
 
 /// What a sender report says of its sender (RFC 3550, 6.4.1).
 #[repr(C)]
@@ -53,53 +54,60 @@ pub struct GoodbyePlace {
     pub has_reason: u32,
 }
 
-/// What a sender report says of its sender.
-pub fn sender_info(report: &SenderReport<'_>) -> SenderInfo
-    ensures { ShowsSender result (sender_value report.now) }
-{
-    SenderInfo {
-        ntp: report.ntp,
-        ssrc: report.ssrc,
-        rtp: report.rtp,
-        packets: report.packets,
-        octets: report.octets,
+impl Told for Sender {
+    type Place = SenderInfo;
+
+    ghost tells = { Carries (λ datagram. SaysSender) (λ datagram. ShowsSender) };
+
+    fn told(&self) -> SenderInfo {
+        SenderInfo {
+            ntp: self.ntp,
+            ssrc: self.ssrc,
+            rtp: self.rtp,
+            packets: self.packets,
+            octets: self.octets,
+        }
     }
 }
 
-/// An item, and where its text stands.
-pub fn item_place(placed: &PlacedItem) -> ItemPlace
-    ensures shows { (datagram : List ℕ) (item : ℕ × ItemValue) → PlacesItem datagram item placed.now →
-        ShowsItem datagram result item }
-    ensures place { (result.offset ≡ placed.now.text.place) × (result.size ≡ placed.now.text.size) }
-{
-    ItemPlace {
-        offset: placed.text.place as u64,
-        size: placed.text.size as u64,
-        ssrc: placed.ssrc,
-        kind: u32::from(placed.kind),
+impl Told for PlacedItem {
+    type Place = ItemPlace;
+
+    ghost tells = { Carries PlacesItem ShowsItem };
+
+    ghost tells_within = { λ datagram place. place.offset + place.size ≤ length datagram };
+
+    fn told(&self) -> ItemPlace {
+        ItemPlace {
+            offset: self.text.place as u64,
+            size: self.text.size as u64,
+            ssrc: self.ssrc,
+            kind: u32::from(self.kind),
+        }
     }
 }
 
-/// A source that leaves, and where the reason stands.
-pub fn goodbye_place(placed: &PlacedGoodbye) -> GoodbyePlace
-    ensures shows { (datagram : List ℕ) (goodbye : ℕ × Option (List ℕ)) → PlacesGoodbye datagram goodbye placed.now →
-        ShowsGoodbye datagram result goodbye }
-    ensures place { MatchOption placed.now.reason
-        ((result.offset ≡ 0) × (result.size ≡ 0))
-        (λ reason. (result.offset ≡ reason.place) × (result.size ≡ reason.size)) }
-{
-    match placed.reason {
-        Some(text) => GoodbyePlace {
-            offset: text.place as u64,
-            size: text.size as u64,
-            ssrc: placed.ssrc,
-            has_reason: 1,
-        },
-        None => GoodbyePlace {
-            offset: 0,
-            size: 0,
-            ssrc: placed.ssrc,
-            has_reason: 0,
-        },
+impl Told for PlacedGoodbye {
+    type Place = GoodbyePlace;
+
+    ghost tells = { Carries PlacesGoodbye ShowsGoodbye };
+
+    ghost tells_within = { λ datagram place. place.offset + place.size ≤ length datagram };
+
+    fn told(&self) -> GoodbyePlace {
+        match self.reason {
+            Some(text) => GoodbyePlace {
+                offset: text.place as u64,
+                size: text.size as u64,
+                ssrc: self.ssrc,
+                has_reason: 1,
+            },
+            None => GoodbyePlace {
+                offset: 0,
+                size: 0,
+                ssrc: self.ssrc,
+                has_reason: 0,
+            },
+        }
     }
 }

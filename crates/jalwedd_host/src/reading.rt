@@ -2,8 +2,12 @@
 
 ghost use Rattle.std.specs.Prelude.{◌≡◌};
 ghost use Rattle.rtcp_wire.specs.Views.{block_value};
+ghost use Rattle.rtcp_parts.specs.Cursors.{ShowsReported};
 ghost use Rattle.jalwedd_host.specs.Readings.{ShowsBlock, number_of};
+ghost use Rattle.jalwedd_host.specs.Walks.{Carries};
 
+use crate::walks::Told;
+use rtcp_parts::Reported;
 use rtcp_wire::{Block, FaultReason};
 
 /// Why a datagram is not a compound, or has no valid RTP head: its first fault.
@@ -69,5 +73,15 @@ pub fn shown(reporter: u32, block: &Block) -> Report
         jitter: block.jitter,
         lsr: block.lsr,
         dlsr: block.dlsr,
+    }
+}
+
+impl Told for Reported {
+    type Place = Report;
+
+    ghost tells = { Carries (λ datagram. ShowsReported) (λ datagram. ShowsBlock) };
+
+    fn told(&self) -> Report {
+        shown(self.0, &self.1)
     }
 }

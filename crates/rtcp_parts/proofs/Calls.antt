@@ -183,7 +183,7 @@ begun_within octets was at begun =
     ] refl
 
 -- If it is in a packet, the walk has begun.
-begun_in : (octets : ℕ) (was at : Cursor) → at ≡ begun_at octets was → at.left ≢ 0 → at.next ≢ 0
+pub begun_in : (octets : ℕ) (was at : Cursor) → at ≡ begun_at octets was → at.left ≢ 0 → at.next ≢ 0
 begun_in octets was at begun some first =
     let next : (begun_at octets was).next ≡ 0 = sym (ap (λ (c : Cursor). c.next) begun) ∙ first in
     let left : (begun_at octets was).left ≢ 0 = λ none. some (ap (λ (c : Cursor). c.left) begun ∙ none) in
@@ -194,8 +194,8 @@ zero_or_more zero = inl refl
 zero_or_more (suc n) = inr (λ none. absurd (omega (arith, none)))
 
 module _ {Part Given : Type 0} {parts_of : RtcpPacket → List Part} {IsLeft : List ℕ → Cursor → List Part → Type 0}
-    {Shows : Part → Given → Type 0} (datagram : List ℕ) (was at ready now : Cursor)
-    (begun : at ≡ begun_at (length datagram) was) (readies : Readies parts_of IsLeft datagram at ready)
+    {Shows : Part → Given → Type 0} (datagram : List ℕ) (at ready now : Cursor)
+    (started : at.left ≢ 0 → at.next ≢ 0) (readies : Readies parts_of IsLeft datagram at ready)
   where
     taken : (given : Option Given) → TakesHere parts_of IsLeft Shows HasNoneLeft datagram ready now given
         → (parts : List Part) → Leaves parts_of IsLeft datagram at parts
@@ -234,7 +234,7 @@ module _ {Part Given : Type 0} {parts_of : RtcpPacket → List Part} {IsLeft : L
         elim (zero_or_more at.left) [
           | inr some ↦
               let same = ap (λ (c : Cursor). c.next) (readies.kept some) in
-              begun_in (length datagram) was at begun some (sym same ∙ next)
+              started some (sym same ∙ next)
           | inl none ↦ elim (zero_or_more ready.left) [
             | inl last ↦ absurd (omega (arith, readies.ended none last, next, octets))
             | inr some ↦ absurd (omega (arith, readies.further none some, kept.0, kept.1, next))

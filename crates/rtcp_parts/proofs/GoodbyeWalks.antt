@@ -4,10 +4,11 @@ use Rattle.std.proofs.lemmas.List.{drop_at, take-append-drop, take_at}
 use Rattle.byteorder.specs.Endian.{big_number}
 use Rattle.rtcp_wire.specs.Contents.{goodbyes_by, packet_goodbyes}
 use Rattle.rtcp_wire.specs.Grammar.{Joins, IsBody, IsId, IsReasonPart, IsSpelling}
-use Rattle.rtcp_wire.specs.Placed.{MaySpan, StandsIn, span_at}
+use Rattle.rtcp_parts.specs.Placed.{MaySpan, span_at}
+use Rattle.rtcp_wire.specs.Placed.{StandsIn}
 use Rattle.rtcp_wire.specs.Values.{RtcpPacket, sr, rr, sdes, bye, app, other}
-use Rattle.rtcp_wire.specs.declared.placed.Span.{Span}
-use Rattle.rtcp_wire.proofs.Places.{stands_within}
+use Rattle.rtcp_parts.specs.declared.placed.Span.{Span}
+use Rattle.rtcp_parts.proofs.Places.{stands_within}
 use Rattle.rtcp_wire.proofs.Prefixes.{length_parts}
 use Rattle.rtcp_parts.specs.declared.cursor.Cursor.{Cursor}
 use Rattle.rtcp_parts.specs.declared.packet.Packet.{Packet}

@@ -6,10 +6,11 @@ use Rattle.std.proofs.lemmas.List.{drop_at, get_or-take, length-append, length-d
 use Rattle.byteorder.specs.Endian.{big_number}
 use Rattle.rtcp_wire.specs.Contents.{chunk_items, items_by, packet_items}
 use Rattle.rtcp_wire.specs.Grammar.{Joins, IsBody, IsChunk, IsItem, IsSpelling}
-use Rattle.rtcp_wire.specs.Placed.{PlacesItem, StandsIn}
-use Rattle.rtcp_wire.specs.declared.placed.PlacedItem.{PlacedItem}
+use Rattle.rtcp_parts.specs.Placed.{PlacesItem}
+use Rattle.rtcp_wire.specs.Placed.{StandsIn}
+use Rattle.rtcp_parts.specs.declared.placed.PlacedItem.{PlacedItem}
 use Rattle.rtcp_wire.specs.Values.{ChunkValue, ItemValue, RtcpPacket, sr, rr, sdes, bye, app, other}
-use Rattle.rtcp_wire.proofs.Places.{stands_within}
+use Rattle.rtcp_parts.proofs.Places.{stands_within}
 use Rattle.rtcp_wire.proofs.Prefixes.{length_parts}
 use Rattle.rtcp_parts.specs.declared.cursor.Cursor.{Cursor}
 use Rattle.rtcp_parts.specs.declared.packet.Packet.{Packet}

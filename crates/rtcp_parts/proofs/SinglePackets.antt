@@ -5,10 +5,10 @@ use Rattle.std.proofs.lemmas.List.{drop_at, length-append, take_at}
 use Rattle.byteorder.specs.Endian.{big_number}
 use Rattle.rtcp_wire.specs.Contents.{packet_apps, packet_senders}
 use Rattle.rtcp_wire.specs.Grammar.{IsApplication, IsBody, Joins, IsSpelling, sender_in}
-use Rattle.rtcp_wire.specs.Placed.{PlacesApp}
+use Rattle.rtcp_parts.specs.Placed.{PlacesApp}
 use Rattle.rtcp_wire.specs.Values.{AppValue, RtcpPacket, SenderValue, sr, rr, sdes, bye, app, other}
-use Rattle.rtcp_wire.specs.declared.placed.PlacedApp.{PlacedApp}
-use Rattle.rtcp_wire.proofs.AppPlaces.{app_places}
+use Rattle.rtcp_parts.specs.declared.placed.PlacedApp.{PlacedApp}
+use Rattle.rtcp_parts.proofs.AppPlaces.{app_places}
 use Rattle.rtcp_parts.specs.declared.cursor.Cursor.{Cursor}
 use Rattle.rtcp_parts.specs.declared.packet.Packet.{Packet}
 use Rattle.rtcp_parts.specs.declared.packet.Wanted.{Wanted}

@@ -8,7 +8,7 @@ use Rattle.rtcp_wire.specs.Contents.{chunk_items}
 use Rattle.rtcp_wire.specs.Grammar.{Joins, IsAccepted, IsBody, IsChunk, IsSpelling}
 use Rattle.rtcp_wire.specs.Placed.{StandsIn}
 use Rattle.rtcp_wire.specs.Values.{ChunkValue, RtcpPacket}
-use Rattle.rtcp_wire.specs.declared.placed.PlacedApp.{PlacedApp}
+use Rattle.rtcp_parts.specs.declared.placed.PlacedApp.{PlacedApp}
 use Rattle.rtcp_parts.specs.declared.cursor.Cursor.{Cursor}
 use Rattle.rtcp_parts.specs.declared.packet.Packet.{Packet}
 use Rattle.rtcp_parts.specs.declared.packet.Wanted.{Wanted}
@@ -35,6 +35,22 @@ pub record Gives
   pub later : was.next ≢ 0 → IsOk result
   pub further : IfOk result (λ given. IfSome given (λ part.
       (position was < position now) × (position now ≤ length datagram)))
+
+-- The one of the parts of a datagram at an index is given, or that there is none, or the first fault of octets that are
+-- not accepted.
+pub record GivesAt
+    {Part Given : Type 0} (parts_of : RtcpPacket → List Part) (Shows : Part → Given → Type 0) (datagram : List ℕ)
+    (index : ℕ) (result : Result (Option Given) WireFault) : Type 0 where
+  pub found : (packets : List RtcpPacket) (part : Part) → IsAccepted datagram packets
+      → slice_get (flat_map parts_of packets) index ≡ Some part
+      → (given : Given) × (result ≡ Ok (Some given)) × Shows part given
+  pub none : (packets : List RtcpPacket) → IsAccepted datagram packets
+      → slice_get (flat_map parts_of packets) index ≡ None → result ≡ Ok None
+  pub refused : (fault : WireFault) → IsFirstFault datagram fault → result ≡ Err fault
+
+-- What is given holds no place in a datagram.
+abbrev pub HasNoPlace : {Given : Type 0} → List ℕ → Given → Type 0
+HasNoPlace datagram given = Unit {0}
 
 -- ---- Packets
 

@@ -1,17 +1,19 @@
 //! The report blocks of a datagram, one after the other (RFC 3550, 6.4.1).
 
-ghost use Rattle.std.specs.Prelude.{◌≡◌, ◌≤◌, ◌+◌, ◌<◌, ◌^◌, length, true, MatchOption};
+ghost use Rattle.std.specs.Prelude.{◌≡◌, ◌≤◌, ◌+◌, ◌<◌, ◌^◌, ℕ, length, true, MatchOption};
 ghost use Rattle.rtcp_wire.specs.Contents.{packet_blocks};
 ghost use Rattle.rtcp_wire.specs.Grammar.{block_in};
+ghost use Rattle.rtcp_wire.specs.Values.{ReportBlock};
 ghost use Rattle.rtcp_wire.specs.Views.{block_value};
 ghost use Rattle.rtcp_parts.specs.Cursors.{LeavesBlocks, ShowsReported, blocks_place, is_within};
-ghost use Rattle.rtcp_parts.specs.Walks.{Readies, Gives, HasNoneLeft, IsAtBlocks, TakesHere};
+ghost use Rattle.rtcp_parts.specs.Walks.{Readies, HasNoneLeft, IsAtBlocks, TakesHere};
 
-use crate::cursor::{Cursor, begun};
+use crate::cursor::Cursor;
 use crate::octets::{ID_SIZE, u32_at};
 use crate::packet::{Packet, Wanted, packet_from};
+use crate::walk::Walk;
 use byteorder::{BigEndian, ByteOrder};
-use rtcp_wire::{Block, WireFault};
+use rtcp_wire::Block;
 
 /// The octets of a block.
 const BLOCK_SIZE: usize = 24;
@@ -29,23 +31,22 @@ const WITH_BLOCKS: Wanted = Wanted {
     least: 1,
 };
 
-/// The next block of a walk over the blocks of all reports of a datagram, in their order, with the SSRC of the source
-/// that reports; `None` after the last one, and again from then on.
-///
-/// # Errors
-///
-/// The datagram's first fault, where a walk begins over one that is not a compound. The cursor is then left as it was.
-pub fn next_block(datagram: &[u8], cursor: &mut Cursor) -> Result<Option<(u32, Block)>, WireFault>
-    ensures { Gives packet_blocks LeavesBlocks ShowsReported datagram.now cursor.old cursor.new result }
-{
-    let begun = match begun(datagram, cursor) {
-        Ok(begun) => begun,
-        Err(fault) => return Err(fault),
-    };
-    let mut at = ready(datagram, &begun);
-    let block = take_block(datagram, &mut at);
-    *cursor = at;
-    Ok(block)
+/// A report block, with the SSRC of the source that reports.
+pub type Reported = (u32, Block);
+
+impl Walk for Reported {
+    ghost Value = { ℕ × ReportBlock };
+
+    ghost parts_of = { packet_blocks };
+
+    ghost is_left = { LeavesBlocks };
+
+    ghost shows = { λ datagram. ShowsReported };
+
+    fn take(datagram: &[u8], cursor: &mut Cursor) -> Option<Reported> {
+        *cursor = ready(datagram, cursor);
+        take_block(datagram, cursor)
+    }
 }
 
 /// A walk at the next block: at the first of another report where it is in none.
@@ -90,7 +91,7 @@ fn in_report(packet: &Packet<'_>) -> Option<Cursor>
 }
 
 /// Takes the next block of the report that a walk is in.
-fn take_block(datagram: &[u8], cursor: &mut Cursor) -> Option<(u32, Block)>
+fn take_block(datagram: &[u8], cursor: &mut Cursor) -> Option<Reported>
     requires { is_within (length datagram.now) cursor.old ≡ true }
     ensures { TakesHere packet_blocks LeavesBlocks ShowsReported HasNoneLeft datagram.now cursor.old cursor.new result }
 {

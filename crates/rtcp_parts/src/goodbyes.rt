@@ -1,16 +1,17 @@
 //! The sources that the goodbyes of a datagram name, one after the other (RFC 3550, 6.6).
 
-ghost use Rattle.std.specs.Prelude.{◌≡◌, ◌≤◌, ◌+◌, ◌<◌, ◌^◌, ℕ, List, length, Option, true, IfOk, IfSome};
+ghost use Rattle.std.specs.Prelude.{◌≡◌, ◌≤◌, ◌+◌, ◌<◌, ◌^◌, ℕ, List, length, Option, true, IfSome};
 ghost use Rattle.rtcp_wire.specs.Contents.{packet_goodbyes};
 ghost use Rattle.rtcp_wire.specs.Grammar.{IsReasonPart};
-ghost use Rattle.rtcp_wire.specs.Placed.{PlacesGoodbye, span_at};
+ghost use Rattle.rtcp_parts.specs.Placed.{HasReason, PlacesGoodbye, span_at};
 ghost use Rattle.rtcp_parts.specs.Cursors.{LeavesGoodbyes, is_within};
-ghost use Rattle.rtcp_parts.specs.Walks.{Readies, Gives, HasNoneLeft, TakesHere};
+ghost use Rattle.rtcp_parts.specs.Walks.{Readies, HasNoneLeft, TakesHere};
 
-use crate::cursor::{Cursor, begun};
+use crate::cursor::Cursor;
 use crate::octets::{ID_SIZE, u32_at};
 use crate::packet::{Wanted, packet_from};
-use rtcp_wire::{PlacedGoodbye, Span, WireFault};
+use crate::placed::{PlacedGoodbye, Span};
+use crate::walk::Walk;
 
 /// Goodbyes that name at least one source.
 const WITH_SOURCES: Wanted = Wanted {
@@ -19,29 +20,21 @@ const WITH_SOURCES: Wanted = Wanted {
     least: 1,
 };
 
-/// The next source of a walk over those that all goodbyes of a datagram name, in their order, with the reason of its
-/// packet; `None` after the last one, and again from then on.
-///
-/// # Errors
-///
-/// The datagram's first fault, where a walk begins over one that is not a compound. The cursor is then left as it was.
-pub fn next_goodbye(
-    datagram: &[u8],
-    cursor: &mut Cursor,
-) -> Result<Option<PlacedGoodbye>, WireFault>
-    ensures gives { Gives packet_goodbyes LeavesGoodbyes (PlacesGoodbye datagram.now)
-        datagram.now cursor.old cursor.new result }
-    ensures within { IfOk result (λ given. IfSome given (λ goodbye. IfSome goodbye.reason (λ reason.
-        reason.place + reason.size ≤ length datagram.now))) }
-{
-    let begun = match begun(datagram, cursor) {
-        Ok(begun) => begun,
-        Err(fault) => return Err(fault),
-    };
-    let mut at = ready(datagram, &begun);
-    let goodbye = take_source(datagram, &mut at);
-    *cursor = at;
-    Ok(goodbye)
+impl Walk for PlacedGoodbye {
+    ghost Value = { ℕ × Option (List ℕ) };
+
+    ghost parts_of = { packet_goodbyes };
+
+    ghost is_left = { LeavesGoodbyes };
+
+    ghost shows = { PlacesGoodbye };
+
+    ghost lies_in = { HasReason };
+
+    fn take(datagram: &[u8], cursor: &mut Cursor) -> Option<PlacedGoodbye> {
+        *cursor = ready(datagram, cursor);
+        take_source(datagram, cursor)
+    }
 }
 
 /// A walk at the next source: at the first of another goodbye where it is in none.
@@ -69,8 +62,7 @@ fn take_source(datagram: &[u8], cursor: &mut Cursor) -> Option<PlacedGoodbye>
     requires { is_within (length datagram.now) cursor.old ≡ true }
     ensures takes { TakesHere packet_goodbyes LeavesGoodbyes (PlacesGoodbye datagram.now) HasNoneLeft
         datagram.now cursor.old cursor.new result }
-    ensures within { IfSome result (λ goodbye. IfSome goodbye.reason (λ reason.
-        reason.place + reason.size ≤ length datagram.now)) }
+    ensures within { IfSome result (HasReason datagram.now) }
 {
     if cursor.left == 0 {
         return None;

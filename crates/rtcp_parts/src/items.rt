@@ -1,15 +1,17 @@
 //! The SDES items of a datagram, one after the other (RFC 3550, 6.5).
 
-ghost use Rattle.std.specs.Prelude.{◌≡◌, ◌≤◌, ◌<◌, ◌+◌, length, true, IfOk, IfSome};
+ghost use Rattle.std.specs.Prelude.{◌≡◌, ◌≤◌, ◌<◌, ◌+◌, ℕ, length, true, IfSome};
 ghost use Rattle.rtcp_wire.specs.Contents.{packet_items};
-ghost use Rattle.rtcp_wire.specs.Placed.{PlacesItem};
+ghost use Rattle.rtcp_wire.specs.Values.{ItemValue};
+ghost use Rattle.rtcp_parts.specs.Placed.{HasText, PlacesItem};
 ghost use Rattle.rtcp_parts.specs.Cursors.{LeavesItems, is_within};
-ghost use Rattle.rtcp_parts.specs.Walks.{Enters, Gives, GoesOn, HasNoItem, Opens, PassesOn, TakesHere, TakesNext};
+ghost use Rattle.rtcp_parts.specs.Walks.{Enters, GoesOn, HasNoItem, Opens, PassesOn, TakesHere, TakesNext};
 
-use crate::cursor::{Cursor, begun};
+use crate::cursor::Cursor;
 use crate::octets::{ID_SIZE, u32_at};
 use crate::packet::{Wanted, packet_from};
-use rtcp_wire::{PlacedItem, Span, WireFault};
+use crate::placed::{PlacedItem, Span};
+use crate::walk::Walk;
 
 /// Source descriptions with at least one chunk.
 const WITH_CHUNKS: Wanted = Wanted {
@@ -18,25 +20,20 @@ const WITH_CHUNKS: Wanted = Wanted {
     least: 1,
 };
 
-/// The next item of a walk over those of all chunks of all source descriptions of a datagram, in their order; `None`
-/// after the last one, and again from then on.
-///
-/// # Errors
-///
-/// The datagram's first fault, where a walk begins over one that is not a compound. The cursor is then left as it was.
-pub fn next_item(datagram: &[u8], cursor: &mut Cursor) -> Result<Option<PlacedItem>, WireFault>
-    ensures gives { Gives packet_items LeavesItems (PlacesItem datagram.now)
-        datagram.now cursor.old cursor.new result }
-    ensures within { IfOk result (λ given. IfSome given (λ item.
-        item.text.place + item.text.size ≤ length datagram.now)) }
-{
-    let mut at = match begun(datagram, cursor) {
-        Ok(at) => at,
-        Err(fault) => return Err(fault),
-    };
-    let item = item_from(datagram, &mut at);
-    *cursor = at;
-    Ok(item)
+impl Walk for PlacedItem {
+    ghost Value = { ℕ × ItemValue };
+
+    ghost parts_of = { packet_items };
+
+    ghost is_left = { LeavesItems };
+
+    ghost shows = { PlacesItem };
+
+    ghost lies_in = { HasText };
+
+    fn take(datagram: &[u8], cursor: &mut Cursor) -> Option<PlacedItem> {
+        item_from(datagram, cursor)
+    }
 }
 
 /// Takes the next item, of this chunk or of a later one.
@@ -44,7 +41,7 @@ fn item_from(datagram: &[u8], cursor: &mut Cursor) -> Option<PlacedItem>
     requires { is_within (length datagram.now) cursor.old ≡ true }
     ensures takes { TakesNext packet_items LeavesItems (PlacesItem datagram.now)
         datagram.now cursor.old cursor.new result }
-    ensures within { IfSome result (λ item. item.text.place + item.text.size ≤ length datagram.now) }
+    ensures within { IfSome result (HasText datagram.now) }
 {
     'chunks: loop {
         if let Some(item) = take_item(datagram, cursor) {
@@ -61,7 +58,7 @@ fn take_item(datagram: &[u8], cursor: &mut Cursor) -> Option<PlacedItem>
     requires { is_within (length datagram.now) cursor.old ≡ true }
     ensures takes { TakesHere packet_items LeavesItems (PlacesItem datagram.now) HasNoItem
         datagram.now cursor.old cursor.new result }
-    ensures within { IfSome result (λ item. item.text.place + item.text.size ≤ length datagram.now) }
+    ensures within { IfSome result (HasText datagram.now) }
 {
     if cursor.left == 0 {
         return None;

@@ -8,7 +8,7 @@
 //!     0x81, 0xca, 0, 3, 0, 0, 0, 7, 1, 2, b'a', b'b', 0, 0, 0, 0, // its CNAME, "ab"
 //! ];
 //! let mut cursor = Cursor::default();
-//! while let Ok(Some(item)) = next_item(&datagram, &mut cursor) {
+//! while let Ok(Some(item)) = PlacedItem::next(&datagram, &mut cursor) {
 //!     assert_eq!(rt; (item.ssrc, item.kind, item.text.place, item.text.size), (7, 1, 18, 2));
 //! }
 //! ```
@@ -25,12 +25,12 @@ mod goodbyes;
 mod items;
 mod octets;
 mod packet;
+mod placed;
 mod senders;
+mod walk;
 
-pub use apps::next_app;
-pub use blocks::next_block;
+pub use blocks::Reported;
 pub use cursor::Cursor;
-pub use goodbyes::next_goodbye;
-pub use items::next_item;
-pub use rtcp_wire::PlacedApp;
-pub use senders::{Sender, next_sender};
+pub use placed::{PlacedApp, PlacedGoodbye, PlacedItem, Span};
+pub use senders::Sender;
+pub use walk::Walk;

@@ -1,18 +1,18 @@
 //! The sender reports of a datagram, one after the other (RFC 3550, 6.4.1).
 
-ghost use Rattle.std.specs.Prelude.{◌≡◌, ◌≤◌, ◌<◌, length, take, true, MatchOption};
+ghost use Rattle.std.specs.Prelude.{◌≤◌, ◌<◌, length, take, MatchOption};
 ghost use Rattle.byteorder.specs.Endian.{big_number};
 ghost use Rattle.rtcp_wire.specs.Contents.{packet_senders};
 ghost use Rattle.rtcp_wire.specs.Grammar.{sender_in};
-ghost use Rattle.rtcp_parts.specs.Cursors.{LeavesNone, is_within};
+ghost use Rattle.rtcp_wire.specs.Values.{SenderValue};
+ghost use Rattle.rtcp_parts.specs.Cursors.{LeavesNone};
 ghost use Rattle.rtcp_parts.specs.Senders.{ShowsSender};
-ghost use Rattle.rtcp_parts.specs.Walks.{Gives, TakesNext};
 
-use crate::cursor::{Cursor, begun};
+use crate::cursor::Cursor;
 use crate::octets::u32_at;
 use crate::packet::{Wanted, packet_from};
+use crate::walk::Walk;
 use byteorder::{BigEndian, ByteOrder};
-use rtcp_wire::WireFault;
 
 /// The octets of a sender report's body before its blocks.
 const SENDER_SIZE: usize = 24;
@@ -40,35 +40,23 @@ pub struct Sender {
     pub octets: u32,
 }
 
-/// The next sender of a walk over the sender reports of a datagram, in their order; `None` after the last one, and
-/// again from then on.
-///
-/// # Errors
-///
-/// The datagram's first fault, where a walk begins over one that is not a compound. The cursor is then left as it was.
-pub fn next_sender(datagram: &[u8], cursor: &mut Cursor) -> Result<Option<Sender>, WireFault>
-    ensures { Gives packet_senders LeavesNone ShowsSender datagram.now cursor.old cursor.new result }
-{
-    let mut at = match begun(datagram, cursor) {
-        Ok(at) => at,
-        Err(fault) => return Err(fault),
-    };
-    let sender = take_sender(datagram, &mut at);
-    *cursor = at;
-    Ok(sender)
-}
+impl Walk for Sender {
+    ghost Value = { SenderValue };
 
-/// Takes the sender of the next sender report.
-fn take_sender(datagram: &[u8], cursor: &mut Cursor) -> Option<Sender>
-    requires { is_within (length datagram.now) cursor.old ≡ true }
-    ensures { TakesNext packet_senders LeavesNone ShowsSender datagram.now cursor.old cursor.new result }
-{
-    let next = cursor.next as usize;
-    *cursor = Cursor::ended(datagram.len());
-    let packet = packet_from(datagram, next, REPORTS)?;
-    let sender = sender_from(packet.body)?;
-    *cursor = Cursor::ended(packet.next);
-    Some(sender)
+    ghost parts_of = { packet_senders };
+
+    ghost is_left = { LeavesNone };
+
+    ghost shows = { λ datagram. ShowsSender };
+
+    fn take(datagram: &[u8], cursor: &mut Cursor) -> Option<Sender> {
+        let next = cursor.next as usize;
+        *cursor = Cursor::ended(datagram.len());
+        let packet = packet_from(datagram, next, REPORTS)?;
+        let sender = sender_from(packet.body)?;
+        *cursor = Cursor::ended(packet.next);
+        Some(sender)
+    }
 }
 
 /// The sender that a sender report's body begins with.

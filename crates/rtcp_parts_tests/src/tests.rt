@@ -58,6 +58,18 @@ const GONE: [u8; 24] = [
     0, 0, 0, 8, // padding of eight octets in all
 ];
 
+/// A receiver report of source 7, a packet of type 207, and one of an application. The last two hold octets that are
+/// an application's packet too, of source 9.
+const NESTED: [u8; 48] = [
+    0x80, 0xc9, 0, 1, 0, 0, 0, 7, // a receiver report of source 7
+    0x80, 0xcf, 0, 3, // a packet of type 207, of four words
+    0x80, 0xcc, 0, 2, 0, 0, 0, 9, 0x6e, 0x6f, 0x6e, 0x65, // its body
+    0x81, 0xcc, 0, 5, // an application's packet of six words, of subtype 1
+    0, 0, 0, 7, // its source
+    0x64, 0x61, 0x74, 0x61, // its name
+    0x80, 0xcc, 0, 2, 0, 0, 0, 9, 0x6e, 0x6f, 0x6e, 0x65, // its data
+];
+
 fn span(place: usize, size: usize) -> Span {
     Span { place, size }
 }
@@ -70,7 +82,7 @@ fn example(rt: HostRuntime) {
         0x81, 0xca, 0, 3, 0, 0, 0, 7, 1, 2, b'a', b'b', 0, 0, 0, 0, // its CNAME, "ab"
     ];
     let mut cursor = Cursor::default();
-    'items: while let Ok(Some(item)) = next_item(&datagram, &mut cursor) {
+    'items: while let Ok(Some(item)) = PlacedItem::next(&datagram, &mut cursor) {
         assert_eq!(rt;
             (item.ssrc, item.kind, item.text.place, item.text.size),
             (7, 1, 18, 2)
@@ -88,14 +100,15 @@ fn senders(rt: HostRuntime) {
         packets: 50,
         octets: 8_192,
     };
-    for expected in [Some(sender), None, None] {
-        assert_eq!(rt; next_sender(&CALL, &mut cursor), Ok(expected));
+    for (index, expected) in [Some(sender), None, None].into_iter().enumerate() {
+        assert_eq!(rt; Sender::next(&CALL, &mut cursor), Ok(expected), "sender {index}");
+        assert_eq!(rt; Sender::nth(&CALL, index as u32), Ok(expected), "sender {index}");
     }
 }
 
-/// The blocks that the compound itself gives.
+/// At each index the block that the walk gives.
 #[test]
-fn blocks(rt: HostRuntime) -> Result<(), Fail> {
+fn blocks(rt: HostRuntime) {
     let first = Block {
         ssrc: 13,
         fraction: 64,
@@ -115,15 +128,16 @@ fn blocks(rt: HostRuntime) -> Result<(), Fail> {
         dlsr: 0,
     };
     let mut cursor = Cursor::default();
-    let mut blocks = Compound::read(&CALL)?.blocks();
-    for expected in [Some((9, first)), Some((9, second)), None, None] {
-        assert_eq!(rt; next_block(&CALL, &mut cursor), Ok(expected));
-        assert_eq!(rt; blocks.next(), expected);
+    for (index, expected) in [Some((9, first)), Some((9, second)), None, None]
+        .into_iter()
+        .enumerate()
+    {
+        assert_eq!(rt; Reported::next(&CALL, &mut cursor), Ok(expected), "block {index}");
+        assert_eq!(rt; Reported::nth(&CALL, index as u32), Ok(expected), "block {index}");
     }
-    Ok(())
 }
 
-/// The items that `item_at` gives at each index.
+/// At each index the item that the walk gives.
 #[test]
 fn items(rt: HostRuntime) {
     let item = |ssrc: u32, kind: u8, text: Span| Some(PlacedItem { ssrc, kind, text });
@@ -136,12 +150,12 @@ fn items(rt: HostRuntime) {
     ];
     let mut cursor = Cursor::default();
     for (index, expected) in rows.into_iter().enumerate() {
-        assert_eq!(rt; next_item(&CALL, &mut cursor), Ok(expected), "item {index}");
-        assert_eq!(rt; item_at(&CALL, index), Ok(expected), "item {index}");
+        assert_eq!(rt; PlacedItem::next(&CALL, &mut cursor), Ok(expected), "item {index}");
+        assert_eq!(rt; PlacedItem::nth(&CALL, index as u32), Ok(expected), "item {index}");
     }
 }
 
-/// The sources that `goodbye_at` gives at each index.
+/// At each index the source that the walk gives.
 #[test]
 fn goodbyes(rt: HostRuntime) {
     let reason = Some(span(113, 3));
@@ -154,11 +168,11 @@ fn goodbyes(rt: HostRuntime) {
     let mut cursor = Cursor::default();
     for (index, expected) in rows.into_iter().enumerate() {
         assert_eq!(rt;
-            next_goodbye(&CALL, &mut cursor),
+            PlacedGoodbye::next(&CALL, &mut cursor),
             Ok(expected),
             "source {index}"
         );
-        assert_eq!(rt; goodbye_at(&CALL, index), Ok(expected), "source {index}");
+        assert_eq!(rt; PlacedGoodbye::nth(&CALL, index as u32), Ok(expected), "source {index}");
     }
 }
 
@@ -171,11 +185,11 @@ fn padded_goodbye(rt: HostRuntime) {
     };
     let mut cursor = Cursor::default();
     for expected in [Some(gone), None] {
-        assert_eq!(rt; next_goodbye(&GONE, &mut cursor), Ok(expected));
+        assert_eq!(rt; PlacedGoodbye::next(&GONE, &mut cursor), Ok(expected));
     }
 }
 
-/// The packets that `app_at` gives at each index.
+/// At each index the packet that the walk gives.
 #[test]
 fn apps(rt: HostRuntime) {
     let app = PlacedApp {
@@ -187,10 +201,32 @@ fn apps(rt: HostRuntime) {
     let mut cursor = Cursor::default();
     for (index, expected) in [Some(app), None, None].into_iter().enumerate() {
         assert_eq!(rt;
-            next_app(&CALL, &mut cursor),
+            PlacedApp::next(&CALL, &mut cursor),
             Ok(expected),
             "packet {index}"
         );
-        assert_eq!(rt; app_at(&CALL, index), Ok(expected), "packet {index}");
+        assert_eq!(rt; PlacedApp::nth(&CALL, index as u32), Ok(expected), "packet {index}");
     }
+}
+
+/// Of packets of applications, those inside other packets are not given.
+#[test]
+fn nested_applications(rt: HostRuntime) {
+    let app = PlacedApp {
+        ssrc: 7,
+        subtype: 1,
+        name: *b"data",
+        content: Span {
+            place: 36,
+            size: 12,
+        },
+    };
+    for (index, expected) in [Some(app), None, None].into_iter().enumerate() {
+        assert_eq!(rt; PlacedApp::nth(&NESTED, index as u32), Ok(expected), "packet {index}");
+    }
+    let fault = WireFault {
+        reason: FaultReason::Length,
+        place: 24,
+    };
+    assert_eq!(rt; PlacedApp::nth(&NESTED[..47], 0), Err(fault));
 }

@@ -29,12 +29,6 @@ mod WalkSteps
 mod ItemSteps
 mod ChunkSteps
 mod PacketSteps
-mod Finding
-pub mod Places
-mod ItemPlaces
-mod PacketPlaces
-mod GoodbyePlaces
-pub mod AppPlaces
 mod BlockLists
 mod Octets
 mod PartsAgain

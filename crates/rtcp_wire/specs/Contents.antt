@@ -1,6 +1,6 @@
 -- What the packets of a compound hold, each part once and in order (RFC 3550, 6.4 to 6.7): senders, report blocks,
 -- SDES items, goodbyes and packets of applications.
-use Rattle.std.specs.Prelude.{ℕ, List, [], ◌∷◌, ◌++◌, Option, map, flat_map}
+use Rattle.std.specs.Prelude.{ℕ, List, [], ◌∷◌, Option, map, flat_map}
 use Rattle.rtcp_wire.specs.Values.{SenderValue, ReportBlock, ItemValue, ChunkValue, AppValue, RtcpPacket, sr, rr, sdes, bye, app, other}
 
 -- ---- Senders
@@ -34,10 +34,6 @@ packet_blocks (other kind count body) = []
 -- the blocks of all reports
 abbrev pub all_blocks : List RtcpPacket → List (ℕ × ReportBlock)
 all_blocks packets = flat_map packet_blocks packets
-
--- those of the blocks of one report, and of the packets after it
-abbrev pub blocks_left : (reporter : ℕ) → List ReportBlock → List RtcpPacket → List (ℕ × ReportBlock)
-blocks_left reporter blocks packets = blocks_by reporter blocks ++ all_blocks packets
 
 -- ---- SDES items
 

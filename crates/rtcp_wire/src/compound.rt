@@ -6,20 +6,15 @@ ghost use Rattle.rtcp_wire.specs.Grammar.{IsAccepted};
 ghost use Rattle.rtcp_wire.specs.Faults.{IsFirstFault};
 ghost use Rattle.rtcp_wire.specs.Walks.{packets_in};
 ghost use Rattle.rtcp_wire.specs.About.{blocks_about};
-ghost use Rattle.rtcp_wire.specs.Contents.{all_blocks, all_senders};
 ghost use Rattle.rtcp_wire.specs.declared.fault.WireFault.{WireFault as Fault};
 
 mod about;
-mod all_blocks;
 mod packets;
-mod senders;
 
 use crate::fault::WireFault;
 use crate::validity::check_datagram;
 pub use about::About;
-pub use all_blocks::AllBlocks;
 pub use packets::Packets;
-pub use senders::Senders;
 use std::marker::Model;
 
 /// The most octets of a datagram: UDP's own limit.
@@ -82,18 +77,5 @@ impl<'a> Compound<'a> {
         ensures { result ≡ blocks_about ssrc self.now }
     {
         About::new(ssrc, self.packets())
-    }
-    /// The blocks of all reports, each with the SSRC of its packet's source, in their order (RFC 3550, 6.4).
-    pub fn blocks(&self) -> AllBlocks<'a>
-        ensures { result ≡ all_blocks self.now }
-    {
-        AllBlocks::new(self.packets())
-    }
-
-    /// The sender reports, in their order (RFC 3550, 6.4.1).
-    pub fn senders(&self) -> Senders<'a>
-        ensures { result ≡ all_senders self.now }
-    {
-        Senders::new(self.packets())
     }
 }

@@ -7,7 +7,6 @@ mod about;
 mod changes;
 mod damage;
 mod facts;
-mod placed;
 mod rtp;
 mod samples;
 mod types;

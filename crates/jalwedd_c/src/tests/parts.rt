@@ -1,8 +1,9 @@
 //! The parts of datagrams that were made by hand, by index and by cursor: what is told of each part is worked there.
 
 use super::*;
-use crate::app::jalwedd_app;
-use crate::parts::{jalwedd_block, jalwedd_goodbye, jalwedd_sdes_item, jalwedd_sender};
+use crate::parts::{
+    jalwedd_app, jalwedd_block, jalwedd_goodbye, jalwedd_sdes_item, jalwedd_sender,
+};
 use crate::walks::{
     jalwedd_next_app, jalwedd_next_block, jalwedd_next_goodbye, jalwedd_next_sdes_item,
     jalwedd_next_sender,

@@ -13,11 +13,11 @@ fn refused(rt: HostRuntime) {
     };
     let (octets, _) = GONE.split_at(20);
     let mut cursor = Cursor::default();
-    assert_eq!(rt; next_sender(octets, &mut cursor), Err(fault));
-    assert_eq!(rt; next_block(octets, &mut cursor), Err(fault));
-    assert_eq!(rt; next_item(octets, &mut cursor), Err(fault));
-    assert_eq!(rt; next_goodbye(octets, &mut cursor), Err(fault));
-    assert_eq!(rt; next_app(octets, &mut cursor), Err(fault));
+    assert_eq!(rt; Sender::next(octets, &mut cursor), Err(fault));
+    assert_eq!(rt; Reported::next(octets, &mut cursor), Err(fault));
+    assert_eq!(rt; PlacedItem::next(octets, &mut cursor), Err(fault));
+    assert_eq!(rt; PlacedGoodbye::next(octets, &mut cursor), Err(fault));
+    assert_eq!(rt; PlacedApp::next(octets, &mut cursor), Err(fault));
     assert_eq!(rt; cursor, Cursor::default());
 }
 
@@ -25,16 +25,16 @@ fn refused(rt: HostRuntime) {
 #[test]
 fn other_datagram(rt: HostRuntime) {
     let mut cursor = Cursor::default();
-    assert_eq!(rt; next_goodbye(&CALL, &mut cursor).is_ok(), true);
+    assert_eq!(rt; PlacedGoodbye::next(&CALL, &mut cursor).is_ok(), true);
     for _ in 0..2 {
-        assert_eq!(rt; next_goodbye(&GONE, &mut cursor), Ok(None));
+        assert_eq!(rt; PlacedGoodbye::next(&GONE, &mut cursor), Ok(None));
     }
 }
 
 /// How many parts a walk gives until it ends, if all lie in the octets.
 fn items_given(octets: &[u8], mut cursor: Cursor) -> Option<usize> {
     for given in 0..=octets.len() {
-        match next_item(octets, &mut cursor) {
+        match PlacedItem::next(octets, &mut cursor) {
             Ok(Some(item)) => {
                 if item.text.place + item.text.size > octets.len() {
                     return None;
@@ -48,7 +48,7 @@ fn items_given(octets: &[u8], mut cursor: Cursor) -> Option<usize> {
 
 fn goodbyes_given(octets: &[u8], mut cursor: Cursor) -> Option<usize> {
     for given in 0..=octets.len() {
-        match next_goodbye(octets, &mut cursor) {
+        match PlacedGoodbye::next(octets, &mut cursor) {
             Ok(Some(goodbye)) => {
                 if let Some(reason) = goodbye.reason {
                     if reason.place + reason.size > octets.len() {
@@ -64,7 +64,7 @@ fn goodbyes_given(octets: &[u8], mut cursor: Cursor) -> Option<usize> {
 
 fn apps_given(octets: &[u8], mut cursor: Cursor) -> Option<usize> {
     for given in 0..=octets.len() {
-        match next_app(octets, &mut cursor) {
+        match PlacedApp::next(octets, &mut cursor) {
             Ok(Some(app)) => {
                 if app.content.place + app.content.size > octets.len() {
                     return None;
@@ -78,7 +78,7 @@ fn apps_given(octets: &[u8], mut cursor: Cursor) -> Option<usize> {
 
 fn senders_given(octets: &[u8], mut cursor: Cursor) -> Option<usize> {
     for given in 0..=octets.len() {
-        if !matches!(next_sender(octets, &mut cursor), Ok(Some(_))) {
+        if !matches!(Sender::next(octets, &mut cursor), Ok(Some(_))) {
             return Some(given);
         }
     }
@@ -87,7 +87,7 @@ fn senders_given(octets: &[u8], mut cursor: Cursor) -> Option<usize> {
 
 fn blocks_given(octets: &[u8], mut cursor: Cursor) -> Option<usize> {
     for given in 0..=octets.len() {
-        if !matches!(next_block(octets, &mut cursor), Ok(Some(_))) {
+        if !matches!(Reported::next(octets, &mut cursor), Ok(Some(_))) {
             return Some(given);
         }
     }

@@ -1,17 +1,7 @@
--- The source at the index is that of the list of all.
-use Rattle.std.proofs.Common.{refl}
-use Rattle.rtcp_wire.specs.Contents.{all_goodbyes}
-use Rattle.rtcp_wire.specs.Placed.{PlacesGoodbye}
-use Rattle.jalwedd_c.proofs.Locating.{given_none, given_one}
+use Rattle.rtcp_parts.specs.Placed.{PlacesGoodbye}
+use Rattle.jalwedd_host.specs.Parts.{ShowsGoodbye}
+use Rattle.jalwedd_host.proofs.Walking.{shown_at}
 use Rattle.jalwedd_c.proofs.parts.jalwedd_goodbye.Goals as goal
 
-pub returns-in-Ok-Some : goal.returns-in-Ok-Some
-returns-in-Ok-Some c =
-    given_one all_goodbyes (PlacesGoodbye c.args.datagram.now) c.in-Ok-Some.ensures.gives
-    (λ first is. cc (c.in-Ok-Some.ensures.finds first is)) c.in-Ok-Some.placed (cc c.in-Ok-Some.field-0-is) refl
-    (c.goodbye_place.ensures.shows c.args.datagram.now)
-
-pub returns-in-Ok-None : goal.returns-in-Ok-None
-returns-in-Ok-None c =
-    given_none all_goodbyes (PlacesGoodbye c.args.datagram.now) c.in-Ok-None.ensures.gives
-    (λ first is. cc (c.in-Ok-None.ensures.finds first is)) (cc c.in-Ok-None.field-0-is) refl refl
+pub returns : goal.returns
+returns c = shown_at PlacesGoodbye ShowsGoodbye c.args.datagram.now c.tell_at.ensures.tells

@@ -1,17 +1,7 @@
--- The item at the index is that of the list of all.
-use Rattle.std.proofs.Common.{refl}
-use Rattle.rtcp_wire.specs.Contents.{all_items}
-use Rattle.rtcp_wire.specs.Placed.{PlacesItem}
-use Rattle.jalwedd_c.proofs.Locating.{given_none, given_one}
+use Rattle.rtcp_parts.specs.Placed.{PlacesItem}
+use Rattle.jalwedd_host.specs.Parts.{ShowsItem}
+use Rattle.jalwedd_host.proofs.Walking.{shown_at}
 use Rattle.jalwedd_c.proofs.parts.jalwedd_sdes_item.Goals as goal
 
-pub returns-in-Ok-Some : goal.returns-in-Ok-Some
-returns-in-Ok-Some c =
-    given_one all_items (PlacesItem c.args.datagram.now) c.in-Ok-Some.ensures.gives
-    (λ first is. cc (c.in-Ok-Some.ensures.finds first is)) c.in-Ok-Some.placed (cc c.in-Ok-Some.field-0-is) refl
-    (c.item_place.ensures.shows c.args.datagram.now)
-
-pub returns-in-Ok-None : goal.returns-in-Ok-None
-returns-in-Ok-None c =
-    given_none all_items (PlacesItem c.args.datagram.now) c.in-Ok-None.ensures.gives
-    (λ first is. cc (c.in-Ok-None.ensures.finds first is)) (cc c.in-Ok-None.field-0-is) refl refl
+pub returns : goal.returns
+returns c = shown_at PlacesItem ShowsItem c.args.datagram.now c.tell_at.ensures.tells

@@ -1,17 +1,7 @@
--- What is told is what was given.
-use Rattle.std.proofs.Common.{Ok, ap, ◌∙◌}
-use Rattle.jalwedd_c.proofs.Walking.{refused, told, untold}
+use Rattle.rtcp_parts.specs.Placed.{PlacesItem}
+use Rattle.jalwedd_host.specs.Parts.{ShowsItem}
+use Rattle.jalwedd_host.proofs.Walking.{shown_next}
 use Rattle.jalwedd_c.proofs.walks.jalwedd_next_sdes_item.Goals as goal
 
-pub returns-in-Ok-Some-clause-tells : goal.returns-in-Ok-Some-clause-tells
-returns-in-Ok-Some-clause-tells c =
-    told c.in-Ok-Some.placed c.args.item.now c.item_place.result
-    (λ part places. c.item_place.ensures.shows c.args.datagram.now part places)
-    (c.in-Ok-Some.is ∙ ap Ok (cc c.in-Ok-Some.field-0-is)) c.next_item.ensures.gives
-
-pub returns-in-Ok-None-clause-tells : goal.returns-in-Ok-None-clause-tells
-returns-in-Ok-None-clause-tells c =
-    untold c.args.item.now (c.in-Ok-None.is ∙ ap Ok (cc c.in-Ok-None.field-0-is)) c.next_item.ensures.gives
-
-pub returns-in-Err-clause-tells : goal.returns-in-Err-clause-tells
-returns-in-Err-clause-tells c = refused c.in-Err.field-0 c.args.item.now c.in-Err.is c.next_item.ensures.gives
+pub returns-clause-tells : goal.returns-clause-tells
+returns-clause-tells c = shown_next PlacesItem ShowsItem c.args.datagram.now c.tell_next.ensures.tells

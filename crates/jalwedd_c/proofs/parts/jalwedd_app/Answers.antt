@@ -1,0 +1,11 @@
+-- The packet that is told is one of the datagram's own.
+use Rattle.rtcp_parts.specs.Placed.{PlacesApp}
+use Rattle.jalwedd_host.specs.Apps.{ShowsApp}
+use Rattle.jalwedd_host.proofs.OwnWalks.{own_located}
+use Rattle.jalwedd_host.proofs.Walking.{shown_at}
+use Rattle.jalwedd_c.proofs.parts.jalwedd_app.Goals as goal
+
+pub returns : goal.returns
+returns c =
+    own_located c.args.datagram.now c.args.index c.tell_at.result c.args.app.now c.tell_at.new.place
+    (shown_at PlacesApp ShowsApp c.args.datagram.now c.tell_at.ensures.tells) (c.tell_at.ensures.own (tt {0}))

@@ -1,0 +1,8 @@
+-- The walk is ready for the block that it takes.
+use Rattle.rtcp_parts.proofs.Calls.{ready_takes}
+use Rattle.rtcp_parts.proofs.blocks.ReportedWalk.take.Goals as goal
+
+pub returns-clause-takes : goal.returns-clause-takes
+returns-clause-takes c =
+    ready_takes c.args.datagram.now c.args.cursor.now c.ready.result _ c.requires.begun c.ready.ensures _
+    c.take_block.ensures
