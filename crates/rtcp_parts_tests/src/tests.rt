@@ -101,8 +101,16 @@ fn senders(rt: HostRuntime) {
         octets: 8_192,
     };
     for (index, expected) in [Some(sender), None, None].into_iter().enumerate() {
-        assert_eq!(rt; Sender::next(&CALL, &mut cursor), Ok(expected), "sender {index}");
-        assert_eq!(rt; Sender::nth(&CALL, index as u32), Ok(expected), "sender {index}");
+        assert_eq!(rt;
+            Sender::next(&CALL, &mut cursor),
+            Ok(expected),
+            "sender {index}"
+        );
+        assert_eq!(rt;
+            Sender::nth(&CALL, index as u32),
+            Ok(expected),
+            "sender {index}"
+        );
     }
 }
 
@@ -132,8 +140,16 @@ fn blocks(rt: HostRuntime) {
         .into_iter()
         .enumerate()
     {
-        assert_eq!(rt; Reported::next(&CALL, &mut cursor), Ok(expected), "block {index}");
-        assert_eq!(rt; Reported::nth(&CALL, index as u32), Ok(expected), "block {index}");
+        assert_eq!(rt;
+            Reported::next(&CALL, &mut cursor),
+            Ok(expected),
+            "block {index}"
+        );
+        assert_eq!(rt;
+            Reported::nth(&CALL, index as u32),
+            Ok(expected),
+            "block {index}"
+        );
     }
 }
 
@@ -150,8 +166,16 @@ fn items(rt: HostRuntime) {
     ];
     let mut cursor = Cursor::default();
     for (index, expected) in rows.into_iter().enumerate() {
-        assert_eq!(rt; PlacedItem::next(&CALL, &mut cursor), Ok(expected), "item {index}");
-        assert_eq!(rt; PlacedItem::nth(&CALL, index as u32), Ok(expected), "item {index}");
+        assert_eq!(rt;
+            PlacedItem::next(&CALL, &mut cursor),
+            Ok(expected),
+            "item {index}"
+        );
+        assert_eq!(rt;
+            PlacedItem::nth(&CALL, index as u32),
+            Ok(expected),
+            "item {index}"
+        );
     }
 }
 
@@ -172,7 +196,11 @@ fn goodbyes(rt: HostRuntime) {
             Ok(expected),
             "source {index}"
         );
-        assert_eq!(rt; PlacedGoodbye::nth(&CALL, index as u32), Ok(expected), "source {index}");
+        assert_eq!(rt;
+            PlacedGoodbye::nth(&CALL, index as u32),
+            Ok(expected),
+            "source {index}"
+        );
     }
 }
 
@@ -205,7 +233,11 @@ fn apps(rt: HostRuntime) {
             Ok(expected),
             "packet {index}"
         );
-        assert_eq!(rt; PlacedApp::nth(&CALL, index as u32), Ok(expected), "packet {index}");
+        assert_eq!(rt;
+            PlacedApp::nth(&CALL, index as u32),
+            Ok(expected),
+            "packet {index}"
+        );
     }
 }
 
@@ -222,7 +254,11 @@ fn nested_applications(rt: HostRuntime) {
         },
     };
     for (index, expected) in [Some(app), None, None].into_iter().enumerate() {
-        assert_eq!(rt; PlacedApp::nth(&NESTED, index as u32), Ok(expected), "packet {index}");
+        assert_eq!(rt;
+            PlacedApp::nth(&NESTED, index as u32),
+            Ok(expected),
+            "packet {index}"
+        );
     }
     let fault = WireFault {
         reason: FaultReason::Length,
