@@ -1,5 +1,5 @@
 -- Where the data of an application's packet stand.
-use Rattle.std.proofs.Common.{ℕ, ◌+◌, ◌-◌, List, [], ◌++◌, length, sym, ap, ◌∙◌, append_assoc, append-nil, refl, arith}
+use Rattle.std.proofs.Common.{ℕ, ◌+◌, ◌-◌, List, [], ◌++◌, sym, ap, ◌∙◌, append_assoc, append-nil, refl, arith}
 use Rattle.std.proofs.lemmas.List.{length-append}
 use Rattle.rtcp_wire.specs.Grammar.{IsSpelling, body_of, padding_of, size_of}
 use Rattle.rtcp_wire.specs.Placed.{StandsIn}

@@ -1,5 +1,5 @@
 -- A call of a walk, from where the walk stands and what its steps do.
-use Rattle.std.proofs.Common.{◌≡◌, ◌≢◌, ℕ, zero, suc, ◌+◌, ◌<◌, ◌≤◌, ◌==◌, ◌⊎◌, inl, inr, true, false, List, [], ◌∷◌, Option, Some, None, Result, Ok, Err, length, drop, flat_map, slice_get, refl, sym, ap, subst, ◌∙◌, arith}
+use Rattle.std.proofs.Common.{◌≡◌, ◌≢◌, ℕ, zero, suc, ◌+◌, ◌<◌, ◌≤◌, ◌⊎◌, inl, inr, true, List, [], ◌∷◌, Option, Some, None, Result, Ok, Err, length, drop, flat_map, slice_get, refl, sym, ap, subst, ◌∙◌, arith}
 use Rattle.std.proofs.lemmas.Bool.Decides.{nat_tests}
 use Rattle.std.proofs.lemmas.List.{drop_more}
 use Rattle.std.proofs.lemmas.Option.{get_or_from_slice_get, slice_get_within}
@@ -172,22 +172,6 @@ module _ {Part Given : Type 0} {parts_of : RtcpPacket → List Part} {IsLeft : L
     }
 
 -- ---- A walk that stays in a packet
-
--- The cursor with which a walk goes on is one of the datagram.
-pub begun_within : (octets : ℕ) (was at : Cursor) → at ≡ begun_at octets was → is_within octets at ≡ true
-begun_within octets was at begun =
-    ap (is_within octets) begun
-    ∙ elim (was.next == 0) as (λ b. (was.next == 0) ≡ b → is_within octets (begun_at octets was) ≡ true) [
-      | true ↦ λ first. grind (arith, nat_tests, first)
-      | false ↦ λ later. grind (arith, nat_tests, later)
-    ] refl
-
--- If it is in a packet, the walk has begun.
-pub begun_in : (octets : ℕ) (was at : Cursor) → at ≡ begun_at octets was → at.left ≢ 0 → at.next ≢ 0
-begun_in octets was at begun some first =
-    let next : (begun_at octets was).next ≡ 0 = sym (ap (λ (c : Cursor). c.next) begun) ∙ first in
-    let left : (begun_at octets was).left ≢ 0 = λ none. some (ap (λ (c : Cursor). c.left) begun ∙ none) in
-    grind (arith, nat_tests, next, left)
 
 zero_or_more : (n : ℕ) → (n ≡ 0) ⊎ (n ≢ 0)
 zero_or_more zero = inl refl
