@@ -1,39 +1,47 @@
-mod FirstFound
+-- Spellings one after the other; prefixes, blocks and identifiers; chunks.
 mod Joining
 pub mod Prefixes
 mod Fixed
 mod ChunkPrefixes
+-- Bodies, their faults, and packets.
 mod Bodies
 mod BodyFaults
 mod Spellings
+-- The order of the tests, and the laws of compounds.
+mod FirstFound
 mod Stops
 mod Refusals
+mod ReadingWalks
+pub mod LawLemmas
+-- Single tests, and a walk by them: accepted or faulty.
 mod Passing
 mod BodyOrFault
 mod PacketOrFault
 mod Walking
-mod examples
-mod RtpLists
-mod RtpHeading
-mod RtpFaults
-mod ReadingRtp
-mod FewFacts
-mod AboutLists
-mod Appending
-mod Written
-mod WrittenPackets
-mod Reports
-mod NoMedia
-mod ReadingWalks
+-- The iterators: what each step gives, facts, and blocks about a source.
 mod WalkSteps
 mod ItemSteps
 mod ChunkSteps
 mod PacketSteps
+mod FewFacts
+mod AboutLists
 mod BlockLists
+mod NoMedia
+-- Heads of RTP packets.
+mod RtpLists
+mod RtpHeading
+mod RtpFaults
+mod ReadingRtp
+mod RtpRanges
+mod RtpPlaces
+-- What is written, and that what was read can be written.
+mod Appending
+mod Written
+mod WrittenPackets
+mod Reports
 mod Octets
 mod PartsAgain
 mod WritableAgain
 mod PartRanges
-mod RtpRanges
-mod RtpPlaces
-pub mod LawLemmas
+-- Worked examples.
+mod examples
