@@ -159,7 +159,7 @@ impl<'a> Iterator for Chunks<'a> {
 
 /// The size of the chunk whose items these octets begin with: its identifier, the items with their zero octet,
 /// and the fill of the last word.
-pub(crate) fn size_with_items(item_octets: &[u8]) -> usize
+fn size_with_items(item_octets: &[u8]) -> usize
     requires { HasItems item_octets.now }
     ensures { result ≡ chunk_size (items_after 0 item_octets.now) }
 {

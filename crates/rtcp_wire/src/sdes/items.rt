@@ -72,7 +72,7 @@ pub(super) fn octets_of_items(octets: &[u8]) -> usize
 }
 
 /// The text of the item that these octets begin with, and what follows it.
-pub(crate) fn split_item(octets: &[u8]) -> (&[u8], &[u8])
+fn split_item(octets: &[u8]) -> (&[u8], &[u8])
     requires items { HasItems octets.now }
     requires some { slice_index octets.now 0 ≢ 0 }
     ensures text { result.0.now ≡ take (slice_index octets.now 1) (drop 2 octets.now) }
