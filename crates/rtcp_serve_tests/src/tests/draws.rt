@@ -9,6 +9,7 @@ use rand_core::{Rng, SeedableRng};
 use rand_pcg::Pcg32;
 use rtcp_serve::{Until, serve_until};
 use std::cell::Cell;
+use std::rc::Rc;
 
 /// The words are drawn in their order: one for each datagram as it comes, on either port, and two at the end of a
 /// turn. The fifth one is the new SSRC.
@@ -19,9 +20,9 @@ fn draws_in_order(rt: HostRuntime) -> Result<(), Fail> {
         Coming::Datagram(8, &[0x80, 0, 0, 1, 0, 0, 0, 0, 0, 0, 0, 9]),
         Coming::Datagram(9, &REPORT),
     ];
-    let made = Cell::new(0);
+    let made = Rc::new(rt.alloc(), Cell::new(0))?;
     let mut link = MemoryLink::new(rt.alloc(), &[0], &coming, &[], 100, &made)?;
-    let mut watch = Watch::new(rt.alloc(), 100, &made);
+    let mut watch = Watch::new(rt.alloc(), 100, made.clone()?);
     let (mut given, mut words) = (Pcg32::seed_from_u64(5), Pcg32::seed_from_u64(5));
     let mut changed = participant(&rt);
     let mut buf = [0; 65_535];

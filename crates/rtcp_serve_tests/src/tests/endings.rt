@@ -11,6 +11,7 @@ use super::*;
 use rtcp_serve::{Ending, Until, serve_until};
 use std::alloc::Global;
 use std::cell::Cell;
+use std::rc::Rc;
 
 /// The moments of a first turn that sends a report, and of a second one.
 const MOMENTS: &[u64] = &[0, 1_026_037, 500_000, 2_000_000];
@@ -86,7 +87,7 @@ fn left_at(
 ) -> Result<(usize, usize, u32), Fail>
     requires { turns ≤ 2 ^ 59 }
 {
-    let made = Cell::new(0);
+    let made = Rc::new(alloc, Cell::new(0))?;
     let mut link = MemoryLink::new(alloc, MOMENTS, &[], &[], 300, &made)?;
     let mut participant = participant(rt);
     let (end, drawn) = limited(&mut link, &mut participant, &mut Until { moment }, turns);
@@ -121,7 +122,7 @@ fn moments(rt: HostRuntime) -> Result<(), Fail> {
 /// It is asked before each turn at the greatest moment so far, and no more once the participant has left.
 #[test]
 fn questions(rt: HostRuntime) -> Result<(), Fail> {
-    let made = Cell::new(0);
+    let made = Rc::new(rt.alloc(), Cell::new(0))?;
     let mut link = MemoryLink::new(rt.alloc(), MOMENTS, &[], &[], 300, &made)?;
     let mut ending = Script::new(rt.alloc(), 2, 9);
     let (end, drawn) = limited(&mut link, &mut participant(&rt), &mut ending, 1_000);
@@ -152,7 +153,7 @@ fn backs_off(
         coming.push(Coming::Named(ssrc))?;
         coming.push(Coming::Nothing)?;
     }
-    let made = Cell::new(0);
+    let made = Rc::new(alloc, Cell::new(0))?;
     let mut link = MemoryLink::new(alloc, &clock, &coming, &[], 900, &made)?;
     let mut ending = Script::new(alloc, 61, after);
     let (end, _) = limited(&mut link, &mut participant(rt), &mut ending, 1_000);

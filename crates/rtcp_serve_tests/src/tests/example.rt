@@ -5,10 +5,11 @@ use super::session::participant;
 use super::zeros::Zeros;
 use super::*;
 use std::cell::Cell;
+use std::rc::Rc;
 
 #[test]
 fn example(rt: HostRuntime) -> Result<(), Fail> {
-    let made = Cell::new(0);
+    let made = Rc::new(rt.alloc(), Cell::new(0))?;
     let mut link = MemoryLink::new(rt.alloc(), &[0], &[], &[], 0, &made)?;
     let mut participant = participant(&rt);
     let mut rng = Zeros(0);

@@ -5,6 +5,7 @@ use super::rows::{ANYTHING, Case, IDLE, PLAIN, Seen, play};
 use super::session::{participant, served};
 use super::*;
 use std::cell::Cell;
+use std::rc::Rc;
 
 /// With 52 members the participant backs off, for 1,026,037 microseconds from its leave. That is at the
 /// greatest moment, 1,026,037, though the clock gives 0 in the turn before. Its BYE goes out in the second
@@ -47,7 +48,7 @@ fn backs_off(rt: HostRuntime) -> Result<(), Fail> {
 #[test]
 fn full_log(rt: HostRuntime) -> Result<(), Fail> {
     for (turns, is_whole) in [(1, true), (2, false)] {
-        let made = Cell::new(0);
+        let made = Rc::new(rt.alloc(), Cell::new(0))?;
         let mut link = MemoryLink::new(rt.alloc(), &[0], &[], &[], 4, &made)?;
         let _ = served(&mut link, &mut participant(&rt), turns);
         assert_eq!(rt; link.log.is_whole, is_whole);

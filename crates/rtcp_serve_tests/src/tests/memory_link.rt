@@ -8,6 +8,7 @@ use super::session::named;
 use rtcp_serve::{Link, LinkFault, Port, Received};
 use std::alloc::{AllocError, Global};
 use std::cell::Cell;
+use std::rc::Rc;
 
 /// What comes while a port is listened to.
 #[derive(Clone, Copy, PartialEq, Eq)]
@@ -22,7 +23,7 @@ pub(crate) enum Coming {
 
 /// A link that answers from lists, and keeps a log.
 #[derive(Drop)]
-pub(crate) struct MemoryLink<'a> {
+pub(crate) struct MemoryLink {
     /// The moments that the clock gives, the last one again once they are used up.
     moments: Vec<u64>,
     reads: usize,
@@ -36,12 +37,12 @@ pub(crate) struct MemoryLink<'a> {
     sends: u64,
     pub(crate) log: Log,
     /// How many calls were made, for who watches.
-    made: &'a Cell<usize>,
+    made: Rc<Cell<usize>>,
     failed_receives: u64,
     failed_sends: u64,
 }
 
-impl<'a> MemoryLink<'a> {
+impl MemoryLink {
     /// A link that gives these moments, to which these come and then nothing, and which fails at the sends of
     /// these numbers. Its log has room for so many calls, and `made` has how many it keeps.
     pub(crate) fn new(
@@ -50,8 +51,8 @@ impl<'a> MemoryLink<'a> {
         coming: &[Coming],
         failing: &[u64],
         room: usize,
-        made: &'a Cell<usize>,
-    ) -> Result<MemoryLink<'a>, AllocError>
+        made: &Rc<Cell<usize>>,
+    ) -> Result<MemoryLink, AllocError>
         ensures receives { IfOk result (λ link. link.failed_receives ≡ 0) }
         ensures sends { IfOk result (λ link. link.failed_sends ≡ 0) }
     {
@@ -64,7 +65,7 @@ impl<'a> MemoryLink<'a> {
             failing: Vec::from_slice(alloc, failing)?,
             sends: 0,
             log: Log::new(alloc, room),
-            made,
+            made: made.clone()?,
             failed_receives: 0,
             failed_sends: 0,
         })
@@ -85,7 +86,7 @@ impl<'a> MemoryLink<'a> {
     }
 }
 
-impl<'a> Link for MemoryLink<'a> {
+impl Link for MemoryLink {
     ghost value = { λ link. record {
       log = ⟦<Log as Told>⟧.calls link.log;
       failed_receives = link.failed_receives;

@@ -9,6 +9,7 @@ use rtcp_engine::Event;
 use rtcp_members::MemberTable;
 use rtcp_serve::Observer;
 use std::cell::Cell;
+use std::rc::Rc;
 
 /// Counts what it is told, and how often the participant had as many members as the answer says.
 #[derive(Drop)]
@@ -61,10 +62,10 @@ fn observers_see_the_participant(rt: HostRuntime) -> Result<(), Fail> {
         Coming::Nothing,
         Coming::Named(8),
     ];
-    let made = Cell::new(0);
+    let made = Rc::new(rt.alloc(), Cell::new(0))?;
     let mut link = MemoryLink::new(rt.alloc(), &[0], &coming, &[], 40, &made)?;
     let (first, second) = (Counts::new(), Counts::new());
-    let watch = Watch::new(rt.alloc(), 40, &made);
+    let watch = Watch::new(rt.alloc(), 40, made.clone()?);
     let mut observer = (((first, Some(second)), None::<Counts>), (watch, ()));
     let (end, _) = watched(&mut link, &mut participant(&rt), &mut observer, 3);
     assert_eq!(rt; (end.cause, end.received, end.refused), (Cause::Done, 3, 1));
@@ -84,7 +85,7 @@ fn observers_see_the_participant(rt: HostRuntime) -> Result<(), Fail> {
 #[test]
 fn observers_are_told_of_sends(rt: HostRuntime) -> Result<(), Fail> {
     let moments = [0, 1_026_037, 500_000, 2_000_000];
-    let made = Cell::new(0);
+    let made = Rc::new(rt.alloc(), Cell::new(0))?;
     let mut link = MemoryLink::new(rt.alloc(), &moments, &[], &[0], 40, &made)?;
     let mut observer = (Counts::new(), Some(Counts::new()));
     let (end, _) = watched(&mut link, &mut participant(&rt), &mut observer, 2);

@@ -8,7 +8,6 @@ use super::*;
 use rand_core::Rng;
 use rtcp_engine::{Event, Refusal};
 use std::alloc::Global;
-use std::cell::Cell;
 
 /// Walks a log, tells a participant of its own what the log says, and keeps what it tells and is answered.
 #[derive(Drop)]
@@ -22,7 +21,7 @@ pub(crate) struct Reader<'a, R> {
     moment: u64,
     /// The failed receives in a row, over both ports.
     failures: u32,
-    watch: Watch<'a>,
+    watch: Watch,
 }
 
 /// Reads the log of a link whose session had so many turns and words of 0, with a participant that stands where that of
@@ -30,7 +29,7 @@ pub(crate) struct Reader<'a, R> {
 pub(crate) fn reads(
     rt: &impl Abort,
     alloc: Global,
-    (link, watch): (&MemoryLink<'_>, &Watch<'_>),
+    (link, watch): (&MemoryLink, &Watch),
     participant: Participant<SortedTable>,
     turns: u32,
 ) -> Cause {
@@ -41,12 +40,14 @@ pub(crate) fn reads(
 pub(crate) fn reads_with<R: Rng + Drop>(
     rt: &impl Abort,
     alloc: Global,
-    (link, watch): (&MemoryLink<'_>, &Watch<'_>),
+    (link, watch): (&MemoryLink, &Watch),
     participant: Participant<SortedTable>,
     words: R,
     turns: u32,
 ) -> Cause {
-    let read = Cell::new(0);
+    let Ok(made) = watch.made.clone() else {
+        panic!(rt; "no memory");
+    };
     let mut reader = Reader {
         calls: link.log.calls.as_slice(),
         place: 0,
@@ -54,7 +55,7 @@ pub(crate) fn reads_with<R: Rng + Drop>(
         words,
         moment: 0,
         failures: 0,
-        watch: Watch::new(alloc, watch.tellings.len(), &read),
+        watch: Watch::new(alloc, watch.tellings.len(), made),
     };
     let cause = match reader.session(rt, turns) {
         Ok(()) => Cause::Done,

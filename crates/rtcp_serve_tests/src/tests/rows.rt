@@ -8,6 +8,7 @@ use super::watch::Watch;
 use super::*;
 use std::alloc::{AllocError, Global};
 use std::cell::Cell;
+use std::rc::Rc;
 
 /// A session over a link in memory.
 #[derive(Drop)]
@@ -506,14 +507,14 @@ fn sessions(rt: HostRuntime) -> Result<(), Fail> {
 /// same calls.
 pub(super) fn play(rt: &impl Abort, alloc: Global, case: &Case<'_>) -> Result<(), Fail> {
     let coming = repeated(alloc, case.coming)?;
-    let made = Cell::new(0);
+    let made = Rc::new(alloc, Cell::new(0))?;
     let mut link = MemoryLink::new(alloc, case.moments, &coming, case.failing, 300, &made)?;
     link.in_the_end = case.in_the_end;
     let mut again = MemoryLink::new(alloc, case.moments, &coming, case.failing, 300, &made)?;
     again.in_the_end = case.in_the_end;
     assert!(rt; 1 <= case.turns && case.turns <= 1_000);
     let mut present = begun(rt, case);
-    let mut watch = Watch::new(alloc, 300, &made);
+    let mut watch = Watch::new(alloc, 300, made.clone()?);
     let (end, drawn) = watched(&mut link, &mut present, &mut watch, case.turns);
     check_end(rt, case, (end, drawn), &present);
     check_log(rt, case, &link, &watch);
@@ -562,7 +563,7 @@ fn check_end(
 }
 
 /// The link had these calls, and the watch was told so much.
-fn check_log(rt: &impl Abort, case: &Case<'_>, link: &MemoryLink<'_>, watch: &Watch<'_>) {
+fn check_log(rt: &impl Abort, case: &Case<'_>, link: &MemoryLink, watch: &Watch) {
     let (wanted, made) = (&case.seen, &link.log.calls);
     let found = (link.log.is_whole, made.len(), watch.tellings.len());
     let calls = if wanted.log.is_empty() {

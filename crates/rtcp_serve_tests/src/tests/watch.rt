@@ -5,6 +5,7 @@ use rtcp_members::MemberTable;
 use rtcp_serve::{Observer, Port};
 use std::alloc::{AllocError, Global};
 use std::cell::Cell;
+use std::rc::Rc;
 
 /// An event, as a test keeps it: with its moment, its peer and its words.
 #[derive(Drop, Debug, PartialEq, Eq)]
@@ -31,18 +32,18 @@ pub(crate) struct Telling {
 
 /// What an observer was told, in its order, as long as it fits the room that was reserved for it.
 #[derive(Drop)]
-pub(crate) struct Watch<'a> {
+pub(crate) struct Watch {
     alloc: Global,
     /// How many calls of the link were made.
-    made: &'a Cell<usize>,
+    pub(crate) made: Rc<Cell<usize>>,
     pub(crate) tellings: Vec<Telling>,
     /// Whether all of it fitted.
     pub(crate) is_whole: bool,
 }
 
-impl<'a> Watch<'a> {
+impl Watch {
     /// A watch with room for so many events, and none where there is no memory for them.
-    pub(crate) fn new(alloc: Global, room: usize, made: &'a Cell<usize>) -> Watch<'a> {
+    pub(crate) fn new(alloc: Global, room: usize, made: Rc<Cell<usize>>) -> Watch {
         match Vec::with_capacity(alloc, room) {
             Ok(tellings) => Watch {
                 alloc,
@@ -59,6 +60,11 @@ impl<'a> Watch<'a> {
         }
     }
 
+    /// How many calls of the link were made.
+    fn calls(&self) -> usize {
+        self.made.get()
+    }
+
     /// Notes an event with its answer, after so many calls of the link, if it fits.
     pub(crate) fn note(&mut self, calls: usize, event: &Event<'_>, answer: &Answer) {
         self.is_whole = match telling_of(self.alloc, calls, event, answer) {
@@ -70,14 +76,15 @@ impl<'a> Watch<'a> {
     }
 }
 
-impl<'a> Observer for Watch<'a> {
+impl Observer for Watch {
     fn told<T: MemberTable>(
         &mut self,
         event: &Event<'_>,
         answer: &Answer,
         _participant: &Participant<T>,
     ) {
-        self.note(self.made.get(), event, answer);
+        let calls = self.calls();
+        self.note(calls, event, answer);
     }
 
     fn sent(&mut self, _failed: bool) {}
