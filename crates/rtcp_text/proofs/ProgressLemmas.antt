@@ -408,14 +408,6 @@ module _ {S : Type 0} (most : ℕ) (answers : Answering S) (refuses : Refusing) 
   LineLeaves-refused Memory n state next pending piece longer h = refl
   LineLeaves-refused fault n state next pending piece longer h = absurd h
 
-  -- Where nothing is pending, the piece is the line.
-  pub LineLeaves-whole : {A : Type 0} (r : Result A TextFault) (n : ℕ) (state next : S) (pending line text : List ℕ) →
-      length pending ≡ 0
-      → LineLeaves most answers refuses r n state line text next →
-      LineLeaves most answers refuses r n state (pending ++ line) text next
-  LineLeaves-whole r n state next [] line text none leaves = leaves
-  LineLeaves-whole r n state next (octet ∷ pending) line text none leaves = absurd (omega (arith, none))
-
   -- Nothing is pending at the end.
   pub EndLeaves-none : (x : Unit {0}) (n : ℕ) (state : S) (octets : List ℕ) → length octets ≡ 0 →
       EndLeaves most answers refuses {A = Unit {0}} (Ok x) n state octets []

@@ -1,7 +1,6 @@
 -- What a session writes: the line for the start, and then what the answers leave.
 use Rattle.std.proofs.Common.{◌≡◌, ℕ, List, [], ◌++◌, Option, Some, None, Result, Ok, Err, sym, ◌∙◌, ap, subst, append_assoc, append-nil}
 use Rattle.std.specs.Io.KnownBytes.{Appends}
-use Rattle.std.proofs.KnownBytes.{Appends-nil}
 use Rattle.rtcp_engine.specs.Histories.{History, life_at}
 use Rattle.rtcp_engine.specs.Lives.{next_in_life}
 use Rattle.rtcp_engine.specs.States.{ParticipantValue, StandsAt}
@@ -29,12 +28,6 @@ appended_to : (held holds : Option (List ℕ)) (before text : List ℕ) → Appe
 appended_to None holds before text appends known = absurd (cc known)
 appended_to (Some x) None before text appends known = absurd appends
 appended_to (Some x) (Some y) before text appends known = cc (appends, known)
-
--- Nothing is written where no call of the writer is made.
-pub Writes-nothing : (remaining held : Option (List ℕ)) (P : List ℕ → List ℕ → Type 0) →
-    ((input : List ℕ) → P input []) → Writes remaining held held P
-Writes-nothing remaining held P holds = λ input before known written.
-    ([], appended_to held held before [] (Appends-nil held) written, holds input)
 
 -- A prefix of the line for the start is written.
 pub Writes-start_cut : (A : Type 0) (most : ℕ) (history : History) (fault : TextFault)
