@@ -16,7 +16,6 @@ pub use Rattle.rtcp_wire.proofs.Refusals.{one_fault, never_both as accepted_or_f
 pub use Rattle.rtcp_wire.proofs.Walking.{always_one as accepted_or_faulty-always_one}
 pub use Rattle.rtcp_wire.proofs.NoMedia.{packets_give_none as compounds_give_no_media}
 pub use Rattle.rtcp_wire.proofs.FewFacts.{few_facts as facts_are_few}
-pub use Rattle.rtcp_wire.proofs.BlockLists.{about_of_all}
 pub use Rattle.rtcp_wire.proofs.RtpFaults.{one_head, one_fault as one_rtp_fault}
 pub use Rattle.rtcp_wire.proofs.RtpFaults.{never_both as packet_or_fault-never_both}
 pub use Rattle.rtcp_wire.proofs.RtpFaults.{always_one as packet_or_fault-always_one}

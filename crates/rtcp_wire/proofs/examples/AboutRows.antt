@@ -1,5 +1,5 @@
 -- Worked examples: the blocks that name a source, of packets that are written out and of octets.
-use Rattle.std.proofs.Common.{◌≡◌, ℕ, pos, negsuc, List, [], ◌∷◌, ◌++◌, None, refl}
+use Rattle.std.proofs.Common.{◌≡◌, ℕ, pos, negsuc, List, [], ◌∷◌, ◌++◌, None}
 use Rattle.rtcp_wire.specs.Values.{SenderValue, ReportBlock, sr, rr, sdes, bye, app, other}
 use Rattle.rtcp_wire.specs.Walks.{packets_in}
 use Rattle.rtcp_wire.specs.About.{blocks_about}
@@ -31,42 +31,31 @@ of_another = record { ssrc = 0xbb; fraction = 1; lost = pos 2; highest = 3; jitt
 
 -- ---- What they say of a source
 
--- A block counts with the source that reports,
-one_report : blocks_about 0xaa (rr 7 (block ∷ []) [] ∷ []) ≡ (7, block) ∷ []
-one_report = refl
+record OfPackets : Type 0 where
+  -- A block counts with the source that reports,
+  one_report : blocks_about 0xaa (rr 7 (block ∷ []) [] ∷ []) ≡ (7, block) ∷ []
+  -- but says nothing of that source,
+  of_the_reporter : blocks_about 7 (rr 7 (block ∷ []) [] ∷ []) ≡ []
+  -- unless it names it.
+  of_itself : blocks_about 0xaa (rr 0xaa (block ∷ []) [] ∷ []) ≡ (0xaa, block) ∷ []
+  -- Both reports of a compound count, in order, whatever stands between their blocks.
+  two_reports : blocks_about 0xaa (sr sender (of_another ∷ block ∷ of_another ∷ []) [] ∷ rr 7 (of_another ∷ later ∷ [])
+      [] ∷ [])
+      ≡ (9, block) ∷ (7, later) ∷ []
+  -- The other source is named three times.
+  of_the_other : blocks_about 0xbb (sr sender (of_another ∷ block ∷ of_another ∷ []) [] ∷ rr 7 (of_another ∷ later ∷ [])
+      [] ∷ [])
+      ≡ (9, of_another) ∷ (9, of_another) ∷ (7, of_another) ∷ []
+  -- A report may name a source twice,
+  named_twice : blocks_about 0xaa (rr 7 (block ∷ later ∷ []) [] ∷ []) ≡ (7, block) ∷ (7, later) ∷ []
+  -- and a packet that is no report is passed over.
+  between : blocks_about 0xaa (rr 7 [] [] ∷ sdes [] ∷ bye (0xaa ∷ []) None ∷ app 0 0xaa [] [] ∷ other 207 0 [] ∷ rr 8
+      (block ∷ []) [] ∷ [])
+      ≡ (8, block) ∷ []
+  empty : blocks_about 0xaa [] ≡ []
 
--- but says nothing of that source,
-of_the_reporter : blocks_about 7 (rr 7 (block ∷ []) [] ∷ []) ≡ []
-of_the_reporter = refl
-
--- unless it names it.
-of_itself : blocks_about 0xaa (rr 0xaa (block ∷ []) [] ∷ []) ≡ (0xaa, block) ∷ []
-of_itself = refl
-
--- Both reports of a compound count, in order, whatever stands between their blocks.
-two_reports : blocks_about 0xaa (sr sender (of_another ∷ block ∷ of_another ∷ []) [] ∷ rr 7 (of_another ∷ later ∷ [])
-    [] ∷ [])
-    ≡ (9, block) ∷ (7, later) ∷ []
-two_reports = refl
-
--- The other source is named three times.
-of_the_other : blocks_about 0xbb (sr sender (of_another ∷ block ∷ of_another ∷ []) [] ∷ rr 7 (of_another ∷ later ∷ [])
-    [] ∷ [])
-    ≡ (9, of_another) ∷ (9, of_another) ∷ (7, of_another) ∷ []
-of_the_other = refl
-
--- A report may name a source twice,
-named_twice : blocks_about 0xaa (rr 7 (block ∷ later ∷ []) [] ∷ []) ≡ (7, block) ∷ (7, later) ∷ []
-named_twice = refl
-
--- and a packet that is no report is passed over.
-between : blocks_about 0xaa (rr 7 [] [] ∷ sdes [] ∷ bye (0xaa ∷ []) None ∷ app 0 0xaa [] [] ∷ other 207 0 [] ∷ rr 8
-    (block ∷ []) [] ∷ [])
-    ≡ (8, block) ∷ []
-between = refl
-
-empty : blocks_about 0xaa [] ≡ []
-empty = refl
+of_packets : OfPackets
+of_packets = search
 
 -- ---- In octets
 
@@ -89,21 +78,18 @@ other_octets = 0 ∷ 0 ∷ 0 ∷ 0xbb ∷ 1 ∷ 0 ∷ 0 ∷ 2 ∷ 0 ∷ 0 ∷ 0 
 abbrev report : List ℕ
 report = 0x81 ∷ 0xc9 ∷ 0 ∷ 7 ∷ 0 ∷ 0 ∷ 0 ∷ 7 ∷ block_octets
 
-read_about : blocks_about 0xaa (packets_in report) ≡ (7, block) ∷ []
-read_about = refl
-
-read_of_the_reporter : blocks_about 7 (packets_in report) ≡ []
-read_of_the_reporter = refl
-
 -- a sender report of source 9 with three blocks, and a receiver report of source 7 with two
 abbrev compound : List ℕ
 compound = 0x83 ∷ 0xc8 ∷ 0 ∷ 24 ∷ 0 ∷ 0 ∷ 0 ∷ 9 ∷ 0 ∷ 0 ∷ 0 ∷ 0 ∷ 0 ∷ 0 ∷ 0 ∷ 5
     ∷ 0 ∷ 0 ∷ 0 ∷ 1 ∷ 0 ∷ 0 ∷ 0 ∷ 2 ∷ 0 ∷ 0 ∷ 0 ∷ 3 ∷ other_octets ++ block_octets ++ other_octets
     ++ 0x82 ∷ 0xc9 ∷ 0 ∷ 13 ∷ 0 ∷ 0 ∷ 0 ∷ 7 ∷ other_octets ++ later_octets
 
-read_two_reports : packets_in compound
-    ≡ sr sender (of_another ∷ block ∷ of_another ∷ []) [] ∷ rr 7 (of_another ∷ later ∷ []) [] ∷ []
-read_two_reports = refl
+record OfOctets : Type 0 where
+  read_about : blocks_about 0xaa (packets_in report) ≡ (7, block) ∷ []
+  read_of_the_reporter : blocks_about 7 (packets_in report) ≡ []
+  read_two_reports : packets_in compound
+      ≡ sr sender (of_another ∷ block ∷ of_another ∷ []) [] ∷ rr 7 (of_another ∷ later ∷ []) [] ∷ []
+  read_about_both : blocks_about 0xaa (packets_in compound) ≡ (9, block) ∷ (7, later) ∷ []
 
-read_about_both : blocks_about 0xaa (packets_in compound) ≡ (9, block) ∷ (7, later) ∷ []
-read_about_both = refl
+of_octets : OfOctets
+of_octets = search

@@ -42,23 +42,18 @@ packets =
 
 -- ---- What they hold, in order
 
-senders : all_senders packets ≡ sender ∷ []
-senders = refl
+record Held : Type 0 where
+  senders : all_senders packets ≡ sender ∷ []
+  -- Each block counts with the source that reports.
+  blocks : all_blocks packets ≡ (9, block) ∷ (9, later) ∷ (7, block) ∷ []
+  -- Each item counts with the source that its chunk describes.
+  items : all_items packets ≡ (9, cname) ∷ (9, note) ∷ (7, cname) ∷ []
+  -- A reason belongs to each source of its packet, and one without text is a reason.
+  goodbyes : all_goodbyes packets ≡ (9, Some []) ∷ (7, Some []) ∷ (5, None) ∷ []
+  apps : all_apps packets ≡ named ∷ []
 
--- Each block counts with the source that reports.
-blocks : all_blocks packets ≡ (9, block) ∷ (9, later) ∷ (7, block) ∷ []
-blocks = refl
-
--- Each item counts with the source that its chunk describes.
-items : all_items packets ≡ (9, cname) ∷ (9, note) ∷ (7, cname) ∷ []
-items = refl
-
--- A reason belongs to each source of its packet, and one without text is a reason.
-goodbyes : all_goodbyes packets ≡ (9, Some []) ∷ (7, Some []) ∷ (5, None) ∷ []
-goodbyes = refl
-
-apps : all_apps packets ≡ named ∷ []
-apps = refl
+held : Held
+held = search
 
 -- ---- In octets
 
@@ -79,12 +74,6 @@ goodbye = 0x82 ∷ 0xcb ∷ 0 ∷ 3 ∷ 0 ∷ 0 ∷ 0 ∷ 9 ∷ 0 ∷ 0 ∷ 0 �
 abbrev datagram : List ℕ
 datagram = report ++ (description ++ goodbye)
 
-read_items : all_items (packets_in datagram) ≡ (9, cname) ∷ (9, note) ∷ []
-read_items = refl
-
-read_goodbyes : all_goodbyes (packets_in datagram) ≡ (9, Some (0x63 ∷ [])) ∷ (7, Some (0x63 ∷ [])) ∷ []
-read_goodbyes = refl
-
 -- The description begins at octet 8, its second chunk at 20, and its items at 24.
 name_place : StandsIn 26 (0x61 ∷ 0x62 ∷ []) datagram
 name_place = record { before = take 26 datagram; after = drop 28 datagram; parts = refl; counted = refl }
@@ -100,9 +89,14 @@ reason_place = record { before = take 45 datagram; after = drop 46 datagram; par
 abbrev application : List ℕ
 application = 0x85 ∷ 0xcc ∷ 0 ∷ 3 ∷ 0 ∷ 0 ∷ 0 ∷ 7 ∷ (named.name ++ 1 ∷ 2 ∷ 3 ∷ 4 ∷ [])
 
-read_apps : all_apps (packets_in (report ++ application)) ≡
-    record { ssrc = 7; subtype = 5; name = named.name; content = 1 ∷ 2 ∷ 3 ∷ 4 ∷ [] } ∷ []
-read_apps = refl
-
 data_place : StandsIn 20 (1 ∷ 2 ∷ 3 ∷ 4 ∷ []) (report ++ application)
 data_place = record { before = report ++ take 12 application; after = []; parts = refl; counted = refl }
+
+record InOctets : Type 0 where
+  read_items : all_items (packets_in datagram) ≡ (9, cname) ∷ (9, note) ∷ []
+  read_goodbyes : all_goodbyes (packets_in datagram) ≡ (9, Some (0x63 ∷ [])) ∷ (7, Some (0x63 ∷ [])) ∷ []
+  read_apps : all_apps (packets_in (report ++ application)) ≡
+      record { ssrc = 7; subtype = 5; name = named.name; content = 1 ∷ 2 ∷ 3 ∷ 4 ∷ [] } ∷ []
+
+in_octets : InOctets
+in_octets = search

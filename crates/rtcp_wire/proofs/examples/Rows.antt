@@ -1,11 +1,13 @@
 -- Worked examples: what the definitions say of datagrams that are written out, octet by octet.
-use Rattle.std.proofs.Common.{◌≡◌, ◌≢◌, ℕ, ◌≤◌, Bool, true, false, List, [], ◌∷◌, ◌++◌, length, drop, None, refl, sym, ◌∙◌, arith, inl, inr}
+use Rattle.std.proofs.Common.{◌≡◌, ◌≢◌, ℕ, ◌≤◌, Bool, true, false, List, [], ◌∷◌, ◌++◌, length, Option, None, refl, sym, ap, ◌∙◌, arith, inl, inr}
+use Rattle.byteorder.specs.Endian.{big_number}
 use Rattle.rtcp_wire.specs.declared.fault.FaultReason.{FaultReason}
 use Rattle.rtcp_wire.specs.declared.fault.FaultReason.TheVariants.{Short, FirstPadding, Length, Body, Item}
-use Rattle.rtcp_wire.specs.Values.{ItemValue, ChunkValue, rr, sdes, bye}
-use Rattle.rtcp_wire.specs.Grammar.{version_of, is_padded, count_of, type_of, size_of, body_of, IsSpelling, IsAccepted}
+use Rattle.rtcp_wire.specs.Values.{ItemValue, ChunkValue, RtcpPacket, rr, sdes, bye}
+use Rattle.rtcp_wire.specs.Grammar.{version_of, is_padded, count_of, type_of, size_of, body_of, IsReasonPart, IsGoodbye, IsBody, IsSpelling, MayBegin, IsAccepted}
 use Rattle.rtcp_wire.specs.Faults.{EndsInsideChunk, FindsInBody, IsFirstFound, IsFirstFault}
 use Rattle.rtcp_wire.specs.Parts.{IsWhole}
+use Rattle.rtcp_wire.proofs.Joining.{Joins-one}
 use Rattle.rtcp_wire.proofs.Prefixes.{cons_not_nil}
 use Rattle.rtcp_wire.proofs.Spellings.{own, is_own}
 use Rattle.rtcp_wire.proofs.PacketOrFault.{none_at_first, not_both_bits, before_first_padding, before_length, HasBody, body_found}
@@ -15,6 +17,46 @@ use Rattle.rtcp_wire.proofs.Walking.{HasPassed, none_passed, stops_next}
 pub differs : false ≡ true → ⊥
 differs e = absurd cc
 
+-- A packet without padding is spelled as its body is.
+pub unpadded : (p : RtcpPacket) (octets : List ℕ) → version_of octets ≡ 2 → length octets ≡ size_of octets →
+    is_padded octets ≡ false → IsBody p (type_of octets) (count_of octets) (body_of octets) → IsSpelling p octets
+unpadded p octets version size clear body =
+    record { version = version; size = size; padding = λ set. absurd (differs (sym clear ∙ set)); body = body }
+
+-- An empty receiver report spells its source, which may be any number.
+pub empty_spelled : (last : ℕ) → IsSpelling (rr (big_number 4 (0 ∷ 0 ∷ 0 ∷ last ∷ [])) [] [])
+    (128 ∷ 201 ∷ 0 ∷ 1 ∷ 0 ∷ 0 ∷ 0 ∷ last ∷ [])
+empty_spelled last =
+    let id : List ℕ = 0 ∷ 0 ∷ 0 ∷ last ∷ [] in
+    unpadded (rr (big_number 4 id) [] []) (128 ∷ 201 ∷ 0 ∷ 1 ∷ id) refl refl refl (
+      refl,
+      record {
+        id = id;
+        rest = [];
+        parts = refl;
+        sender = (refl, refl);
+        ends = record { reports = []; parts = refl; counted = refl; each = refl };
+      },
+    )
+
+-- A goodbye of source 7 has a reason where one follows the identifier.
+pub of_seven : (reason : Option (List ℕ)) (rest : List ℕ) → IsReasonPart reason rest →
+    IsGoodbye (7 ∷ []) reason 1 (0 ∷ 0 ∷ 0 ∷ 7 ∷ rest)
+of_seven reason rest ends = record {
+  prefix = 0 ∷ 0 ∷ 0 ∷ 7 ∷ [];
+  rest = rest;
+  parts = refl;
+  counted = refl;
+  each = (0 ∷ 0 ∷ 0 ∷ 7 ∷ [], [], refl, (refl, refl), refl);
+  ends = ends;
+}
+
+-- A packet that may be the first is accepted alone.
+pub alone_accepted : (p : RtcpPacket) (octets : List ℕ) → IsSpelling p octets → length octets ≤ 65535 →
+    MayBegin octets → IsAccepted octets (p ∷ [])
+alone_accepted p octets spelled short begins =
+    record { short = short; begins = begins; joined = Joins-one IsSpelling p octets spelled }
+
 -- ---- Packets
 
 -- an empty receiver report of source 7
@@ -23,21 +65,7 @@ report = 128 ∷ 201 ∷ 0 ∷ 1 ∷ 0 ∷ 0 ∷ 0 ∷ 7 ∷ []
 
 -- It spells itself.
 pub report_spelled : IsSpelling (rr 7 [] []) report
-report_spelled = record {
-  version = refl;
-  size = refl;
-  padding = λ set. absurd (differs set);
-  body = (
-    refl,
-    record {
-      id = 0 ∷ 0 ∷ 0 ∷ 7 ∷ [];
-      rest = [];
-      parts = refl;
-      sender = (refl, refl);
-      ends = record { reports = []; parts = refl; counted = refl; each = refl };
-    },
-  );
-}
+report_spelled = empty_spelled 7
 
 -- a description of source 7 with one item, the name "a"
 abbrev description : List ℕ
@@ -53,32 +81,27 @@ source = record { id = 7; items = name ∷ [] }
 
 -- The octets spell them.
 pub description_spelled : IsSpelling (sdes (source ∷ [])) description
-description_spelled = record {
-  version = refl;
-  size = refl;
-  padding = λ set. absurd (differs set);
-  body = (
+description_spelled = unpadded (sdes (source ∷ [])) description refl refl refl (
+  refl,
+  refl,
+  (
+    0 ∷ 0 ∷ 0 ∷ 7 ∷ 1 ∷ 1 ∷ 97 ∷ 0 ∷ [],
+    [],
     refl,
+    record {
+      id = 0 ∷ 0 ∷ 0 ∷ 7 ∷ [];
+      items = 1 ∷ 1 ∷ 97 ∷ [];
+      free = [];
+      parts = refl;
+      id_size = refl;
+      source = refl;
+      each = (1 ∷ 1 ∷ 97 ∷ [], [], refl, (λ e. absurd (omega arith), refl), refl);
+      fill = omega arith;
+      aligned = refl;
+    },
     refl,
-    (
-      0 ∷ 0 ∷ 0 ∷ 7 ∷ 1 ∷ 1 ∷ 97 ∷ 0 ∷ [],
-      [],
-      refl,
-      record {
-        id = 0 ∷ 0 ∷ 0 ∷ 7 ∷ [];
-        items = 1 ∷ 1 ∷ 97 ∷ [];
-        free = [];
-        parts = refl;
-        id_size = refl;
-        source = refl;
-        each = (1 ∷ 1 ∷ 97 ∷ [], [], refl, (λ e. absurd (omega arith), refl), refl);
-        fill = omega arith;
-        aligned = refl;
-      },
-      refl,
-    ),
-  );
-}
+  ),
+)
 
 -- a goodbye of source 7 with four octets of padding
 abbrev pub padded : List ℕ
@@ -90,44 +113,31 @@ padded_spelled = record {
   version = refl;
   size = refl;
   padding = λ set. (λ e. absurd (omega arith), refl, omega arith);
-  body = (
-    refl,
-    record {
-      prefix = 0 ∷ 0 ∷ 0 ∷ 7 ∷ [];
-      rest = [];
-      parts = refl;
-      counted = refl;
-      each = (0 ∷ 0 ∷ 0 ∷ 7 ∷ [], [], refl, (refl, refl), refl);
-      ends = refl;
-    },
-  );
+  body = (refl, of_seven None [] refl);
 }
 
 -- ---- Datagrams that are accepted
 
 -- 80c9000100000007
 pub report_accepted : IsAccepted report (rr 7 [] [] ∷ [])
-report_accepted = record {
-  short = omega arith;
+report_accepted = alone_accepted (rr 7 [] []) report report_spelled (omega arith) (inr refl, refl)
+
+-- A packet after 80c9000100000007 is accepted.
+pub after_accepted : (p : RtcpPacket) (octets : List ℕ) → IsSpelling p octets → length (report ++ octets) ≤ 65535 →
+    IsAccepted (report ++ octets) (rr 7 [] [] ∷ p ∷ [])
+after_accepted p octets spelled short = record {
+  short = short;
   begins = (inr refl, refl);
-  joined = (report, [], refl, report_spelled, refl);
+  joined = (report, octets, refl, report_spelled, Joins-one IsSpelling p octets spelled);
 }
 
 -- 80c9000100000007 81ca0002 00000007 01016100
 pub description_accepted : IsAccepted (report ++ description) (rr 7 [] [] ∷ sdes (source ∷ []) ∷ [])
-description_accepted = record {
-  short = omega arith;
-  begins = (inr refl, refl);
-  joined = (report, description, refl, report_spelled, (description, [], refl, description_spelled, refl));
-}
+description_accepted = after_accepted (sdes (source ∷ [])) description description_spelled (omega arith)
 
 -- 80c9000100000007 a1cb0002 00000007 00000004
 pub padded_accepted : IsAccepted (report ++ padded) (rr 7 [] [] ∷ bye (7 ∷ []) None ∷ [])
-padded_accepted = record {
-  short = omega arith;
-  begins = (inr refl, refl);
-  joined = (report, padded, refl, report_spelled, (padded, [], refl, padded_spelled, refl));
-}
+padded_accepted = after_accepted (bye (7 ∷ []) None) padded padded_spelled (omega arith)
 
 -- ---- Datagrams that are refused
 
@@ -240,9 +250,20 @@ pub later : (octets : List ℕ) → 4 ≤ length octets → version_of octets �
 later octets enough version room =
     record { header = enough; version = version; size = room; may_stand = λ e. absurd (differs e) }
 
+-- What is found in the body of a packet after the report is the first fault.
+pub refused_later : (reason : FaultReason) (octets : List ℕ) → 4 ≤ length octets →
+    length (report ++ octets) ≤ 65535 → version_of octets ≡ 2 → size_of octets ≤ length octets →
+    is_padded octets ≡ false → FindsInBody reason (type_of octets) (count_of octets) (body_of octets) →
+    IsFirstFault (report ++ octets) (record { reason = reason; place = 8 })
+refused_later reason octets enough short version room clear found =
+    let some : octets ≢ [] = λ none. omega (arith, enough, length_is none) in
+    stops_next (report ++ octets) octets 8 (after_report octets some short) (omega arith) reason
+    (first_found reason false octets (later octets enough version room) clear found)
+  where
+    length_is : octets ≡ [] → length octets ≡ 0
+    length_is none = ap length none
+
 -- 80c9000100000007 81ca0002 00000007 01056100
 pub long_item_refused : IsFirstFault (report ++ long_item) (record { reason = Item; place = 8 })
 long_item_refused =
-    stops_next (report ++ long_item) long_item 8
-    (after_report long_item (cons_not_nil 129 (drop 1 long_item)) (omega arith)) refl Item
-    (first_found Item false long_item (later long_item (omega arith) refl (omega arith)) refl (refl, ends_inside))
+    refused_later Item long_item (omega arith) (omega arith) refl (omega arith) refl (refl, ends_inside)

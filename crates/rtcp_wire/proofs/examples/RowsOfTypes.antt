@@ -1,13 +1,10 @@
 -- Worked examples: sender reports, goodbyes and applications' packets, octet by octet.
-use Rattle.std.proofs.Common.{ℕ, ◌≤◌, List, [], ◌∷◌, ◌++◌, length, drop, false, Some, None, refl, arith, inl, inr}
+use Rattle.std.proofs.Common.{ℕ, List, [], ◌∷◌, ◌++◌, drop, Some, None, refl, arith, inl, inr}
 use Rattle.rtcp_wire.specs.declared.fault.FaultReason.TheVariants.{Body, Reason}
-use Rattle.rtcp_wire.specs.Values.{SenderValue, RtcpPacket, sr, rr, bye, app}
+use Rattle.rtcp_wire.specs.Values.{SenderValue, sr, rr, bye, app}
 use Rattle.rtcp_wire.specs.Grammar.{IsSpelling, IsAccepted}
 use Rattle.rtcp_wire.specs.Faults.{IsFirstFault}
-use Rattle.rtcp_wire.proofs.Joining.{Joins-one}
-use Rattle.rtcp_wire.proofs.Prefixes.{cons_not_nil}
-use Rattle.rtcp_wire.proofs.Walking.{stops_next}
-use Rattle.rtcp_wire.proofs.examples.Rows.{differs, report, report_spelled, after_report, later, first_found}
+use Rattle.rtcp_wire.proofs.examples.Rows.{unpadded, of_seven, report, alone_accepted, after_accepted, refused_later}
 
 -- ---- Sender reports
 
@@ -21,30 +18,21 @@ abbrev sender : SenderValue
 sender = record { ssrc = 9; ntp = 201232639590400; rtp = 10; packets = 3; octets = 480 }
 
 pub sending_spelled : IsSpelling (sr sender [] []) sending
-sending_spelled = record {
-  version = refl;
-  size = refl;
-  padding = λ set. absurd (differs set);
-  body = (
-    refl,
-    record {
-      prefix = drop 4 sending;
-      rest = [];
-      parts = refl;
-      prefix_size = refl;
-      says = refl;
-      ends = record { reports = []; parts = refl; counted = refl; each = refl };
-    },
-  );
-}
+sending_spelled = unpadded (sr sender [] []) sending refl refl refl (
+  refl,
+  record {
+    prefix = drop 4 sending;
+    rest = [];
+    parts = refl;
+    prefix_size = refl;
+    says = refl;
+    ends = record { reports = []; parts = refl; counted = refl; each = refl };
+  },
+)
 
 -- It may be the first packet.
 pub sending_accepted : IsAccepted sending (sr sender [] [] ∷ [])
-sending_accepted = record {
-  short = omega arith;
-  begins = (inl refl, refl);
-  joined = (sending, [], refl, sending_spelled, refl);
-}
+sending_accepted = alone_accepted (sr sender [] []) sending sending_spelled (omega arith) (inl refl, refl)
 
 -- ---- Goodbyes
 
@@ -54,22 +42,11 @@ leaving = 129 ∷ 203 ∷ 0 ∷ 2 ∷ 0 ∷ 0 ∷ 0 ∷ 7 ∷ 2 ∷ 97 ∷ 98 �
 
 -- The text ends before the word does.
 pub leaving_spelled : IsSpelling (bye (7 ∷ []) (Some (97 ∷ 98 ∷ []))) leaving
-leaving_spelled = record {
-  version = refl;
-  size = refl;
-  padding = λ set. absurd (differs set);
-  body = (
-    refl,
-    record {
-      prefix = 0 ∷ 0 ∷ 0 ∷ 7 ∷ [];
-      rest = 2 ∷ 97 ∷ 98 ∷ 0 ∷ [];
-      parts = refl;
-      counted = refl;
-      each = (0 ∷ 0 ∷ 0 ∷ 7 ∷ [], [], refl, (refl, refl), refl);
-      ends = record { free = 0 ∷ []; parts = refl; fill = omega arith; aligned = refl };
-    },
-  );
-}
+leaving_spelled = unpadded (bye (7 ∷ []) (Some (97 ∷ 98 ∷ []))) leaving refl refl refl (
+  refl,
+  of_seven (Some (97 ∷ 98 ∷ [])) (2 ∷ 97 ∷ 98 ∷ 0 ∷ [])
+      (record { free = 0 ∷ []; parts = refl; fill = omega arith; aligned = refl }),
+)
 
 -- 81cb0002 00000007 00000000
 abbrev silent : List ℕ
@@ -77,22 +54,11 @@ silent = 129 ∷ 203 ∷ 0 ∷ 2 ∷ 0 ∷ 0 ∷ 0 ∷ 7 ∷ 0 ∷ 0 ∷ 0 ∷ 0
 
 -- A word of zeros is a reason without text.
 pub silent_spelled : IsSpelling (bye (7 ∷ []) (Some [])) silent
-silent_spelled = record {
-  version = refl;
-  size = refl;
-  padding = λ set. absurd (differs set);
-  body = (
-    refl,
-    record {
-      prefix = 0 ∷ 0 ∷ 0 ∷ 7 ∷ [];
-      rest = 0 ∷ 0 ∷ 0 ∷ 0 ∷ [];
-      parts = refl;
-      counted = refl;
-      each = (0 ∷ 0 ∷ 0 ∷ 7 ∷ [], [], refl, (refl, refl), refl);
-      ends = record { free = 0 ∷ 0 ∷ 0 ∷ []; parts = refl; fill = omega arith; aligned = refl };
-    },
-  );
-}
+silent_spelled = unpadded (bye (7 ∷ []) (Some [])) silent refl refl refl (
+  refl,
+  of_seven (Some []) (0 ∷ 0 ∷ 0 ∷ 0 ∷ [])
+      (record { free = 0 ∷ 0 ∷ 0 ∷ []; parts = refl; fill = omega arith; aligned = refl }),
+)
 
 -- 80cb0000
 abbrev nobody : List ℕ
@@ -100,12 +66,8 @@ nobody = 128 ∷ 203 ∷ 0 ∷ 0 ∷ []
 
 -- A goodbye may name no source.
 pub nobody_spelled : IsSpelling (bye [] None) nobody
-nobody_spelled = record {
-  version = refl;
-  size = refl;
-  padding = λ set. absurd (differs set);
-  body = (refl, record { prefix = []; rest = []; parts = refl; counted = refl; each = refl; ends = refl });
-}
+nobody_spelled = unpadded (bye [] None) nobody refl refl refl
+    (refl, record { prefix = []; rest = []; parts = refl; counted = refl; each = refl; ends = refl })
 
 -- ---- Applications
 
@@ -115,23 +77,10 @@ applied = 133 ∷ 204 ∷ 0 ∷ 3 ∷ 0 ∷ 0 ∷ 0 ∷ 7 ∷ 65 ∷ 66 ∷ 67 �
 
 -- subtype 5 of the name "ABCD"
 pub applied_spelled : IsSpelling (app 5 7 (65 ∷ 66 ∷ 67 ∷ 68 ∷ []) (1 ∷ 2 ∷ 3 ∷ 4 ∷ [])) applied
-applied_spelled = record {
-  version = refl;
-  size = refl;
-  padding = λ set. absurd (differs set);
-  body = (refl, refl, record { id = 0 ∷ 0 ∷ 0 ∷ 7 ∷ []; parts = refl; source = (refl, refl); name_size = refl });
-}
+applied_spelled = unpadded (app 5 7 (65 ∷ 66 ∷ 67 ∷ 68 ∷ []) (1 ∷ 2 ∷ 3 ∷ 4 ∷ [])) applied refl refl refl
+    (refl, refl, record { id = 0 ∷ 0 ∷ 0 ∷ 7 ∷ []; parts = refl; source = (refl, refl); name_size = refl })
 
 -- ---- After a report
-
--- A packet after 80c9000100000007 is accepted.
-pub after_accepted : (p : RtcpPacket) (octets : List ℕ) → IsSpelling p octets → length (report ++ octets) ≤ 65535 →
-    IsAccepted (report ++ octets) (rr 7 [] [] ∷ p ∷ [])
-after_accepted p octets spelled short = record {
-  short = short;
-  begins = (inr refl, refl);
-  joined = (report, octets, refl, report_spelled, Joins-one IsSpelling p octets spelled);
-}
 
 pub leaving_accepted : IsAccepted (report ++ leaving) (rr 7 [] [] ∷ bye (7 ∷ []) (Some (97 ∷ 98 ∷ [])) ∷ [])
 leaving_accepted = after_accepted (bye (7 ∷ []) (Some (97 ∷ 98 ∷ []))) leaving leaving_spelled (omega arith)
@@ -156,10 +105,7 @@ long_reason = 129 ∷ 203 ∷ 0 ∷ 2 ∷ 0 ∷ 0 ∷ 0 ∷ 7 ∷ 5 ∷ 97 ∷ 9
 -- A text of five octets is no three.
 pub long_reason_refused : IsFirstFault (report ++ long_reason) (record { reason = Reason; place = 8 })
 long_reason_refused =
-    stops_next (report ++ long_reason) long_reason 8
-    (after_report long_reason (cons_not_nil 129 (drop 1 long_reason)) (omega arith)) refl Reason
-    (first_found Reason false long_reason (later long_reason (omega arith) refl (omega arith)) refl
-    (refl, inl (omega arith)))
+    refused_later Reason long_reason (omega arith) (omega arith) refl (omega arith) refl (refl, inl (omega arith))
 
 -- 81cb0003 00000007 02616200 00000000
 abbrev word_more : List ℕ
@@ -168,10 +114,7 @@ word_more = 129 ∷ 203 ∷ 0 ∷ 3 ∷ 0 ∷ 0 ∷ 0 ∷ 7 ∷ 2 ∷ 97 ∷ 98 
 -- After a reason no word is left.
 pub word_more_refused : IsFirstFault (report ++ word_more) (record { reason = Reason; place = 8 })
 word_more_refused =
-    stops_next (report ++ word_more) word_more 8
-    (after_report word_more (cons_not_nil 129 (drop 1 word_more)) (omega arith)) refl Reason
-    (first_found Reason false word_more (later word_more (omega arith) refl (omega arith)) refl
-    (refl, inr (omega arith)))
+    refused_later Reason word_more (omega arith) (omega arith) refl (omega arith) refl (refl, inr (omega arith))
 
 -- 82cb0001 00000007
 abbrev one_id_short : List ℕ
@@ -180,9 +123,7 @@ one_id_short = 130 ∷ 203 ∷ 0 ∷ 1 ∷ 0 ∷ 0 ∷ 0 ∷ 7 ∷ []
 -- A goodbye that counts two identifiers has them.
 pub one_id_short_refused : IsFirstFault (report ++ one_id_short) (record { reason = Body; place = 8 })
 one_id_short_refused =
-    stops_next (report ++ one_id_short) one_id_short 8
-    (after_report one_id_short (cons_not_nil 130 (drop 1 one_id_short)) (omega arith)) refl Body
-    (first_found Body false one_id_short (later one_id_short (omega arith) refl (omega arith)) refl (inl (omega arith)))
+    refused_later Body one_id_short (omega arith) (omega arith) refl (omega arith) refl (inl (omega arith))
 
 -- 80cc0001 00000007
 abbrev no_name : List ℕ
@@ -191,6 +132,4 @@ no_name = 128 ∷ 204 ∷ 0 ∷ 1 ∷ 0 ∷ 0 ∷ 0 ∷ 7 ∷ []
 -- An application's packet has a name.
 pub no_name_refused : IsFirstFault (report ++ no_name) (record { reason = Body; place = 8 })
 no_name_refused =
-    stops_next (report ++ no_name) no_name 8 (after_report no_name (cons_not_nil 128 (drop 1 no_name)) (omega arith))
-    refl Body
-    (first_found Body false no_name (later no_name (omega arith) refl (omega arith)) refl (inl (omega arith)))
+    refused_later Body no_name (omega arith) (omega arith) refl (omega arith) refl (inl (omega arith))

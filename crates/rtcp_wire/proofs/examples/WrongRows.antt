@@ -6,13 +6,13 @@ use Rattle.std.proofs.lemmas.Bool.{ltb-true}
 use Rattle.std.proofs.lemmas.List.Elements.{All-nil, All-head, All-weaker, All-from_recursion}
 use Rattle.std.proofs.lemmas.List.Sums.{AllPass-from_list_all}
 use Rattle.rtcp_wire.specs.Values.{ReportBlock, ItemValue, RtcpPacket, rr, sdes, bye}
-use Rattle.rtcp_wire.specs.Grammar.{AreOctets, Joins, block_in, IsSpelling, IsAccepted}
+use Rattle.rtcp_wire.specs.Grammar.{AreOctets, Joins, block_in, IsAccepted}
 use Rattle.rtcp_wire.specs.RtpHeads.{RtpValue, IsReserved, IsCsrc, IsRtpHead}
 use Rattle.rtcp_wire.specs.Writing.{written_all, IsWritable, IsWritableBlock, IsWritableItem, IsWritableChunk, IsWritableReason, IsInRange, IsBlockInRange, IsChunkInRange, BeginsWithReport}
 use Rattle.rtcp_wire.specs.Contents.{all_items, all_goodbyes, all_blocks}
 use Rattle.rtcp_wire.specs.Facts.{facts_of}
 use Rattle.rtcp_wire.proofs.LawLemmas.{one_reading, reads_back}
-use Rattle.rtcp_wire.proofs.examples.Rows.{differs, report, report_spelled, report_accepted, padded, padded_accepted}
+use Rattle.rtcp_wire.proofs.examples.Rows.{unpadded, empty_spelled, of_seven, alone_accepted, report, report_accepted, after_accepted, padded, padded_accepted}
 
 are_octets : (octets : List ℕ) → list_all (λ octet. nat_lt octet 256) octets ≡ true → AreOctets octets
 are_octets octets is =
@@ -58,16 +58,7 @@ greatest_read = record {
   extension = [];
   padding = [];
   parts = refl;
-  is_fixed = record {
-    size = refl;
-    version = refl;
-    payload_type = refl;
-    not_reserved = not_reserved;
-    marker = refl;
-    sequence = refl;
-    timestamp = refl;
-    ssrc = refl;
-  };
+  is_fixed = search not_reserved;
   counted = refl;
   each = each_csrc 15;
   is_extension = refl;
@@ -186,29 +177,9 @@ wide = rr 4294967296 [] [] ∷ []
 abbrev wide_report : List ℕ
 wide_report = 128 ∷ 201 ∷ 0 ∷ 1 ∷ 0 ∷ 0 ∷ 0 ∷ 4294967296 ∷ []
 
-wide_spelled : IsSpelling (rr 4294967296 [] []) wide_report
-wide_spelled = record {
-  version = refl;
-  size = refl;
-  padding = λ set. absurd (differs set);
-  body = (
-    refl,
-    record {
-      id = 0 ∷ 0 ∷ 0 ∷ 4294967296 ∷ [];
-      rest = [];
-      parts = refl;
-      sender = (refl, refl);
-      ends = record { reports = []; parts = refl; counted = refl; each = refl };
-    },
-  );
-}
-
 wide_accepted : IsAccepted wide_report wide
-wide_accepted = record {
-  short = omega arith;
-  begins = (inr refl, refl);
-  joined = (wide_report, [], refl, wide_spelled, refl);
-}
+wide_accepted = alone_accepted (rr 4294967296 [] []) wide_report (empty_spelled 4294967296) (omega arith)
+    (inr refl, refl)
 
 range_of_any_numbers : ((octets : List ℕ) (packets : List RtcpPacket) → IsAccepted octets packets →
     All IsInRange packets) → ⊥
@@ -222,31 +193,7 @@ abbrev of_nobody : List ℕ
 of_nobody = 128 ∷ 201 ∷ 0 ∷ 1 ∷ 0 ∷ 0 ∷ 0 ∷ 0 ∷ []
 
 nobody_accepted : IsAccepted of_nobody (rr 0 [] [] ∷ [])
-nobody_accepted = record {
-  short = omega arith;
-  begins = (inr refl, refl);
-  joined = (
-    of_nobody,
-    [],
-    refl,
-    record {
-      version = refl;
-      size = refl;
-      padding = λ set. absurd (differs set);
-      body = (
-        refl,
-        record {
-          id = 0 ∷ 0 ∷ 0 ∷ 0 ∷ [];
-          rest = [];
-          parts = refl;
-          sender = (refl, refl);
-          ends = record { reports = []; parts = refl; counted = refl; each = refl };
-        },
-      );
-    },
-    refl,
-  );
-}
+nobody_accepted = alone_accepted (rr 0 [] []) of_nobody (empty_spelled 0) (omega arith) (inr refl, refl)
 
 abbrev first_reporter : List RtcpPacket → ℕ
 first_reporter [] = 1
@@ -275,36 +222,23 @@ abbrev lossy : List RtcpPacket
 lossy = rr 7 (block_in wide_block ∷ []) [] ∷ []
 
 wide_loss_accepted : IsAccepted wide_loss lossy
-wide_loss_accepted = record {
-  short = omega arith;
-  begins = (inr refl, refl);
-  joined = (
-    wide_loss,
-    [],
-    refl,
-    record {
-      version = refl;
-      size = refl;
-      padding = λ set. absurd (differs set);
-      body = (
-        refl,
-        record {
-          id = 0 ∷ 0 ∷ 0 ∷ 7 ∷ [];
-          rest = wide_block;
+wide_loss_accepted = alone_accepted (rr 7 (block_in wide_block ∷ []) []) wide_loss
+    (unpadded (rr 7 (block_in wide_block ∷ []) []) wide_loss refl refl refl (
+      refl,
+      record {
+        id = 0 ∷ 0 ∷ 0 ∷ 7 ∷ [];
+        rest = wide_block;
+        parts = refl;
+        sender = (refl, refl);
+        ends = record {
+          reports = wide_block;
           parts = refl;
-          sender = (refl, refl);
-          ends = record {
-            reports = wide_block;
-            parts = refl;
-            counted = refl;
-            each = (wide_block, [], refl, (refl, refl), refl);
-          };
-        },
-      );
-    },
-    refl,
-  );
-}
+          counted = refl;
+          each = (wide_block, [], refl, (refl, refl), refl);
+        };
+      },
+    ))
+    (omega arith) (inr refl, refl)
 
 its_loss : (block_in wide_block).lost ≡ pos 16777216
 its_loss = refl
@@ -327,38 +261,14 @@ abbrev said : List RtcpPacket
 said = rr 7 [] [] ∷ bye (7 ∷ []) (Some reason_of_256) ∷ []
 
 wide_goodbye_accepted : IsAccepted (report ++ wide_goodbye) said
-wide_goodbye_accepted = record {
-  short = omega arith;
-  begins = (inr refl, refl);
-  joined = (
-    report,
-    wide_goodbye,
-    refl,
-    report_spelled,
-    (
-      wide_goodbye,
-      [],
+wide_goodbye_accepted =
+    let goodbye = bye (7 ∷ []) (Some reason_of_256) in
+    let spelled = unpadded goodbye wide_goodbye refl refl refl (
       refl,
-      record {
-        version = refl;
-        size = refl;
-        padding = λ set. absurd (differs set);
-        body = (
-          refl,
-          record {
-            prefix = 0 ∷ 0 ∷ 0 ∷ 7 ∷ [];
-            rest = 256 ∷ (reason_of_256 ++ 0 ∷ 0 ∷ 0 ∷ []);
-            parts = refl;
-            counted = refl;
-            each = (0 ∷ 0 ∷ 0 ∷ 7 ∷ [], [], refl, (refl, refl), refl);
-            ends = record { free = 0 ∷ 0 ∷ 0 ∷ []; parts = refl; fill = omega arith; aligned = refl };
-          },
-        );
-      },
-      refl,
-    ),
-  );
-}
+      of_seven (Some reason_of_256) (256 ∷ (reason_of_256 ++ 0 ∷ 0 ∷ 0 ∷ []))
+          (record { free = 0 ∷ 0 ∷ 0 ∷ []; parts = refl; fill = omega arith; aligned = refl }),
+    ) in
+    after_accepted goodbye wide_goodbye spelled (omega arith)
 
 reasons_of_any_numbers : ((octets : List ℕ) (packets : List RtcpPacket) → IsAccepted octets packets →
     All (λ goodbye. IsWritableReason goodbye.1) (all_goodbyes packets)) → ⊥
