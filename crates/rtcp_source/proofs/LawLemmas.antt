@@ -14,7 +14,6 @@ pub use Rattle.rtcp_source.proofs.Integers.{greatest_high as counted_by_integer-
 pub use Rattle.rtcp_source.proofs.Integers.{counted_exactly as counted_by_integer-counted}
 pub use Rattle.rtcp_source.proofs.Integers.{enters_run as counted_by_integer-enters}
 pub use Rattle.rtcp_source.proofs.Integers.{same_integer as counted_by_integer-one, has_ordinal as integer_is_found}
-pub use Rattle.rtcp_source.proofs.Integers.{has_integer as ordinal_has_integer}
 pub use Rattle.rtcp_source.proofs.Rates.{jitter_since_change as jitter_is_of_one_rate-newest}
 pub use Rattle.rtcp_source.proofs.Rates.{jitter_of_one_rate as jitter_is_of_one_rate-alone}
 
