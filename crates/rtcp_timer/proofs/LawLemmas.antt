@@ -4,22 +4,18 @@ use Rattle.rtcp_timer.specs.Schedules.{Happening, IsInOrder, schedule_at, newest
 use Rattle.rtcp_timer.proofs.Bounding
 pub use Rattle.rtcp_timer.proofs.Averaging.{average_between as average_lies_between}
 pub use Rattle.rtcp_timer.proofs.Sharing.{keeps_to_share as interval_keeps_to_share}
-pub use Rattle.rtcp_timer.proofs.Sharing.{has_minimum as interval_has_minimum, is_least as interval_is_least}
-pub use Rattle.rtcp_timer.proofs.Quarters.{by_quarters as quarters_are_shared}
-pub use Rattle.rtcp_timer.proofs.Sides.{of_a_sender as senders_have_the_shorter_interval-senders}
+pub use Rattle.rtcp_timer.proofs.Sharing.{has_minimum as interval_has_minimum}
 pub use Rattle.rtcp_timer.proofs.Sides.{of_another as senders_have_the_shorter_interval-others}
 pub use Rattle.rtcp_timer.proofs.Sides.{with_less as less_bandwidth_waits_longer}
 pub use Rattle.rtcp_timer.proofs.Following.{last_follows as schedule_follows_departures-last}
 pub use Rattle.rtcp_timer.proofs.Following.{next_follows as schedule_follows_departures-next}
 pub use Rattle.rtcp_timer.proofs.Following.{known_follows as schedule_follows_departures-known}
 pub use Rattle.rtcp_timer.proofs.Bounding.{last_bounded as last_lies_between-not_after_departure}
-pub use Rattle.rtcp_timer.proofs.Bounding.{next_near as next_within_greatest_draw}
 pub use Rattle.rtcp_timer.proofs.Bounding.{due_not_too_soon as never_due_too_soon, due_in_time}
 pub use Rattle.rtcp_timer.proofs.Bounding.{within_after_transmission as calls_keep_within_draws-transmitted}
 pub use Rattle.rtcp_timer.proofs.Bounding.{within_after_try as calls_keep_within_draws-tried}
 pub use Rattle.rtcp_timer.proofs.Bounding.{within_after_departure as calls_keep_within_draws-departed}
 pub use Rattle.rtcp_timer.proofs.Bounding.{within_after_count as calls_keep_within_draws-stayed}
-pub use Rattle.rtcp_timer.proofs.Bounding.{next_after as departure_never_puts_later}
 
 -- ---- The schedule
 

@@ -58,56 +58,38 @@ abbrev departed : (moment members members_before : ℕ) → Departure
 departed moment members members_before =
     record { moment = moment; members = members; members_before = members_before }
 
-none_yet : followed [] ≡ timing 0 0 1
-none_yet = refl
+record FollowedSchedules : Type 0 where
+  none_yet : followed [] ≡ timing 0 0 1
+  followed_found_due : followed first_try ≡ timing 0 1026037 4
+  one_departure : departures_since_transmission (departure ∷ first_report) ≡ departed 2026037 3 4 ∷ []
+  -- a second count of as many is no departure
+  still_one_departure :
+      departures_since_transmission (departure ∷ departure ∷ first_report) ≡ departed 2026037 3 4 ∷ []
+  -- A try that is put off is a setting: an earlier departure has moved the last transmission alone.
+  none_since_setting : departures_since_setting (second_try ∷ departure ∷ first_report) ≡ []
+  one_since_setting :
+      departures_since_setting (recounted 3000000 2 ∷ second_try ∷ departure ∷ first_report) ≡ departed 3000000 2 3 ∷ []
+  both_since_transmission :
+      departures_since_transmission (recounted 3000000 2 ∷ second_try ∷ departure ∷ first_report) ≡
+      departed 3000000 2 3 ∷ departed 2026037 3 4 ∷ []
+  followed_departed_again :
+      followed (recounted 3000000 2 ∷ second_try ∷ departure ∷ first_report) ≡ timing 1850692 3218740 2
+  -- A try that finds the transmission due is no setting, but a draw: its members are known from then on.
+  no_setting : departures_since_setting (tried 4000000 2052074 5 ∷ departure ∷ first_report) ≡ departed 2026037 3 4 ∷ []
+  known_of_try : followed (tried 4000000 2052074 5 ∷ departure ∷ first_report) ≡ timing 1276037 2815092 5
+  -- A transmission forgets the departures before it.
+  followed_sent_again : followed (transmitted 3000000 2052074 3 ∷ departure ∷ first_report) ≡ timing 3000000 5052074 3
 
-followed_found_due : followed first_try ≡ timing 0 1026037 4
-followed_found_due = refl
-
-one_departure : departures_since_transmission (departure ∷ first_report) ≡ departed 2026037 3 4 ∷ []
-one_departure = refl
-
--- a second count of as many is no departure
-still_one_departure :
-    departures_since_transmission (departure ∷ departure ∷ first_report) ≡ departed 2026037 3 4 ∷ []
-still_one_departure = refl
-
--- A try that is put off is a setting: an earlier departure has moved the last transmission alone.
-none_since_setting : departures_since_setting (second_try ∷ departure ∷ first_report) ≡ []
-none_since_setting = refl
-
-one_since_setting :
-    departures_since_setting (recounted 3000000 2 ∷ second_try ∷ departure ∷ first_report) ≡ departed 3000000 2 3 ∷ []
-one_since_setting = refl
-
-both_since_transmission :
-    departures_since_transmission (recounted 3000000 2 ∷ second_try ∷ departure ∷ first_report) ≡
-    departed 3000000 2 3 ∷ departed 2026037 3 4 ∷ []
-both_since_transmission = refl
-
-followed_departed_again :
-    followed (recounted 3000000 2 ∷ second_try ∷ departure ∷ first_report) ≡ timing 1850692 3218740 2
-followed_departed_again = refl
-
--- A try that finds the transmission due is no setting, but a draw: its members are known from then on.
-no_setting : departures_since_setting (tried 4000000 2052074 5 ∷ departure ∷ first_report) ≡ departed 2026037 3 4 ∷ []
-no_setting = refl
-
-known_of_try : followed (tried 4000000 2052074 5 ∷ departure ∷ first_report) ≡ timing 1276037 2815092 5
-known_of_try = refl
-
--- A transmission forgets the departures before it.
-followed_sent_again : followed (transmitted 3000000 2052074 3 ∷ departure ∷ first_report) ≡ timing 3000000 5052074 3
-followed_sent_again = refl
+followed_schedules : FollowedSchedules
+followed_schedules = search
 
 -- ---- When a report is due at the latest
 
-greatest_of_two : greatest_draw (tried 2815092 1500000 3 ∷ departure ∷ first_report) ≡ 2052074
-greatest_of_two = refl
+record Due : Type 0 where
+  greatest_of_two : greatest_draw (tried 2815092 1500000 3 ∷ departure ∷ first_report) ≡ 2052074
+  newest_is_departure : last_departure (second_try ∷ departure ∷ departure ∷ first_report) ≡ 2026037
+  -- a count of more is no departure
+  none_departed : last_departure (recounted 2026037 5 ∷ first_report) ≡ 0
 
-newest_is_departure : last_departure (second_try ∷ departure ∷ departure ∷ first_report) ≡ 2026037
-newest_is_departure = refl
-
--- a count of more is no departure
-none_departed : last_departure (recounted 2026037 5 ∷ first_report) ≡ 0
-none_departed = refl
+due : Due
+due = search
