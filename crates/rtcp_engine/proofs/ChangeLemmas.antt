@@ -1,12 +1,10 @@
 -- A change of identifier: what it hands out, and where the participant stands after it.
-use Rattle.std.proofs.Common.{◌≡◌, ℕ, ◌+◌, Bool, true, false, List, [], ◌∷◌, length, Some, None, option_map, is_some, if◌then◌else◌, refl, sym, ap, ◌∙◌, subst, map}
+use Rattle.std.proofs.Common.{◌≡◌, ℕ, ◌+◌, Bool, true, false, List, [], ◌∷◌, length, Some, None, option_map, if◌then◌else◌, refl, sym, ap, ◌∙◌, subst, map}
 use Rattle.std.proofs.lemmas.List.{length-append}
 use Rattle.std.proofs.lemmas.List.Concat.{flat_map-append}
 use Rattle.rtcp_wire.specs.Writing.{written, written_all}
 use Rattle.rtcp_report.specs.Reports.{packets_with, receiver_named, goodbye}
 use Rattle.rtcp_report.proofs.LawLemmas.{size_is_that_of_the_octets}
-use Rattle.std.specs.FinMap as finite
-use Rattle.rtcp_members.specs.Entries.{entry_at}
 use Rattle.rtcp_timer.specs.Averages.{average_of, moved_average}
 use Rattle.rtcp_engine.specs.Setups.{Setup}
 use Rattle.rtcp_engine.specs.Identities.{with_ssrc}
@@ -15,9 +13,9 @@ use Rattle.rtcp_engine.specs.OwnValues.{own_anew}
 use Rattle.rtcp_engine.specs.Outcomes.{Outcome}
 use Rattle.rtcp_engine.specs.Arrivals.{with_change}
 use Rattle.rtcp_engine.specs.Reporting.{bye_octets}
-use Rattle.rtcp_engine.specs.Leaving.{Farewell, Backoff, Life, present, backing_off, gone, after_own_bye, counted_anew, leaving_average, leaving_count, leaving_timing}
+use Rattle.rtcp_engine.specs.Leaving.{Farewell, Backoff, Life, present, backing_off, gone, after_own_bye, counted_anew, leaving_average}
 use Rattle.rtcp_engine.specs.Lives.{bye_if_heard, bye_out, own_bye, with_new_ssrc}
-use Rattle.rtcp_engine.specs.Changes.{NewIdentifier, Session, changed_to, is_in_table}
+use Rattle.rtcp_engine.specs.Changes.{NewIdentifier, Session, changed_to}
 use Rattle.rtcp_engine.specs.States.{State, Agrees, StandsStill, Waits, ParticipantValue, IsAt, IsIn, leaving, over, own_bye_in, after_change}
 use Rattle.rtcp_engine.proofs.Agreeing.{with_own}
 use Rattle.rtcp_engine.proofs.ChangeRest.{bye_keeps_count, bye_keeps_timing, with_bye}
@@ -154,17 +152,3 @@ pub changed_out : (p : ParticipantValue) (setup : Setup) (life : Life) → IsAt 
 changed_out p setup (present outcome) at there same = out_by_still outcome at.1.still same
 changed_out p setup (backing_off outcome backoff) at there same = out_by_still outcome at.1.still same
 changed_out p setup (gone outcome) at there same = absurd (there at)
-
--- ---- Tables
-
-held_by_still : {s : State} {setup : Setup} (o : Outcome) (ssrc : ℕ) → StandsStill s o → s.setup ≡ setup →
-    is_some (finite.get s.table.entries ssrc) ≡ is_some (entry_at setup.capacity o.trace ssrc)
-held_by_still o ssrc still same = ap is_some (still.table ssrc) ∙ (λ i. is_some
-    (entry_at ((still.capacity ∙ ap (λ (s : Setup). s.capacity) same) i) o.trace ssrc))
-
--- the table of a participant holds who is in the table of its session
-pub held_at : (p : ParticipantValue) (setup : Setup) (ssrc : ℕ) (life : Life) → IsAt p life → (p.phase ≡ over → ⊥) →
-    p.presence.setup ≡ setup → is_some (finite.get p.presence.table.entries ssrc) ≡ is_in_table setup life ssrc
-held_at p setup ssrc (present outcome) at there same = held_by_still outcome ssrc at.1.still same
-held_at p setup ssrc (backing_off outcome backoff) at there same = held_by_still outcome ssrc at.1.still same
-held_at p setup ssrc (gone outcome) at there same = absurd (there at)

@@ -39,11 +39,6 @@ pub use Rattle.rtcp_engine.proofs.Changing.{usable_in as setups_keep_the_rest-us
 pub use Rattle.rtcp_engine.proofs.Usable.{settings_refused as settings_are_refused_as_setups}
 pub use Rattle.rtcp_engine.proofs.OneClock.{one_clock as one_clock_without_others}
 pub use Rattle.rtcp_engine.proofs.Past.{walk_after as told_moments_have_passed-all}
-pub use Rattle.rtcp_engine.proofs.Pacing.{no_sooner as settings_drop_nobody_sooner-no_sooner}
-pub use Rattle.rtcp_engine.proofs.Pacing.{still_kept as settings_drop_nobody_sooner-kept}
-pub use Rattle.rtcp_engine.proofs.Pacing.{heard_lately as settings_drop_nobody_sooner-heard}
-pub use Rattle.rtcp_engine.proofs.Pacing.{present_alone as settings_drop_nobody_sooner-afterwards}
-pub use Rattle.rtcp_engine.proofs.Pacing.{paces_are_usable as settings_drop_nobody_sooner-usable}
 pub use Rattle.rtcp_engine.proofs.PaceEnds.{same_pace as former_paces_end-same}
 pub use Rattle.rtcp_engine.proofs.PaceEnds.{end_stays as former_paces_end-stays}
 pub use Rattle.rtcp_engine.proofs.PaceEnds.{end_of_session as former_paces_end-end}

@@ -1,5 +1,5 @@
 -- Worked rows: sessions whose host changes the settings.
-use Rattle.std.proofs.Common.{◌≡◌, [], ◌∷◌, Err, refl}
+use Rattle.std.proofs.Common.{◌≡◌, [], ◌∷◌, Err}
 use Rattle.rtcp_engine.specs.declared.config.ConfigError.TheVariants.{Bandwidth, Rate, Item}
 use Rattle.rtcp_engine.specs.declared.refusal.Refusal.TheVariants.{Settings}
 use Rattle.rtcp_engine.specs.Setups.{SettingsValue}
@@ -12,38 +12,35 @@ use Rattle.rtcp_engine.proofs.examples.Rows.{setup, start, start_of, named_came,
 abbrev slow : SettingsValue
 slow = record { sender_bw = 16; receiver_bw = 16; clocks = []; extras = [] }
 
--- The moment to ask again stays; the report is put off there, as its interval is computed anew.
-lower : answers_to start (configured 500000 slow ∷ ticked 1026037 0 0 ∷ ticked 1231245 0 0 ∷ [])
-    ≡ ok 1 0 0 1026037 ∷ ok 1 0 0 1231245 ∷ sends 1 0 0 3283319 empty_report ∷ []
-lower = refl
+record Changes : Type 0 where
+  -- The moment to ask again stays; the report is put off there, as its interval is computed anew.
+  lower : answers_to start (configured 500000 slow ∷ ticked 1026037 0 0 ∷ ticked 1231245 0 0 ∷ [])
+      ≡ ok 1 0 0 1026037 ∷ ok 1 0 0 1231245 ∷ sends 1 0 0 3283319 empty_report ∷ []
+  -- Where it is put off by less bandwidth, more of it does not bring it sooner.
+  higher : answers_to start (configured 500000 slow ∷ ticked 1026037 4294967295 0
+      ∷ configured 1026037 (record slow { receiver_bw = 300 }) ∷ ticked 3693732 0 0 ∷ ticked 3693733 0 0 ∷ [])
+      ≡ ok 1 0 0 1026037 ∷ ok 1 0 0 3693733 ∷ ok 1 0 0 3693733 ∷ ok 1 0 0 3693733
+      ∷ sends 1 0 0 5745807 empty_report ∷ []
+  -- What no configuration may have is refused, and changes nothing.
+  refused : answers_to start (configured 0 (record slow { receiver_bw = 15 })
+      ∷ configured 0 (record slow { clocks = record { payload_type = 0; rate = 0 } ∷ [] })
+      ∷ configured 0 (record slow { extras = record { kind = 1; text = [] } ∷ [] }) ∷ ticked 1026037 0 0 ∷ [])
+      ≡ Err (Settings Bandwidth) ∷ Err (Settings Rate) ∷ Err (Settings Item) ∷ sends 1 0 0 3078111 empty_report ∷ []
+  -- The third report carries an item that was given after the second one.
+  described : answers_to start (ticked 1026037 0 0 ∷ ticked 3078111 0 0
+      ∷ configured 3078111 (record {
+        sender_bw = 100;
+        receiver_bw = 300;
+        clocks = [];
+        extras = record { kind = 6; text = 116 ∷ [] } ∷ [];
+      })
+      ∷ ticked 5130185 0 0 ∷ [])
+      ≡ sends 1 0 0 3078111 empty_report ∷ sends 1 0 0 5130185 empty_report ∷ ok 1 0 0 5130185 ∷ sends 1 0 0 7182259
+      (128 ∷ 201 ∷ 0 ∷ 1 ∷ 0 ∷ 0 ∷ 0 ∷ 170 ∷ 129 ∷ 202 ∷ 0 ∷ 3 ∷ 0 ∷ 0 ∷ 0 ∷ 170 ∷ 1 ∷ 1 ∷ 97 ∷ 6 ∷ 1 ∷ 116 ∷ 0 ∷ 0
+      ∷ []) ∷ []
 
--- Where it is put off by less bandwidth, more of it does not bring it sooner.
-higher : answers_to start (configured 500000 slow ∷ ticked 1026037 4294967295 0
-    ∷ configured 1026037 (record slow { receiver_bw = 300 }) ∷ ticked 3693732 0 0 ∷ ticked 3693733 0 0 ∷ [])
-    ≡ ok 1 0 0 1026037 ∷ ok 1 0 0 3693733 ∷ ok 1 0 0 3693733 ∷ ok 1 0 0 3693733
-    ∷ sends 1 0 0 5745807 empty_report ∷ []
-higher = refl
-
--- What no configuration may have is refused, and changes nothing.
-refused : answers_to start (configured 0 (record slow { receiver_bw = 15 })
-    ∷ configured 0 (record slow { clocks = record { payload_type = 0; rate = 0 } ∷ [] })
-    ∷ configured 0 (record slow { extras = record { kind = 1; text = [] } ∷ [] }) ∷ ticked 1026037 0 0 ∷ [])
-    ≡ Err (Settings Bandwidth) ∷ Err (Settings Rate) ∷ Err (Settings Item) ∷ sends 1 0 0 3078111 empty_report ∷ []
-refused = refl
-
--- The third report carries an item that was given after the second one.
-described : answers_to start (ticked 1026037 0 0 ∷ ticked 3078111 0 0
-    ∷ configured 3078111 (record {
-      sender_bw = 100;
-      receiver_bw = 300;
-      clocks = [];
-      extras = record { kind = 6; text = 116 ∷ [] } ∷ [];
-    })
-    ∷ ticked 5130185 0 0 ∷ [])
-    ≡ sends 1 0 0 3078111 empty_report ∷ sends 1 0 0 5130185 empty_report ∷ ok 1 0 0 5130185 ∷ sends 1 0 0 7182259
-    (128 ∷ 201 ∷ 0 ∷ 1 ∷ 0 ∷ 0 ∷ 0 ∷ 170 ∷ 129 ∷ 202 ∷ 0 ∷ 3 ∷ 0 ∷ 0 ∷ 0 ∷ 170 ∷ 1 ∷ 1 ∷ 97 ∷ 6 ∷ 1 ∷ 116 ∷ 0 ∷ 0
-    ∷ []) ∷ []
-described = refl
+changes : Changes
+changes = search
 
 -- ---- The pace of checks
 
@@ -55,37 +52,32 @@ slow_start = start_of (record setup { sender_bw = 16; receiver_bw = 16 })
 abbrev fast : SettingsValue
 fast = record { sender_bw = 160; receiver_bw = 160; clocks = []; extras = [] }
 
--- A source that was last heard 20 seconds ago, so less than five of the former intervals, is kept: five of the present
--- ones are 12.5 seconds.
-raised : answers_to slow_start (named_came 0 9 ∷ configured 20000000 fast ∷ ticked 20000000 0 0 ∷ [])
-    ≡ moved (ok 2 0 1 1231245) ∷ ok 2 0 1 1231245 ∷ sends 2 0 1 22052074 empty_report ∷ []
-raised = refl
+record PaceOfChecks : Type 0 where
+  -- A source that was last heard 20 seconds ago, so less than five of the former intervals, is kept: five of the
+  -- present ones are 12.5 seconds.
+  raised : answers_to slow_start (named_came 0 9 ∷ configured 20000000 fast ∷ ticked 20000000 0 0 ∷ [])
+      ≡ moved (ok 2 0 1 1231245) ∷ ok 2 0 1 1231245 ∷ sends 2 0 1 22052074 empty_report ∷ []
+  -- The former pace counts for five of its intervals, 30 seconds, and no longer.
+  former_for_thirty_seconds : answers_to slow_start (named_came 0 9 ∷ configured 20000000 fast ∷ ticked 20000000 0 0
+      ∷ named_came 20000001 9 ∷ ticked 49999999 0 0 ∷ ticked 50000000 0 0 ∷ [])
+      ≡ moved (ok 2 0 1 1231245) ∷ ok 2 0 1 1231245 ∷ sends 2 0 1 22052074 empty_report ∷ ok 2 0 1 22052074
+      ∷ sends 2 0 1 52052073 empty_report ∷ moved (ok 1 0 0 51026036) ∷ []
+  -- Settings that change again meanwhile, other items say, do not end it.
+  set_twice : answers_to slow_start (named_came 0 9 ∷ configured 20000000 fast ∷ configured 20000000 fast
+      ∷ ticked 20000000 0 0 ∷ [])
+      ≡ moved (ok 2 0 1 1231245) ∷ ok 2 0 1 1231245 ∷ ok 2 0 1 1231245 ∷ sends 2 0 1 22052074 empty_report ∷ []
+  -- Settings that leave the bandwidths as they are do not prolong it.
+  described_meanwhile : answers_to slow_start (named_came 0 9 ∷ configured 20000000 fast ∷ ticked 20000000 0 0
+      ∷ named_came 20000001 9 ∷ configured 40000000 fast ∷ ticked 49999999 0 0 ∷ configured 49999999 fast
+      ∷ ticked 50000000 0 0 ∷ [])
+      ≡ moved (ok 2 0 1 1231245) ∷ ok 2 0 1 1231245 ∷ sends 2 0 1 22052074 empty_report ∷ ok 2 0 1 22052074
+      ∷ ok 2 0 1 22052074 ∷ sends 2 0 1 52052073 empty_report ∷ ok 2 0 1 52052073 ∷ moved (ok 1 0 0 51026036) ∷ []
+  -- Other bandwidths at 45 seconds let the least of all count for five of the intervals that they end, 25 seconds.
+  changed_meanwhile : answers_to slow_start (named_came 0 9 ∷ configured 20000000 fast ∷ ticked 20000000 0 0
+      ∷ named_came 40000000 9 ∷ configured 45000000 (record fast { receiver_bw = 170 }) ∷ ticked 69999999 0 0
+      ∷ ticked 70000000 0 0 ∷ [])
+      ≡ moved (ok 2 0 1 1231245) ∷ ok 2 0 1 1231245 ∷ sends 2 0 1 22052074 empty_report ∷ ok 2 0 1 22052074
+      ∷ ok 2 0 1 22052074 ∷ sends 2 0 1 72052073 empty_report ∷ moved (ok 1 0 0 71026036) ∷ []
 
--- The former pace counts for five of its intervals, 30 seconds, and no longer.
-former_for_thirty_seconds : answers_to slow_start (named_came 0 9 ∷ configured 20000000 fast ∷ ticked 20000000 0 0
-    ∷ named_came 20000001 9 ∷ ticked 49999999 0 0 ∷ ticked 50000000 0 0 ∷ [])
-    ≡ moved (ok 2 0 1 1231245) ∷ ok 2 0 1 1231245 ∷ sends 2 0 1 22052074 empty_report ∷ ok 2 0 1 22052074
-    ∷ sends 2 0 1 52052073 empty_report ∷ moved (ok 1 0 0 51026036) ∷ []
-former_for_thirty_seconds = refl
-
--- Settings that change again meanwhile, other items say, do not end it.
-set_twice : answers_to slow_start (named_came 0 9 ∷ configured 20000000 fast ∷ configured 20000000 fast
-    ∷ ticked 20000000 0 0 ∷ [])
-    ≡ moved (ok 2 0 1 1231245) ∷ ok 2 0 1 1231245 ∷ ok 2 0 1 1231245 ∷ sends 2 0 1 22052074 empty_report ∷ []
-set_twice = refl
-
--- Settings that leave the bandwidths as they are do not prolong it.
-described_meanwhile : answers_to slow_start (named_came 0 9 ∷ configured 20000000 fast ∷ ticked 20000000 0 0
-    ∷ named_came 20000001 9 ∷ configured 40000000 fast ∷ ticked 49999999 0 0 ∷ configured 49999999 fast
-    ∷ ticked 50000000 0 0 ∷ [])
-    ≡ moved (ok 2 0 1 1231245) ∷ ok 2 0 1 1231245 ∷ sends 2 0 1 22052074 empty_report ∷ ok 2 0 1 22052074
-    ∷ ok 2 0 1 22052074 ∷ sends 2 0 1 52052073 empty_report ∷ ok 2 0 1 52052073 ∷ moved (ok 1 0 0 51026036) ∷ []
-described_meanwhile = refl
-
--- Other bandwidths at 45 seconds let the least of all count for five of the intervals that they end, 25 seconds.
-changed_meanwhile : answers_to slow_start (named_came 0 9 ∷ configured 20000000 fast ∷ ticked 20000000 0 0
-    ∷ named_came 40000000 9 ∷ configured 45000000 (record fast { receiver_bw = 170 }) ∷ ticked 69999999 0 0
-    ∷ ticked 70000000 0 0 ∷ [])
-    ≡ moved (ok 2 0 1 1231245) ∷ ok 2 0 1 1231245 ∷ sends 2 0 1 22052074 empty_report ∷ ok 2 0 1 22052074
-    ∷ ok 2 0 1 22052074 ∷ sends 2 0 1 72052073 empty_report ∷ moved (ok 1 0 0 71026036) ∷ []
-changed_meanwhile = refl
+pace_of_checks : PaceOfChecks
+pace_of_checks = search
