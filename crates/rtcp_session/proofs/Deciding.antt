@@ -222,12 +222,6 @@ reports_decided_within from width joined =
     let test = is_inside from width joined.start in
     filter_same test (decided_at joined.history) ∙ ap (filter test) (reports_decided joined.history)
 
-pub later_same : (all : List Decided) → map report_of (later_ones all) ≡ later_ones (map report_of all)
-later_same [] = refl
-later_same (newest ∷ []) = refl
-later_same (newest ∷ before ∷ earlier) = ap (λ (reports : List Sent). newest.report ∷ reports)
-    (later_same (before ∷ earlier))
-
 later_all : {A : Type 0} (P : A → Type 0) (all : List A) → All P all → All P (later_ones all)
 later_all {A} P [] h = All-nil P
 later_all {A} P (newest ∷ []) h = All-nil P

@@ -163,9 +163,6 @@ stretched delay S R from width wait soon is long = record {
         let up : less * (100000 * interval) ≤ less * (2 * 121828 * span) = mul-le-mul_left less h in
         omega (arith, up, k)
 
-abbrev IsOf : Terms → (from width : ℕ) → Wait → Type 0
-IsOf terms from width wait = IsWait 100000 (2 * 121828) terms.sender_bw terms.receiver_bw from width wait
-
 all_stretched : (delay : ℕ) (terms : Terms) (from width : ℕ) (all : List Joined) → delay < least_wait →
     All (HasBandwidth terms) all →
     All (IsStretched delay terms.sender_bw terms.receiver_bw from width) (waits_after delay from width all)
