@@ -1,7 +1,8 @@
 -- Worked examples: what the definitions say of RTP packets that are written out, octet by octet.
-use Rattle.std.proofs.Common.{◌≡◌, ℕ, ◌<◌, Bool, true, false, List, [], ◌∷◌, ◌++◌, refl, arith, inl, inr}
+use Rattle.std.proofs.Common.{◌≡◌, ℕ, ◌<◌, Bool, true, false, List, [], ◌∷◌, ◌++◌, length, refl, arith, inl, inr}
 use Rattle.rtcp_wire.specs.declared.rtp.fault.RtpFault.TheVariants.{Short, Version, PayloadType, Extension, Padding}
-use Rattle.rtcp_wire.specs.RtpHeads.{RtpValue, marker_of, payload_type_of, IsReserved, IsRtpHead, IsRtpFault}
+use Rattle.rtcp_wire.specs.Grammar.{Joins}
+use Rattle.rtcp_wire.specs.RtpHeads.{RtpValue, marker_of, payload_type_of, csrc_count_of, has_extension, has_padding, IsReserved, IsCsrc, IsFixedPart, IsExtensionPart, IsPaddingPart, IsRtpHead, IsRtpFault}
 use Rattle.rtcp_wire.proofs.RtpFaults.{is_short, is_version, is_payload_type, is_extension, is_padding}
 
 -- what a packet of sequence number 1, timestamp 2 and source 3 says
@@ -34,67 +35,45 @@ differs e = absurd cc
 
 -- ---- Packets
 
+-- A packet says what its parts say.
+pub in_parts : {octets : List ℕ} {head : RtpValue} (first sources extension padding : List ℕ) →
+    octets ≡ first ++ (sources ++ (extension ++ (head.payload ++ padding))) → IsFixedPart head first →
+    length head.csrcs ≡ csrc_count_of first → Joins IsCsrc head.csrcs sources →
+    IsExtensionPart (has_extension first) extension → IsPaddingPart (has_padding first) padding → IsRtpHead octets head
+in_parts first sources extension padding parts is_fixed counted each is_extension is_padding = record {
+  fixed = first;
+  sources = sources;
+  extension = extension;
+  padding = padding;
+  parts = parts;
+  is_fixed = is_fixed;
+  counted = counted;
+  each = each;
+  is_extension = is_extension;
+  is_padding = is_padding;
+}
+
 -- 90000001 00000002 00000003 00050001 aabbccdd 0102
 pub extended_read : IsRtpHead (fixed 144 0 ++ 0 ∷ 5 ∷ 0 ∷ 1 ∷ 170 ∷ 187 ∷ 204 ∷ 221 ∷ 1 ∷ 2 ∷ [])
     (value 0 false [] (1 ∷ 2 ∷ []))
-extended_read = record {
-  fixed = fixed 144 0;
-  sources = [];
-  extension = 0 ∷ 5 ∷ 0 ∷ 1 ∷ 170 ∷ 187 ∷ 204 ∷ 221 ∷ [];
-  padding = [];
-  parts = refl;
-  is_fixed = search (is_free 0 (omega arith));
-  counted = refl;
-  each = refl;
-  is_extension = refl;
-  is_padding = refl;
-}
+extended_read = in_parts (fixed 144 0) [] (0 ∷ 5 ∷ 0 ∷ 1 ∷ 170 ∷ 187 ∷ 204 ∷ 221 ∷ []) [] refl
+    (search (is_free 0 (omega arith))) refl refl refl refl
 
 -- a0000001 00000002 00000003 0102
 pub padded_read : IsRtpHead (fixed 160 0 ++ 1 ∷ 2 ∷ []) (value 0 false [] [])
-padded_read = record {
-  fixed = fixed 160 0;
-  sources = [];
-  extension = [];
-  padding = 1 ∷ 2 ∷ [];
-  parts = refl;
-  is_fixed = search (is_free 0 (omega arith));
-  counted = refl;
-  each = refl;
-  is_extension = refl;
-  is_padding = (1 ∷ [], refl);
-}
+padded_read = in_parts (fixed 160 0) [] [] (1 ∷ 2 ∷ []) refl (search (is_free 0 (omega arith))) refl refl refl
+    (1 ∷ [], refl)
 
 -- 81000001 00000002 00000003 00000004
 pub one_source_read : IsRtpHead (fixed 129 0 ++ 0 ∷ 0 ∷ 0 ∷ 4 ∷ []) (value 0 false (4 ∷ []) [])
-one_source_read = record {
-  fixed = fixed 129 0;
-  sources = 0 ∷ 0 ∷ 0 ∷ 4 ∷ [];
-  extension = [];
-  padding = [];
-  parts = refl;
-  is_fixed = search (is_free 0 (omega arith));
-  counted = refl;
-  each = (0 ∷ 0 ∷ 0 ∷ 4 ∷ [], [], refl, (refl, refl), refl);
-  is_extension = refl;
-  is_padding = refl;
-}
+one_source_read = in_parts (fixed 129 0) (0 ∷ 0 ∷ 0 ∷ 4 ∷ []) [] [] refl (search (is_free 0 (omega arith))) refl
+    (0 ∷ 0 ∷ 0 ∷ 4 ∷ [], [], refl, (refl, refl), refl) refl refl
 
 -- a packet of no payload, by its second octet
 plain : (second kind : ℕ) (marker : Bool) → (IsReserved kind → ⊥) → kind ≡ payload_type_of (fixed 128 second) →
     marker ≡ marker_of (fixed 128 second) → IsRtpHead (fixed 128 second) (value kind marker [] [])
-plain second kind marker free is_kind is_marker = record {
-  fixed = fixed 128 second;
-  sources = [];
-  extension = [];
-  padding = [];
-  parts = refl;
-  is_fixed = search (free, is_kind, is_marker);
-  counted = refl;
-  each = refl;
-  is_extension = refl;
-  is_padding = refl;
-}
+plain second kind marker free is_kind is_marker =
+    in_parts (fixed 128 second) [] [] [] refl (search (free, is_kind, is_marker)) refl refl refl refl
 
 -- 80470001 00000002 00000003: type 71 is free.
 pub below_reserved_read : IsRtpHead (fixed 128 71) (value 71 false [] [])

@@ -12,6 +12,7 @@ use Rattle.rtcp_wire.specs.Writing.{written_all, IsWritable, IsWritableBlock, Is
 use Rattle.rtcp_wire.specs.Contents.{all_items, all_goodbyes, all_blocks}
 use Rattle.rtcp_wire.specs.Facts.{facts_of}
 use Rattle.rtcp_wire.proofs.LawLemmas.{one_reading, reads_back}
+use Rattle.rtcp_wire.proofs.examples.RtpRows.{in_parts}
 use Rattle.rtcp_wire.proofs.examples.Rows.{unpadded, empty_spelled, of_seven, alone_accepted, report, report_accepted, after_accepted, padded, padded_accepted}
 
 are_octets : (octets : List ℕ) → list_all (λ octet. nat_lt octet 256) octets ≡ true → AreOctets octets
@@ -52,18 +53,7 @@ not_reserved : IsReserved 127 → ⊥
 not_reserved is = omega (arith, is.1)
 
 greatest_read : IsRtpHead its_octets greatest
-greatest_read = record {
-  fixed = fixed;
-  sources = words 15;
-  extension = [];
-  padding = [];
-  parts = refl;
-  is_fixed = search not_reserved;
-  counted = refl;
-  each = each_csrc 15;
-  is_extension = refl;
-  is_padding = refl;
-}
+greatest_read = in_parts fixed (words 15) [] [] refl (search not_reserved) refl (each_csrc 15) refl refl
 
 octets_of_greatest : AreOctets its_octets
 octets_of_greatest = are_octets its_octets refl
