@@ -4,7 +4,8 @@ use Rattle.std.specs.Option.{ok_or}
 use Rattle.std.specs.Str.{bytes_eq}
 use Rattle.rtcp_engine.specs.Setups.{Setup}
 use Rattle.rtcp_engine.specs.Views.{setup_of}
-use Rattle.rtcp_command.specs.declared.options.LinkOptions.{LinkOptions}
+use Rattle.clap.specs.declared.parser.matches.Found.{Found}
+use Rattle.clap.specs.Matches.{first_value}
 use Rattle.rtcp_command.specs.declared.orders.ListenOrder.{ListenOrder}
 use Rattle.rtcp_command.specs.declared.orders.Order.{Order}
 use Rattle.rtcp_command.specs.declared.orders.Order.TheVariants.{Text, Listen}
@@ -12,61 +13,16 @@ use Rattle.rtcp_command.specs.declared.orders.OrderFault.{OrderFault}
 use Rattle.rtcp_command.specs.declared.orders.OrderFault.TheVariants.{Clap, Option as BadOption, Memory}
 use Rattle.rtcp_command.specs.Endpoints.{Endpoint, endpoint_in, endpoint_of}
 use Rattle.rtcp_text.specs.Numerals.{decimal_in}
-use Rattle.rtcp_command.specs.Options.{OptionTexts, setup_in, text_found, text_given}
+use Rattle.rtcp_command.specs.Options.{setup_in, text_found}
 use Rattle.rtcp_text.specs.Results.{◌>>=◌}
-
--- the texts of the options after those of the participant, in the order in which they are looked at
-pub record LinkTexts : Type 0 where
-  pub rtp : List ℕ
-  pub rtcp : List ℕ
-  pub peer : List ℕ
-  pub seed : List ℕ
-  pub turns : Option (List ℕ)
-  pub seconds : Option (List ℕ)
-  pub recording : Option (List ℕ)
-  pub force : List ℕ
-  pub stop : Option (List ℕ)
-  pub show : List ℕ
-  pub plain : List ℕ
-
-abbrev pub link_texts_of : LinkOptions → LinkTexts
-link_texts_of options = record {
-  rtp = options.rtp.now;
-  rtcp = options.rtcp.now;
-  peer = options.peer.now;
-  seed = options.seed.now;
-  turns = text_given options.turns;
-  seconds = text_given options.seconds;
-  recording = text_given options.recording;
-  force = options.force.now;
-  stop = text_given options.stop;
-  show = options.show.now;
-  plain = options.plain.now;
-}
-
--- the texts that a command line gives
-abbrev pub link_texts_found : (List ℕ → Option (List ℕ)) → LinkTexts
-link_texts_found found = record {
-  rtp = text_found found (codes "rtp");
-  rtcp = text_found found (codes "rtcp");
-  peer = text_found found (codes "peer");
-  seed = text_found found (codes "seed");
-  turns = found (codes "turns");
-  seconds = found (codes "seconds");
-  recording = found (codes "record");
-  force = text_found found (codes "force");
-  stop = found (codes "stop");
-  show = text_found found (codes "show");
-  plain = text_found found (codes "plain");
-}
 
 -- what stands for a draw from the system's generator
 abbrev pub is_random : List ℕ → Bool
 is_random text = bytes_eq text (codes "random")
 
--- with an SSRC of 0 in place of one that is to be drawn
-abbrev pub settled_texts : OptionTexts → OptionTexts
-settled_texts texts = if is_random texts.ssrc then record texts { ssrc = codes "00000000" } else texts
+-- an SSRC, or 0 in place of one that is to be drawn
+abbrev pub settled : List ℕ → List ℕ
+settled ssrc = if is_random ssrc then codes "00000000" else ssrc
 
 -- the seed, and whether one is to be drawn in place of it
 abbrev pub seed_in : List ℕ → Option (ℕ × Bool)
@@ -96,8 +52,12 @@ seconds_given None = Some None
 seconds_given (Some text) = option_map Some (seconds_in text)
 
 -- Turns end a session if they are given, or nothing else ends it.
-abbrev pub counts_turns : LinkTexts → Bool
-counts_turns link = is_some link.turns || not (is_some link.seconds) && not (is_some link.stop)
+abbrev pub counts_turns : (turns seconds stop : Option (List ℕ)) → Bool
+counts_turns turns seconds stop = is_some turns || not (is_some seconds) && not (is_some stop)
+
+-- whether a flag is given
+abbrev pub is_set : Found → (name : List ℕ) → Bool
+is_set found name = bytes_eq (text_found found name) (codes "true")
 
 -- a session over UDP
 pub record Listening : Type 0 where
@@ -127,31 +87,33 @@ pub record Listening : Type 0 where
   pub plain : Bool
 
 -- The session, or the name of the first option that is refused.
-abbrev pub listen_in : OptionTexts → LinkTexts → Result Listening (List ℕ)
-listen_in texts link = do
-  setup ← setup_in (settled_texts texts)
-  rtp ← ok_or (endpoint_in link.rtp) (codes "rtp")
-  rtcp ← ok_or (endpoint_in link.rtcp) (codes "rtcp")
-  peer ← ok_or (endpoint_in link.peer) (codes "peer")
-  seed ← ok_or (seed_in link.seed) (codes "seed")
-  turns ← ok_or (turns_given link.turns) (codes "turns")
-  seconds ← ok_or (seconds_given link.seconds) (codes "seconds")
+abbrev pub listen_in : Found → Result Listening (List ℕ)
+listen_in found = do
+  setup ← setup_in found (settled (text_found found (codes "ssrc")))
+  rtp ← ok_or (endpoint_in (text_found found (codes "rtp"))) (codes "rtp")
+  rtcp ← ok_or (endpoint_in (text_found found (codes "rtcp"))) (codes "rtcp")
+  peer ← ok_or (endpoint_in (text_found found (codes "peer"))) (codes "peer")
+  seed ← ok_or (seed_in (text_found found (codes "seed"))) (codes "seed")
+  turns ← ok_or (turns_given (first_value found (codes "turns"))) (codes "turns")
+  seconds ← ok_or (seconds_given (first_value found (codes "seconds"))) (codes "seconds")
   Ok (record {
     setup = setup;
-    draws_ssrc = is_random texts.ssrc;
+    draws_ssrc = is_random (text_found found (codes "ssrc"));
     rtp = rtp;
     rtcp = rtcp;
     peer = peer;
     seed = seed.0;
     draws_seed = seed.1;
     turns = turns;
-    counts_turns = counts_turns link;
+    counts_turns =
+        counts_turns (first_value found (codes "turns")) (first_value found (codes "seconds"))
+        (first_value found (codes "stop"));
     seconds = seconds;
-    recording = link.recording;
-    overwrites = bytes_eq link.force (codes "true");
-    stop = link.stop;
-    show = bytes_eq link.show (codes "true");
-    plain = bytes_eq link.plain (codes "true");
+    recording = first_value found (codes "record");
+    overwrites = is_set found (codes "force");
+    stop = first_value found (codes "stop");
+    show = is_set found (codes "show");
+    plain = is_set found (codes "plain");
   })
 
 -- ---- Orders

@@ -8,7 +8,6 @@ use Rattle.clap.specs.Matches.{first_value, matched_of, raw_values}
 use Rattle.rtcp_wire.specs.Values.{ItemValue}
 use Rattle.rtcp_engine.specs.Setups.{ClockValue, Setup}
 use Rattle.rtcp_engine.specs.Views.{setup_of}
-use Rattle.rtcp_command.specs.declared.options.Options.{Options}
 use Rattle.rtcp_command.specs.declared.orders.TextOrder.{TextOrder}
 use Rattle.rtcp_command.specs.declared.orders.TextOrder.TheVariants.{Check, CheckPlain, Replay}
 use Rattle.rtcp_command.specs.declared.orders.OrderFault.{OrderFault}
@@ -18,27 +17,6 @@ use Rattle.rtcp_text.specs.Results.{◌>>=◌}
 use Rattle.rtcp_text.specs.SettingsFields.{clock_in, few_in}
 
 -- ---- Texts
-
--- the texts of the options, in the order in which they are looked at
-pub record OptionTexts : Type 0 where
-  pub ssrc : List ℕ
-  pub cname : List ℕ
-  pub capacity : List ℕ
-  pub limit : List ℕ
-  pub session_bps : List ℕ
-  pub sender_bw : Option (List ℕ)
-  pub receiver_bw : Option (List ℕ)
-  pub rate : List ℕ
-  -- one for each time that the option is given
-  pub clocks : List (List ℕ)
-  pub ntp : List ℕ
-  pub name : Option (List ℕ)
-  pub email : Option (List ℕ)
-  pub phone : Option (List ℕ)
-  pub loc : Option (List ℕ)
-  pub tool : Option (List ℕ)
-  pub note : Option (List ℕ)
-  pub private : Option (List ℕ)
 
 abbrev pub text_given : Option (Bor (List ℕ)) → Option (List ℕ)
 text_given given = option_map (λ text. text.now) given
@@ -50,56 +28,13 @@ abbrev pub texts_given : Option (Bor (List (Bor (List ℕ)))) → List (List ℕ
 texts_given None = []
 texts_given (Some given) = texts_in given
 
-abbrev pub texts_of : Options → OptionTexts
-texts_of options = record {
-  ssrc = options.ssrc.now;
-  cname = options.cname.now;
-  capacity = options.capacity.now;
-  limit = options.limit.now;
-  session_bps = options.session_bps.now;
-  sender_bw = text_given options.sender_bw;
-  receiver_bw = text_given options.receiver_bw;
-  rate = options.rate.now;
-  clocks = texts_given options.clocks;
-  ntp = options.ntp.now;
-  name = text_given options.name;
-  email = text_given options.email;
-  phone = text_given options.phone;
-  loc = text_given options.loc;
-  tool = text_given options.tool;
-  note = text_given options.note;
-  private = text_given options.private;
-}
-
 -- the text that a command line gives an option, by the option's name (an empty one where it gives none)
-abbrev pub text_found : (List ℕ → Option (List ℕ)) → (name : List ℕ) → List ℕ
-text_found found name = unwrap_or (found name) []
+abbrev pub text_found : Found → (name : List ℕ) → List ℕ
+text_found found name = unwrap_or (first_value found name) []
 
 -- all texts that it gives an option
 abbrev pub values_found : Found → (name : List ℕ) → List (List ℕ)
 values_found found name = unwrap_or (option_map raw_values (matched_of found name)) []
-
--- the texts that a command line gives: the first of each option, and all of an option that may be given again
-abbrev pub texts_found : Found → OptionTexts
-texts_found found = record {
-  ssrc = text_found (first_value found) (codes "ssrc");
-  cname = text_found (first_value found) (codes "cname");
-  capacity = text_found (first_value found) (codes "capacity");
-  limit = text_found (first_value found) (codes "limit");
-  session_bps = text_found (first_value found) (codes "session-bps");
-  sender_bw = first_value found (codes "sender-bw");
-  receiver_bw = first_value found (codes "receiver-bw");
-  rate = text_found (first_value found) (codes "rate");
-  clocks = values_found found (codes "clock");
-  ntp = text_found (first_value found) (codes "ntp");
-  name = first_value found (codes "name");
-  email = first_value found (codes "email");
-  phone = first_value found (codes "phone");
-  loc = first_value found (codes "loc");
-  tool = first_value found (codes "tool");
-  note = first_value found (codes "note");
-  private = first_value found (codes "priv");
-}
 
 -- ---- Values
 
@@ -146,15 +81,15 @@ item_in kind name read (Some text) = do
   Ok (record { kind = kind; text = octets } ∷ [])
 
 -- Extra items stand in the order of their types.
-abbrev pub extras_in : OptionTexts → Result (List ItemValue) (List ℕ)
-extras_in texts = do
-  name ← item_in 2 (codes "name") text_in texts.name
-  email ← item_in 3 (codes "email") text_in texts.email
-  phone ← item_in 4 (codes "phone") text_in texts.phone
-  place ← item_in 5 (codes "loc") text_in texts.loc
-  tool ← item_in 6 (codes "tool") text_in texts.tool
-  note ← item_in 7 (codes "note") text_in texts.note
-  private ← item_in 8 (codes "priv") hex_text_in texts.private
+abbrev pub extras_in : Found → Result (List ItemValue) (List ℕ)
+extras_in found = do
+  name ← item_in 2 (codes "name") text_in (first_value found (codes "name"))
+  email ← item_in 3 (codes "email") text_in (first_value found (codes "email"))
+  phone ← item_in 4 (codes "phone") text_in (first_value found (codes "phone"))
+  place ← item_in 5 (codes "loc") text_in (first_value found (codes "loc"))
+  tool ← item_in 6 (codes "tool") text_in (first_value found (codes "tool"))
+  note ← item_in 7 (codes "note") text_in (first_value found (codes "note"))
+  private ← item_in 8 (codes "priv") hex_text_in (first_value found (codes "priv"))
   Ok (name ++ email ++ phone ++ place ++ tool ++ note ++ private)
 
 abbrev pub with_extras : Setup → List ItemValue → Setup
@@ -162,20 +97,22 @@ with_extras setup items = record setup { extras = setup.extras ++ items }
 
 -- ---- The setup
 
--- How the participant is set up, or the name of the first option that is refused.
-abbrev pub setup_in : OptionTexts → Result Setup (List ℕ)
-setup_in texts = do
-  ssrc ← ok_or (hex_in w32 texts.ssrc) (codes "ssrc")
-  cname ← ok_or (text_in texts.cname) (codes "cname")
-  capacity ← ok_or (decimal_in 32 texts.capacity) (codes "capacity")
-  limit ← ok_or (decimal_in 32 texts.limit) (codes "limit")
-  session_bps ← ok_or (decimal_in 64 texts.session_bps) (codes "session-bps")
-  sender_bw ← bandwidth_in (codes "sender-bw") (share_of_senders session_bps) texts.sender_bw
-  receiver_bw ← bandwidth_in (codes "receiver-bw") (share_of_others session_bps) texts.receiver_bw
-  rate ← ok_or (decimal_in 32 texts.rate) (codes "rate")
-  clocks ← ok_or (clocks_given texts.clocks) (codes "clock")
-  ntp ← ok_or (hex_in w64 texts.ntp) (codes "ntp")
-  extras ← extras_in texts
+-- How the participant is set up, by the options of a command line and the text of its SSRC, or the name of the first
+-- option that is refused.
+abbrev pub setup_in : Found → (ssrc : List ℕ) → Result Setup (List ℕ)
+setup_in found ssrc = do
+  ssrc ← ok_or (hex_in w32 ssrc) (codes "ssrc")
+  cname ← ok_or (text_in (text_found found (codes "cname"))) (codes "cname")
+  capacity ← ok_or (decimal_in 32 (text_found found (codes "capacity"))) (codes "capacity")
+  limit ← ok_or (decimal_in 32 (text_found found (codes "limit"))) (codes "limit")
+  session_bps ← ok_or (decimal_in 64 (text_found found (codes "session-bps"))) (codes "session-bps")
+  sender_bw ← bandwidth_in (codes "sender-bw") (share_of_senders session_bps) (first_value found (codes "sender-bw"))
+  receiver_bw ←
+      bandwidth_in (codes "receiver-bw") (share_of_others session_bps) (first_value found (codes "receiver-bw"))
+  rate ← ok_or (decimal_in 32 (text_found found (codes "rate"))) (codes "rate")
+  clocks ← ok_or (clocks_given (values_found found (codes "clock"))) (codes "clock")
+  ntp ← ok_or (hex_in w64 (text_found found (codes "ntp"))) (codes "ntp")
+  extras ← extras_in found
   Ok (record {
     ssrc = ssrc;
     cname = cname;
@@ -194,11 +131,11 @@ abbrev pub lines_in : List ℕ → Option ℕ
 lines_in text = option_and_then (λ lines. if nat_le 1 lines then Some lines else None) (decimal_in 32 text)
 
 -- The word of the start and the number of lines are looked at last.
-abbrev pub replay_in : OptionTexts → (word : List ℕ) → (lines : List ℕ) → Result (Setup × ℕ × ℕ) (List ℕ)
-replay_in texts word lines = do
-  setup ← setup_in texts
-  word ← ok_or (hex_in w32 word) (codes "word")
-  lines ← ok_or (lines_in lines) (codes "lines")
+abbrev pub replay_in : Found → Result (Setup × ℕ × ℕ) (List ℕ)
+replay_in found = do
+  setup ← setup_in found (text_found found (codes "ssrc"))
+  word ← ok_or (hex_in w32 (text_found found (codes "word"))) (codes "word")
+  lines ← ok_or (lines_in (text_found found (codes "lines"))) (codes "lines")
   Ok (setup, word, lines)
 
 -- ---- Orders

@@ -1,15 +1,17 @@
 //! The options of `rtcp replay` and of `rtcp listen`.
 
 ghost use Rattle.std.specs.Prelude.{◌≡◌, ◌≤◌, ◌<◌, ◌+◌, ◌++◌, ◌⊎◌, ℕ, List, Ok, Err, Some, None, OnOk, IfOk, IfErr, IfSome, [], length, map, option_map, string_bytes, codes};
+ghost use Rattle.clap.specs.Matches.{found_of, first_value};
 ghost use Rattle.rtcp_wire.specs.Values.{ItemValue};
 ghost use Rattle.rtcp_engine.specs.Views.{clock_value, setup_of};
-ghost use Rattle.rtcp_command.specs.Listening.{HasTurns, IsListenOrder, link_texts_of, listen_in, listening_of, seconds_given, seconds_in, seed_in, settled_texts, turns_given, turns_in};
-ghost use Rattle.rtcp_command.specs.Options.{bandwidth_in, clock_given, clocks_given, extras_in, item_in, lines_in, replay_in, setup_in, text_given, text_in, texts_in, texts_of, with_extras};
+ghost use Rattle.rtcp_command.specs.Listening.{HasTurns, IsListenOrder, is_set as is_set_in, listen_in, listening_of, seconds_given, seconds_in, seed_in, settled as settled_text, turns_given, turns_in};
+ghost use Rattle.rtcp_command.specs.Options.{bandwidth_in, clock_given, clocks_given, extras_in, item_in, lines_in, replay_in, setup_in, text_found, text_given, text_in, texts_given, texts_in, with_extras};
 ghost use Rattle.rtcp_text.specs.Numerals.{hex_text_in};
 
 use crate::endpoint::read_endpoint;
 use crate::orders::{ListenOrder, Order, OrderFault};
 use arrayvec::ArrayVec;
+use clap::ArgMatches;
 use rtcp_engine::{Clock, Config, Item, rtcp_bw_of, shares_of};
 use rtcp_text::numerals::{read_decimal, read_hex_text, read_long, read_short_decimal, read_word};
 use rtcp_text::settings_fields::read_clock;
@@ -28,43 +30,18 @@ const TURNS: u32 = 1_000;
 /// The most seconds of a session: they stay below the greatest moment of a participant.
 const MAX_SECONDS: u32 = 1_000_000_000;
 
-/// The texts of the options that configure a participant, as a command line or their defaults give them.
-#[derive(Clone, Copy, Debug)]
-pub(crate) struct Options<'m, 'a> {
-    pub(crate) ssrc: &'a str,
-    pub(crate) cname: &'a str,
-    pub(crate) capacity: &'a str,
-    pub(crate) limit: &'a str,
-    pub(crate) session_bps: &'a str,
-    pub(crate) sender_bw: Option<&'a str>,
-    pub(crate) receiver_bw: Option<&'a str>,
-    pub(crate) rate: &'a str,
-    pub(crate) clocks: Option<&'m [&'a str]>,
-    pub(crate) ntp: &'a str,
-    pub(crate) name: Option<&'a str>,
-    pub(crate) email: Option<&'a str>,
-    pub(crate) phone: Option<&'a str>,
-    pub(crate) loc: Option<&'a str>,
-    pub(crate) tool: Option<&'a str>,
-    pub(crate) note: Option<&'a str>,
-    pub(crate) private: Option<&'a str>,
+/// The text of an option that is required or has a default.
+pub(crate) fn given<'a>(matches: &ArgMatches<'a>, name: &str) -> &'a str
+    ensures { result.now ≡ text_found (found_of matches.now) name.now }
+{
+    matches.get_str(name).unwrap_or("")
 }
 
-/// The texts of the options that `listen` takes after those of the participant.
-#[derive(Clone, Copy, Debug)]
-pub(crate) struct LinkOptions<'a> {
-    pub(crate) rtp: &'a str,
-    pub(crate) rtcp: &'a str,
-    pub(crate) peer: &'a str,
-    pub(crate) seed: &'a str,
-    pub(crate) turns: Option<&'a str>,
-    pub(crate) seconds: Option<&'a str>,
-    pub(crate) recording: Option<&'a str>,
-    pub(crate) force: &'a str,
-    pub(crate) stop: Option<&'a str>,
-    pub(crate) show: &'a str,
-    /// Whether datagrams are shown in plain words: `true` or `false`.
-    pub(crate) plain: &'a str,
+/// Whether a flag is given.
+pub(crate) fn is_set(matches: &ArgMatches<'_>, name: &str) -> bool
+    ensures { result ≡ is_set_in (found_of matches.now) name.now }
+{
+    given(matches, name) == "true"
 }
 
 /// The configuration, the word of the start and the number of lines that the options of `replay` say. Whether a
@@ -72,21 +49,15 @@ pub(crate) struct LinkOptions<'a> {
 ///
 /// # Errors
 ///
-/// The name of the first option that is refused, in the order of the fields above and then `word` and `lines`,
-/// without its dashes.
-pub(crate) fn read_replay(
-    options: Options<'_, '_>,
-    word: &str,
-    lines: &str,
-) -> Result<(Config, u32, u32), &'static str>
+/// The name of the first option that is refused, in the order of the rows that `clap` is told of, without its dashes.
+pub(crate) fn read_replay(matches: &ArgMatches<'_>) -> Result<(Config, u32, u32), &'static str>
     ensures read { IfOk result (λ read.
-        replay_in (texts_of options.entry) word.now lines.now ≡ Ok (setup_of read.0, read.1, read.2)) }
-    ensures refused { IfErr result (λ name.
-        replay_in (texts_of options.entry) word.now lines.now ≡ Err name.now) }
+        replay_in (found_of matches.now) ≡ Ok (setup_of read.0, read.1, read.2)) }
+    ensures refused { IfErr result (λ name. replay_in (found_of matches.now) ≡ Err name.now) }
 {
-    let config = read_config(options)?;
-    let word = read_word(word.as_bytes()).ok_or("word")?;
-    let lines = read_lines(lines).ok_or("lines")?;
+    let config = read_config(matches, given(matches, "ssrc"))?;
+    let word = read_word(given(matches, "word").as_bytes()).ok_or("word")?;
+    let lines = read_lines(given(matches, "lines")).ok_or("lines")?;
     Ok((config, word, lines))
 }
 
@@ -103,21 +74,16 @@ pub(crate) fn read_lines(text: &str) -> Option<u32>
 ///
 /// # Errors
 ///
-/// - [`OrderFault::Option`] with the name of the first option that is refused, in the order of the fields of both
-///   structs above, without its dashes.
+/// - [`OrderFault::Option`] with the name of the first option that is refused, in the order of the rows that `clap` is
+///   told of, without its dashes.
 /// - [`OrderFault::Memory`] where memory for the name of a file is refused.
-pub(crate) fn read_listen(
-    alloc: Global,
-    options: Options<'_, '_>,
-    link: LinkOptions<'_>,
-) -> Result<Order, OrderFault>
-    ensures read { IsListenOrder result (listen_in (texts_of options.entry) (link_texts_of link.entry)) }
+pub(crate) fn read_listen(alloc: Global, matches: &ArgMatches<'_>) -> Result<Order, OrderFault>
+    ensures read { IsListenOrder result (listen_in (found_of matches.now)) }
     ensures turns { IfOk result HasTurns }
 {
-    let mut order = read_session(options, link).map_err(OrderFault::Option)?;
-    let (recording, stop) = read_paths(alloc, link.recording, link.stop).map_err(
-        |_| OrderFault::Memory,
-    )?;
+    let mut order = read_session(matches).map_err(OrderFault::Option)?;
+    let (recording, stop) = (matches.get_str("record"), matches.get_str("stop"));
+    let (recording, stop) = read_paths(alloc, recording, stop).map_err(|_| OrderFault::Memory)?;
     order.recording = recording;
     order.stop = stop;
     Ok(Order::Listen(order))
@@ -128,39 +94,39 @@ pub(crate) fn read_listen(
 /// # Errors
 ///
 /// The name of the first option that is refused, without its dashes.
-fn read_session(
-    options: Options<'_, '_>,
-    link: LinkOptions<'_>,
-) -> Result<ListenOrder, &'static str>
-    ensures read { IfOk result (λ order. listen_in (texts_of options.entry) (link_texts_of link.entry)
-        ≡ Ok (listening_of order (text_given link.entry.recording) (text_given link.entry.stop))) }
+fn read_session(matches: &ArgMatches<'_>) -> Result<ListenOrder, &'static str>
+    ensures read { IfOk result (λ order. listen_in (found_of matches.now)
+        ≡ Ok (listening_of order (first_value (found_of matches.now) (codes "record"))
+        (first_value (found_of matches.now) (codes "stop")))) }
     ensures turns { IfOk result (λ order. (1 ≤ order.turns) × (order.turns ≤ 1000000)) }
-    ensures refused { IfErr result (λ name.
-        listen_in (texts_of options.entry) (link_texts_of link.entry) ≡ Err name.now) }
+    ensures refused { IfErr result (λ name. listen_in (found_of matches.now) ≡ Err name.now) }
 {
-    let config = read_config(settled(options))?;
-    let rtp = read_endpoint(link.rtp).ok_or("rtp")?;
-    let rtcp = read_endpoint(link.rtcp).ok_or("rtcp")?;
-    let peer = read_endpoint(link.peer).ok_or("peer")?;
-    let (seed, draws_seed) = read_seed(link.seed).ok_or("seed")?;
-    let turns = read_given_turns(link.turns).ok_or("turns")?;
-    let seconds = read_given_seconds(link.seconds).map_err(|()| "seconds")?;
+    let ssrc = given(matches, "ssrc");
+    let config = read_config(matches, settled(ssrc))?;
+    let rtp = read_endpoint(given(matches, "rtp")).ok_or("rtp")?;
+    let rtcp = read_endpoint(given(matches, "rtcp")).ok_or("rtcp")?;
+    let peer = read_endpoint(given(matches, "peer")).ok_or("peer")?;
+    let (seed, draws_seed) = read_seed(given(matches, "seed")).ok_or("seed")?;
+    let (turns, seconds) = (matches.get_str("turns"), matches.get_str("seconds"));
+    let counts_turns = turns.is_some() || (seconds.is_none() && matches.get_str("stop").is_none());
+    let turns = read_given_turns(turns).ok_or("turns")?;
+    let seconds = read_given_seconds(seconds).map_err(|()| "seconds")?;
     Ok(ListenOrder {
         config,
-        draws_ssrc: options.ssrc == RANDOM,
+        draws_ssrc: ssrc == RANDOM,
         rtp,
         rtcp,
         peer,
         seed,
         draws_seed,
         turns,
-        counts_turns: link.turns.is_some() || (link.seconds.is_none() && link.stop.is_none()),
+        counts_turns,
         seconds,
         recording: None,
-        overwrites: link.force == "true",
+        overwrites: is_set(matches, "force"),
         stop: None,
-        show: link.show == "true",
-        plain: link.plain == "true",
+        show: is_set(matches, "show"),
+        plain: is_set(matches, "plain"),
     })
 }
 
@@ -198,18 +164,11 @@ fn read_path(alloc: Global, given: Option<&str>) -> Result<Option<String>, Alloc
     }
 }
 
-/// These options, with an SSRC of 0 in place of one that is to be drawn.
-fn settled<'m, 'a>(options: Options<'m, 'a>) -> Options<'m, 'a>
-    ensures { texts_of result ≡ settled_texts (texts_of options.entry) }
+/// The text of an SSRC, or that of 0 in place of one that is to be drawn.
+fn settled(ssrc: &str) -> &str
+    ensures { result.now ≡ settled_text ssrc.now }
 {
-    if options.ssrc == RANDOM {
-        Options {
-            ssrc: "00000000",
-            ..options
-        }
-    } else {
-        options
-    }
+    if ssrc == RANDOM { "00000000" } else { ssrc }
 }
 
 /// The seed of the random words, and whether one is to be drawn in place of it.
@@ -277,21 +236,22 @@ fn read_seconds(text: &str) -> Option<u32>
     }
 }
 
-fn read_config(options: Options<'_, '_>) -> Result<Config, &'static str>
-    ensures read { IfOk result (λ config. setup_in (texts_of options.entry) ≡ Ok (setup_of config)) }
-    ensures refused { IfErr result (λ name. setup_in (texts_of options.entry) ≡ Err name.now) }
+/// The configuration that options say, with the text of its SSRC.
+fn read_config(matches: &ArgMatches<'_>, ssrc: &str) -> Result<Config, &'static str>
+    ensures read { IfOk result (λ config. setup_in (found_of matches.now) ssrc.now ≡ Ok (setup_of config)) }
+    ensures refused { IfErr result (λ name. setup_in (found_of matches.now) ssrc.now ≡ Err name.now) }
 {
-    let ssrc = read_word(options.ssrc.as_bytes()).ok_or("ssrc")?;
-    let cname = read_text(options.cname).ok_or("cname")?;
-    let capacity = read_short_decimal(options.capacity.as_bytes()).ok_or("capacity")?;
-    let limit = read_short_decimal(options.limit.as_bytes()).ok_or("limit")?;
-    let session_bps = read_decimal(options.session_bps.as_bytes()).ok_or("session-bps")?;
+    let ssrc = read_word(ssrc.as_bytes()).ok_or("ssrc")?;
+    let cname = read_text(given(matches, "cname")).ok_or("cname")?;
+    let capacity = read_short_decimal(given(matches, "capacity").as_bytes()).ok_or("capacity")?;
+    let limit = read_short_decimal(given(matches, "limit").as_bytes()).ok_or("limit")?;
+    let session_bps = read_decimal(given(matches, "session-bps").as_bytes()).ok_or("session-bps")?;
     let (senders, others) = shares_of(rtcp_bw_of(session_bps));
-    let sender_bw = read_bandwidth(options.sender_bw, "sender-bw", senders)?;
-    let receiver_bw = read_bandwidth(options.receiver_bw, "receiver-bw", others)?;
-    let rate = read_short_decimal(options.rate.as_bytes()).ok_or("rate")?;
-    let clocks = read_clocks(options.clocks.unwrap_or(&[])).ok_or("clock")?;
-    let ntp_base = read_long(options.ntp.as_bytes()).ok_or("ntp")?;
+    let sender_bw = read_bandwidth(matches.get_str("sender-bw"), "sender-bw", senders)?;
+    let receiver_bw = read_bandwidth(matches.get_str("receiver-bw"), "receiver-bw", others)?;
+    let rate = read_short_decimal(given(matches, "rate").as_bytes()).ok_or("rate")?;
+    let clocks = read_given_clocks(matches.get_strs("clock")).ok_or("clock")?;
+    let ntp_base = read_long(given(matches, "ntp").as_bytes()).ok_or("ntp")?;
     let mut config = Config {
         ssrc,
         cname,
@@ -304,8 +264,19 @@ fn read_config(options: Options<'_, '_>) -> Result<Config, &'static str>
         clocks,
         ntp_base,
     };
-    add_extras(&mut config, options)?;
+    add_extras(&mut config, matches)?;
     Ok(config)
+}
+
+/// The clocks that options give, at most 16: none where there is no such option.
+fn read_given_clocks(given: Option<&[&str]>) -> Option<ArrayVec<Clock, 16>>
+    ensures { option_map (λ clocks. map clock_value clocks.items) result
+        ≡ clocks_given (texts_given given.entry) }
+{
+    match given {
+        Some(given) => read_clocks(given),
+        None => Some(ArrayVec::new()),
+    }
 }
 
 /// The clocks that options give, at most 16.
@@ -348,19 +319,19 @@ fn read_bandwidth(given: Option<&str>, name: &'static str, share: u64) -> Result
 }
 
 /// Adds the extra items of the options that are given, in the order of their types.
-fn add_extras(config: &mut Config, options: Options<'_, '_>) -> Result<(), &'static str>
+fn add_extras(config: &mut Config, matches: &ArgMatches<'_>) -> Result<(), &'static str>
     requires { (setup_of config.old).extras ≡ [] }
-    ensures added { OnOk result ((items : List ItemValue) × (extras_in (texts_of options.entry) ≡ Ok items)
+    ensures added { OnOk result ((items : List ItemValue) × (extras_in (found_of matches.now) ≡ Ok items)
         × (setup_of config.new ≡ with_extras (setup_of config.old) items)) }
-    ensures refused { IfErr result (λ name. extras_in (texts_of options.entry) ≡ Err name.now) }
+    ensures refused { IfErr result (λ name. extras_in (found_of matches.now) ≡ Err name.now) }
 {
-    add_text(config, 2, "name", options.name)?;
-    add_text(config, 3, "email", options.email)?;
-    add_text(config, 4, "phone", options.phone)?;
-    add_text(config, 5, "loc", options.loc)?;
-    add_text(config, 6, "tool", options.tool)?;
-    add_text(config, 7, "note", options.note)?;
-    add_private(config, options.private)
+    add_text(config, 2, "name", matches.get_str("name"))?;
+    add_text(config, 3, "email", matches.get_str("email"))?;
+    add_text(config, 4, "phone", matches.get_str("phone"))?;
+    add_text(config, 5, "loc", matches.get_str("loc"))?;
+    add_text(config, 6, "tool", matches.get_str("tool"))?;
+    add_text(config, 7, "note", matches.get_str("note"))?;
+    add_private(config, matches.get_str("priv"))
 }
 
 /// Adds the item of an option that is text, if it is given.

@@ -1,12 +1,12 @@
 //! The subcommand `check` of the command line.
 
 ghost use Rattle.std.specs.Prelude.{codes};
-ghost use Rattle.std.specs.Str.{bytes_eq};
-ghost use Rattle.clap.specs.Matches.{found_of, first_value};
+ghost use Rattle.clap.specs.Matches.{found_of};
+ghost use Rattle.rtcp_command.specs.Listening.{is_set as is_set_in};
 ghost use Rattle.rtcp_command.specs.Options.{IsCheckOrder, lines_in, text_found};
 
-use super::options::{Absent, LINES, Row, given, with_options};
-use crate::options::read_lines;
+use super::options::{Absent, LINES, Row, with_options};
+use crate::options::{given, is_set, read_lines};
 use crate::orders::{OrderFault, TextOrder};
 use clap::{ArgMatches, Command};
 use std::alloc::{AllocError, Global};
@@ -53,12 +53,11 @@ pub(super) fn subcommand<'a>(alloc: Global) -> Result<Command<'a>, AllocError> {
 ///
 /// [`OrderFault::Option`] where the number of lines is refused.
 pub(super) fn order(matches: &ArgMatches<'_>) -> Result<TextOrder, OrderFault>
-    ensures { IsCheckOrder result
-        (bytes_eq (text_found (first_value (found_of matches.now)) (codes "plain")) (codes "true"))
-        (lines_in (text_found (first_value (found_of matches.now)) (codes "lines"))) }
+    ensures { IsCheckOrder result (is_set_in (found_of matches.now) (codes "plain"))
+        (lines_in (text_found (found_of matches.now) (codes "lines"))) }
 {
     match read_lines(given(matches, "lines")) {
-        Some(lines) if given(matches, "plain") == "true" => Ok(TextOrder::CheckPlain { lines }),
+        Some(lines) if is_set(matches, "plain") => Ok(TextOrder::CheckPlain { lines }),
         Some(lines) => Ok(TextOrder::Check { lines }),
         None => Err(OrderFault::Option("lines")),
     }

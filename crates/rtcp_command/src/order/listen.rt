@@ -1,12 +1,11 @@
 //! The subcommand `listen` of the command line.
 
 ghost use Rattle.std.specs.Prelude.{◌≡◌, IfOk};
-ghost use Rattle.clap.specs.Matches.{found_of, first_value};
-ghost use Rattle.rtcp_command.specs.Listening.{HasTurns, IsListenOrder, link_texts_found, link_texts_of, listen_in};
-ghost use Rattle.rtcp_command.specs.Options.{texts_found};
+ghost use Rattle.clap.specs.Matches.{found_of};
+ghost use Rattle.rtcp_command.specs.Listening.{HasTurns, IsListenOrder, listen_in};
 
-use super::options::{Absent, PARTICIPANT, Row, given, participant, with_options};
-use crate::options::{LinkOptions, read_listen};
+use super::options::{Absent, PARTICIPANT, Row, with_options};
+use crate::options::read_listen;
 use crate::orders::{Order, OrderFault};
 use clap::{ArgMatches, Command};
 use std::alloc::{AllocError, Global};
@@ -175,28 +174,8 @@ pub(super) fn subcommand<'a>(alloc: Global) -> Result<Command<'a>, AllocError> {
 /// - [`OrderFault::Option`] with the first option whose value is refused.
 /// - [`OrderFault::Memory`] where memory is refused.
 pub(super) fn order(alloc: Global, matches: &ArgMatches<'_>) -> Result<Order, OrderFault>
-    ensures read { IsListenOrder result (listen_in (texts_found (found_of matches.now))
-        (link_texts_found (first_value (found_of matches.now)))) }
+    ensures read { IsListenOrder result (listen_in (found_of matches.now)) }
     ensures turns { IfOk result HasTurns }
 {
-    read_listen(alloc, participant(matches), link(matches))
-}
-
-/// The texts of the options after those of the participant.
-fn link<'a>(matches: &ArgMatches<'a>) -> LinkOptions<'a>
-    ensures { link_texts_of result ≡ link_texts_found (first_value (found_of matches.now)) }
-{
-    LinkOptions {
-        rtp: given(matches, "rtp"),
-        rtcp: given(matches, "rtcp"),
-        peer: given(matches, "peer"),
-        seed: given(matches, "seed"),
-        turns: matches.get_str("turns"),
-        seconds: matches.get_str("seconds"),
-        recording: matches.get_str("record"),
-        force: given(matches, "force"),
-        stop: matches.get_str("stop"),
-        show: given(matches, "show"),
-        plain: given(matches, "plain"),
-    }
+    read_listen(alloc, matches)
 }

@@ -1,11 +1,6 @@
-//! Options of subcommands: how `clap` is told of them, and those that configure a participant.
+//! Options of subcommands, as `clap` is told of them, and those that configure a participant.
 
-ghost use Rattle.std.specs.Prelude.{◌≡◌};
-ghost use Rattle.clap.specs.Matches.{found_of, first_value};
-ghost use Rattle.rtcp_command.specs.Options.{text_found, texts_found, texts_of};
-
-use crate::options::Options;
-use clap::{Arg, ArgAction, ArgMatches, Command};
+use clap::{Arg, ArgAction, Command};
 use std::alloc::{AllocError, Global};
 
 /// What stands for an option that is not given.
@@ -122,36 +117,4 @@ pub(super) fn with_options<'a>(
 /// An option that takes a value.
 fn valued<'a>(option: Arg<'a>, value: &'a str) -> Arg<'a> {
     option.value_name(value).action(ArgAction::Set)
-}
-
-/// The texts of the options that configure a participant.
-pub(super) fn participant<'m, 'a>(matches: &'m ArgMatches<'a>) -> Options<'m, 'a>
-    ensures { texts_of result ≡ texts_found (found_of matches.now) }
-{
-    Options {
-        ssrc: given(matches, "ssrc"),
-        cname: given(matches, "cname"),
-        capacity: given(matches, "capacity"),
-        limit: given(matches, "limit"),
-        session_bps: given(matches, "session-bps"),
-        sender_bw: matches.get_str("sender-bw"),
-        receiver_bw: matches.get_str("receiver-bw"),
-        rate: given(matches, "rate"),
-        clocks: matches.get_strs("clock"),
-        ntp: given(matches, "ntp"),
-        name: matches.get_str("name"),
-        email: matches.get_str("email"),
-        phone: matches.get_str("phone"),
-        loc: matches.get_str("loc"),
-        tool: matches.get_str("tool"),
-        note: matches.get_str("note"),
-        private: matches.get_str("priv"),
-    }
-}
-
-/// The text of an option that is required or has a default.
-pub(super) fn given<'a>(matches: &ArgMatches<'a>, name: &str) -> &'a str
-    ensures { result.now ≡ text_found (first_value (found_of matches.now)) name.now }
-{
-    matches.get_str(name).unwrap_or("")
 }

@@ -1,10 +1,9 @@
 //! The subcommand `replay` of the command line.
 
-ghost use Rattle.std.specs.Prelude.{codes};
-ghost use Rattle.clap.specs.Matches.{found_of, first_value};
-ghost use Rattle.rtcp_command.specs.Options.{IsReplayOrder, replay_in, text_found, texts_found};
+ghost use Rattle.clap.specs.Matches.{found_of};
+ghost use Rattle.rtcp_command.specs.Options.{IsReplayOrder, replay_in};
 
-use super::options::{Absent, LINES, PARTICIPANT, Row, given, participant, with_options};
+use super::options::{Absent, LINES, PARTICIPANT, Row, with_options};
 use crate::options::read_replay;
 use crate::orders::{OrderFault, TextOrder};
 use clap::{ArgMatches, Command};
@@ -80,12 +79,9 @@ pub(super) fn subcommand<'a>(alloc: Global) -> Result<Command<'a>, AllocError> {
 ///
 /// [`OrderFault::Option`] with the first option whose value is refused.
 pub(super) fn order(matches: &ArgMatches<'_>) -> Result<TextOrder, OrderFault>
-    ensures { IsReplayOrder result (replay_in (texts_found (found_of matches.now))
-        (text_found (first_value (found_of matches.now)) (codes "word"))
-        (text_found (first_value (found_of matches.now)) (codes "lines"))) }
+    ensures { IsReplayOrder result (replay_in (found_of matches.now)) }
 {
-    let (word, lines) = (given(matches, "word"), given(matches, "lines"));
-    match read_replay(participant(matches), word, lines) {
+    match read_replay(matches) {
         Ok((config, word, lines)) => Ok(TextOrder::Replay {
             config,
             word,
