@@ -32,6 +32,7 @@ pub trait Told: Walk {
 }
 
 /// Tells of the next part of a walk, and moves the cursor after it. Else `place` is left as it is.
+#[inline(always)]
 pub fn tell_next<P: Told>(datagram: &[u8], cursor: &mut Cursor, place: &mut P::Place) -> u32
     ensures tells { Continues P.parts_of P.is_left (TellsGiven (P.shows datagram.now) P.tells)
         datagram.now cursor.old cursor.new result place.old place.new }

@@ -40,6 +40,7 @@ impl Walk for PlacedApp {
 
     ghost is_own = { IsOwnApp };
 
+    #[inline(always)]
     fn take(datagram: &[u8], cursor: &mut Cursor) -> Option<PlacedApp> {
         let next = cursor.next as usize;
         *cursor = Cursor::ended(datagram.len());
@@ -51,6 +52,7 @@ impl Walk for PlacedApp {
 }
 
 /// What an application's packet says, and where its data stand, if its body has room for what stands before these.
+#[inline(always)]
 fn app_in(packet: &Packet<'_>) -> Option<PlacedApp>
     requires { packet.now.place + length packet.now.body.now < 2 ^ 63 }
     ensures { MatchOption result (length packet.now.body.now < 8)

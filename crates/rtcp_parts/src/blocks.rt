@@ -43,6 +43,7 @@ impl Walk for Reported {
 
     ghost shows = { λ datagram. ShowsReported };
 
+    #[inline(always)]
     fn take(datagram: &[u8], cursor: &mut Cursor) -> Option<Reported> {
         *cursor = ready(datagram, cursor);
         take_block(datagram, cursor)
@@ -50,6 +51,7 @@ impl Walk for Reported {
 }
 
 /// A walk at the next block: at the first of another report where it is in none.
+#[inline(always)]
 fn ready(datagram: &[u8], cursor: &Cursor) -> Cursor
     requires { is_within (length datagram.now) cursor.now ≡ true }
     ensures { Readies packet_blocks LeavesBlocks datagram.now cursor.now result }
@@ -91,6 +93,7 @@ fn in_report(packet: &Packet<'_>) -> Option<Cursor>
 }
 
 /// Takes the next block of the report that a walk is in.
+#[inline(always)]
 fn take_block(datagram: &[u8], cursor: &mut Cursor) -> Option<Reported>
     requires { is_within (length datagram.now) cursor.old ≡ true }
     ensures { TakesHere packet_blocks LeavesBlocks ShowsReported HasNoneLeft datagram.now cursor.old cursor.new result }

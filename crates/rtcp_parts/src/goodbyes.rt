@@ -31,6 +31,7 @@ impl Walk for PlacedGoodbye {
 
     ghost lies_in = { HasReason };
 
+    #[inline(always)]
     fn take(datagram: &[u8], cursor: &mut Cursor) -> Option<PlacedGoodbye> {
         *cursor = ready(datagram, cursor);
         take_source(datagram, cursor)
@@ -38,6 +39,7 @@ impl Walk for PlacedGoodbye {
 }
 
 /// A walk at the next source: at the first of another goodbye where it is in none.
+#[inline(always)]
 fn ready(datagram: &[u8], cursor: &Cursor) -> Cursor
     requires { is_within (length datagram.now) cursor.now ≡ true }
     ensures { Readies packet_goodbyes LeavesGoodbyes datagram.now cursor.now result }
@@ -58,6 +60,7 @@ fn ready(datagram: &[u8], cursor: &Cursor) -> Cursor
 }
 
 /// Takes the next source of the goodbye that a walk is in.
+#[inline(always)]
 fn take_source(datagram: &[u8], cursor: &mut Cursor) -> Option<PlacedGoodbye>
     requires { is_within (length datagram.now) cursor.old ≡ true }
     ensures takes { TakesHere packet_goodbyes LeavesGoodbyes (PlacesGoodbye datagram.now) HasNoneLeft

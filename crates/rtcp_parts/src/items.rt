@@ -31,12 +31,14 @@ impl Walk for PlacedItem {
 
     ghost lies_in = { HasText };
 
+    #[inline(always)]
     fn take(datagram: &[u8], cursor: &mut Cursor) -> Option<PlacedItem> {
         item_from(datagram, cursor)
     }
 }
 
 /// Takes the next item, of this chunk or of a later one.
+#[inline(always)]
 fn item_from(datagram: &[u8], cursor: &mut Cursor) -> Option<PlacedItem>
     requires { is_within (length datagram.now) cursor.old ≡ true }
     ensures takes { TakesNext packet_items LeavesItems (PlacesItem datagram.now)
@@ -54,6 +56,7 @@ fn item_from(datagram: &[u8], cursor: &mut Cursor) -> Option<PlacedItem>
 }
 
 /// Takes the next item of the chunk that a walk is in.
+#[inline(always)]
 fn take_item(datagram: &[u8], cursor: &mut Cursor) -> Option<PlacedItem>
     requires { is_within (length datagram.now) cursor.old ≡ true }
     ensures takes { TakesHere packet_items LeavesItems (PlacesItem datagram.now) HasNoItem

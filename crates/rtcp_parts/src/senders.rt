@@ -49,6 +49,7 @@ impl Walk for Sender {
 
     ghost shows = { λ datagram. ShowsSender };
 
+    #[inline(always)]
     fn take(datagram: &[u8], cursor: &mut Cursor) -> Option<Sender> {
         let next = cursor.next as usize;
         *cursor = Cursor::ended(datagram.len());
@@ -60,6 +61,7 @@ impl Walk for Sender {
 }
 
 /// The sender that a sender report's body begins with.
+#[inline(always)]
 fn sender_from(body: &[u8]) -> Option<Sender>
     ensures { MatchOption result (length body.now < 24)
         (λ sender. (24 ≤ length body.now) × ShowsSender (sender_in (take 24 body.now)) sender) }

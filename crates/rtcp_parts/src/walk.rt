@@ -50,6 +50,8 @@ pub trait Walk: Copy {
     ///
     /// The datagram's first fault, where a walk begins over one that is not a compound. The cursor is then left as it
     /// was.
+    // Inlined with what it calls, as a host in C calls it for each part.
+    #[inline(always)]
     final fn next(datagram: &[u8], cursor: &mut Cursor) -> Result<Option<Self>, WireFault>
         ensures gives { Gives parts_of is_left (shows datagram.now) datagram.now cursor.old cursor.new result }
         ensures within { IfOk result (λ given. IfSome given (lies_in datagram.now)) }
