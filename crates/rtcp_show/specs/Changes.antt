@@ -7,7 +7,7 @@ use Rattle.rtcp_engine.specs.Lives.{WalksInLife}
 use Rattle.rtcp_engine.specs.Steps.{AnswerValue}
 use Rattle.rtcp_listing.specs.declared.change.Change.{Change}
 use Rattle.rtcp_listing.specs.declared.change.Role.TheVariants.{Away, Sender}
-use Rattle.rtcp_listing.specs.Differences.{ListedValue, changes, is_same, listed_of, rises_from}
+use Rattle.rtcp_listing.specs.Differences.{ListedValue, changes, is_gone, is_same, listed_of, rises_from, went_without_bye}
 use Rattle.rtcp_members.specs.Told.{StateValue}
 use Rattle.rtcp_text.specs.Text.{hex_word}
 use Rattle.rtcp_show.specs.Numbers.{moment_text}
@@ -23,10 +23,8 @@ change_text moment change =
     change.ssrc
     ++ line_where (is_same change.was Sender && not (is_same change.is Sender)) moment (codes " stopped-sending=")
     change.ssrc
-    ++ line_where (change.has_left && not (is_same change.was Away) && is_same change.is Away) moment (codes " bye=")
-    change.ssrc
-    ++ line_where (not change.has_left && not (is_same change.was Away) && is_same change.is Away) moment
-    (codes " timed-out=") change.ssrc
+    ++ line_where (change.has_left && is_gone change) moment (codes " bye=") change.ssrc
+    ++ line_where (went_without_bye change) moment (codes " timed-out=") change.ssrc
 
 -- What changed between two listings, each of which has its sources by rising SSRC, as a session's are told of.
 abbrev pub changes_text : (moment : ℕ) → (before after : List ListedValue) → List ℕ
