@@ -1,7 +1,7 @@
 """Parts of a page that all its sections use."""
 from __future__ import annotations
 
-from report_svg import SHAPES, number
+from reporting.svg import SHAPES, number
 
 MANY = "Where dots would cover each other, a bar spans the least and the greatest of them, with a line at their mean."
 

@@ -7,7 +7,7 @@ import math
 from collections.abc import Callable, Iterable
 from dataclasses import dataclass, field
 
-from report_clock import Clock
+from reporting.clock import Clock
 
 INK, FAINT, GRID = "var(--ink)", "var(--faint)", "var(--grid)"
 BLUE, GREEN, RED, ORANGE, PURPLE = "var(--blue)", "var(--green)", "var(--red)", "var(--orange)", "var(--purple)"

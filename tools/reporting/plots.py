@@ -3,9 +3,9 @@ from __future__ import annotations
 
 from collections import defaultdict
 
-from report_clock import Clock, seconds
-from report_session import DISMISSED, JOINED, SAID_BYE, TIMED_OUT, Compound, Heard, Report, Session
-from report_svg import BLUE, FAINT, GREEN, ORANGE, PURPLE, RED, Panel, Plot, Point, drawn, number, plural, ticks
+from reporting.clock import Clock, seconds
+from reporting.session import DISMISSED, JOINED, SAID_BYE, TIMED_OUT, Compound, Heard, Report, Session
+from reporting.svg import BLUE, FAINT, GREEN, ORANGE, PURPLE, RED, Panel, Plot, Point, drawn, number, plural, ticks
 
 from participant import HEADERS, SECOND
 

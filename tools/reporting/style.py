@@ -1,5 +1,5 @@
 """The style of a page: light or dark as the reader's system is, and for windows of any width."""
-from report_svg import NARROW, WIDE
+from reporting.svg import NARROW, WIDE
 
 STYLE = f"""
 :root {{ color-scheme: light dark; --paper: #fff; --ink: #222; --faint: #5f6368; --grid: #e2e2e2; --rule: #ccc;

@@ -3,12 +3,12 @@ from __future__ import annotations
 
 from dataclasses import dataclass
 
-import report_plots as plots
-from report_clock import endpoint
-from report_plots import clock_of
-from report_session import DISMISSED, JOINED, SAID_BYE, TIMED_OUT, Heard, Session
-from report_svg import BLUE, GREEN, PURPLE, RED, number, plural, shown
-from report_words import MANY, percent, section
+from reporting import plots
+from reporting.clock import endpoint
+from reporting.plots import clock_of
+from reporting.session import DISMISSED, JOINED, SAID_BYE, TIMED_OUT, Heard, Session
+from reporting.svg import BLUE, GREEN, PURPLE, RED, number, plural, shown
+from reporting.words import MANY, percent, section
 
 PLOTTED = 10  # sources with a plot of their own
 MOST_ROWS = 1500  # of the table of sources

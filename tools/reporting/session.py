@@ -14,9 +14,9 @@ from collections import Counter
 from dataclasses import dataclass, field
 from pathlib import Path
 
-sys.path.append(str(Path(__file__).resolve().parents[1] / "compare/model"))
+sys.path.append(str(Path(__file__).resolve().parents[2] / "compare/model"))
 
-from report_table import Table
+from reporting.table import Table
 
 import decoder
 import participant

@@ -3,14 +3,14 @@ from __future__ import annotations
 
 from collections import Counter
 
-import report_plots as plots
-from report_clock import duration_text, endpoint
-from report_plots import KIND_NAMES, LOOKS, clock_of, fault_of, rates_in_words
-from report_session import DISMISSED, Compound, Session
-from report_sources import name_of, one_by_one, losses, table_of_sources
-from report_style import STYLE
-from report_svg import BLUE, FAINT, GREEN, ORANGE, PURPLE, RED, number, plural, shown
-from report_words import MANY, percent, section
+from reporting import plots
+from reporting.clock import duration_text, endpoint
+from reporting.plots import KIND_NAMES, LOOKS, clock_of, fault_of, rates_in_words
+from reporting.session import DISMISSED, Compound, Session
+from reporting.sources import name_of, one_by_one, losses, table_of_sources
+from reporting.style import STYLE
+from reporting.svg import BLUE, FAINT, GREEN, ORANGE, PURPLE, RED, number, plural, shown
+from reporting.words import MANY, percent, section
 
 from participant import HEADERS, SECOND
 
