@@ -11,7 +11,7 @@ use Rattle.rtcp_members.specs.Pending.{EntryRow, first_ssrc, pending, blocks_of,
 use Rattle.rtcp_report.specs.declared.sender.Sender.{Sender}
 use Rattle.rtcp_report.specs.Reports.{SentValue, Reporter, cname_item, packets_with}
 use Rattle.rtcp_report.specs.Sizes.{first_report_size, item_size, report_size, reported_rows, report_of}
-use Rattle.rtcp_report.specs.Gathered.{IsWritten}
+use Rattle.rtcp_report.specs.Gathered.{IsReport, IsWritten}
 use Rattle.rtcp_report.specs.Views.{items_of, reporter_with, sent_value}
 use Rattle.rtcp_report.proofs.ReportSizes.{packets_length}
 use Rattle.rtcp_report.proofs.Prefixes.{size_rises, front_is}
@@ -53,16 +53,6 @@ items_writable cname extra items is short can =
 
 -- ---- The whole
 
--- What a call ensures of its octets, and of the table and the cursor after it.
-pub record IsReport (reporter : Reporter) (limit t : ℕ) (last : Option ℕ) (table : TableValue) (octets : List ℕ)
-    (after : TableValue) (cursor : Option ℕ) : Type 0 where
-  pub octets_are : octets ≡ written_all (report_of reporter limit t last table)
-  pub within : length octets ≤ limit
-  pub size : length octets ≡ report_size reporter (length (reported_rows reporter limit last table))
-  pub reads_back : IsAccepted octets (report_of reporter limit t last table)
-  pub content : after ≡ after_blocks (reported_rows reporter limit last table) table
-  pub cursor_is : cursor ≡ last_reported last (reported_rows reporter limit last table)
-
 module _ (limit most t : ℕ) (last : Option ℕ) (table : TableValue) (given reporter : Reporter) (same : given ≡ reporter)
     (fits : report_size given most ≤ limit) (greatest : limit < report_size given (most + 1)) where
   rows_are : take most (pending last table) ≡ reported_rows reporter limit last table
@@ -91,12 +81,12 @@ module _ (limit most t : ℕ) (last : Option ℕ) (table : TableValue) (given re
       let count : length blocks ≡ length (reported_rows reporter limit last table) = is.count
       ∙ ap (λ (rows : List EntryRow). length rows) rows_are in
       record {
-        octets_are = is.octets_are ∙ ap (λ (p : List RtcpPacket). written_all p) packets;
+        octets = is.octets_are ∙ ap (λ (p : List RtcpPacket). written_all p) packets;
         within = omega (arith, size, within_limit blocks is.count);
         size = size ∙ (λ i. report_size (same i) (count i));
         reads_back = subst (IsAccepted octets) packets is.reads_back;
         content = is.content ∙ ap (λ (rows : List EntryRow). after_blocks rows table) rows_are;
-        cursor_is = is.cursor_is ∙ ap (last_reported last) rows_are;
+        cursor = is.cursor_is ∙ ap (last_reported last) rows_are;
       }
 
 -- ---- No source

@@ -11,10 +11,7 @@ use Rattle.rtcp_wire.specs.WriterViews.{item_ref_of, packet_ref_of}
 use Rattle.rtcp_report.specs.declared.sender.Sender.{Sender}
 use Rattle.rtcp_report.specs.declared.sender.SrPart.{SrPart}
 use Rattle.rtcp_report.specs.declared.sender.Item.{Item}
-use Rattle.rtcp_members.specs.Tables.{TableValue}
-use Rattle.rtcp_members.specs.Pending.{EntryRow}
 use Rattle.rtcp_report.specs.Reports.{SentValue, Reporter, cname_item, reports_with, packets_with}
-use Rattle.rtcp_report.specs.Sizes.{reported_rows, report_of}
 
 abbrev pub sent_value : SrPart → SentValue
 sent_value s = record { ntp = s.ntp; rtp = s.rtp; packets = s.packets; octets = s.octets }
@@ -46,13 +43,3 @@ described_by s blocks description = reports_of s (map block_value blocks) ++ pac
 -- the packets of a report with these blocks, and a description of these items
 abbrev pub packets_by : Sender → List ItemRef → List Block → List RtcpPacket
 packets_by s items blocks = packets_with (reporter_with s (map item_ref_of items)) (map block_value blocks)
-
--- the sources that a sender with this extra item reports
-abbrev pub reported_by : Sender → Option (Bor Item) → (limit : ℕ) → (last : Option ℕ) → TableValue →
-    List EntryRow
-reported_by s extra limit last table = reported_rows (reporter_of s extra) limit last table
-
--- the packets of its report at the moment `t`
-abbrev pub compound_by : Sender → Option (Bor Item) → (limit t : ℕ) → (last : Option ℕ) → TableValue →
-    List RtcpPacket
-compound_by s extra limit t last table = report_of (reporter_of s extra) limit t last table

@@ -7,10 +7,10 @@ ghost use Rattle.rtcp_wire.specs.Values.{ReportBlock};
 ghost use Rattle.rtcp_wire.specs.Writing.{written_all, IsWritableItem};
 ghost use Rattle.rtcp_wire.specs.WriterViews.{item_ref_of};
 ghost use Rattle.rtcp_members.specs.Pending.{after_blocks, first_ssrc, last_reported, pending};
-ghost use Rattle.rtcp_report.specs.Gathered.{IsWritten};
+ghost use Rattle.rtcp_report.specs.Gathered.{IsReport, IsWritten};
 ghost use Rattle.rtcp_report.specs.Reports.{Reporter, packets_with};
 ghost use Rattle.rtcp_report.specs.Sizes.{report_size};
-ghost use Rattle.rtcp_report.specs.Views.{items_of, extra_of, reporter_with, reporter_of, reported_by, compound_by};
+ghost use Rattle.rtcp_report.specs.Views.{items_of, extra_of, reporter_with, reporter_of};
 
 use crate::description::{Description, description_size};
 use crate::gathering::{Turn, gather};
@@ -53,18 +53,8 @@ pub fn report<T: MemberTable>(
     requires most { limit ≤ 1472 }
     requires cname { length sender.now.cname.now ≤ 255 }
     requires extra { ForSome (extra_of extra) IsWritableItem }
-    ensures octets { result.items
-        ≡ written_all (compound_by sender.now extra.entry limit t cursor.old (T.content table.old)) }
-    ensures within { length result.items ≤ limit }
-    ensures size { length result.items ≡ report_size (reporter_of sender.now extra.entry)
-        (length (reported_by sender.now extra.entry limit cursor.old (T.content table.old))) }
-    ensures reads_back { IsAccepted result.items
-        (compound_by sender.now extra.entry limit t cursor.old (T.content table.old)) }
-    ensures content { T.content table.new
-        ≡ after_blocks (reported_by sender.now extra.entry limit cursor.old (T.content table.old))
-        (T.content table.old) }
-    ensures cursor { cursor.new ≡ last_reported cursor.old
-        (reported_by sender.now extra.entry limit cursor.old (T.content table.old)) }
+    ensures { IsReport (reporter_of sender.now extra.entry) limit t cursor.old (T.content table.old)
+        result.items (T.content table.new) cursor.new }
 {
     let mut octets = ArrayVec::new();
     write_report(sender, table, t, limit, cursor, extra, &mut octets);
@@ -86,18 +76,8 @@ pub fn write_report<T: MemberTable>(
     requires most { limit ≤ 1472 }
     requires cname { length sender.now.cname.now ≤ 255 }
     requires extra { ForSome (extra_of extra) IsWritableItem }
-    ensures octets { octets.new.items
-        ≡ written_all (compound_by sender.now extra.entry limit t cursor.old (T.content table.old)) }
-    ensures within { length octets.new.items ≤ limit }
-    ensures size { length octets.new.items ≡ report_size (reporter_of sender.now extra.entry)
-        (length (reported_by sender.now extra.entry limit cursor.old (T.content table.old))) }
-    ensures reads_back { IsAccepted octets.new.items
-        (compound_by sender.now extra.entry limit t cursor.old (T.content table.old)) }
-    ensures content { T.content table.new
-        ≡ after_blocks (reported_by sender.now extra.entry limit cursor.old (T.content table.old))
-        (T.content table.old) }
-    ensures cursor { cursor.new ≡ last_reported cursor.old
-        (reported_by sender.now extra.entry limit cursor.old (T.content table.old)) }
+    ensures { IsReport (reporter_of sender.now extra.entry) limit t cursor.old (T.content table.old)
+        octets.new.items (T.content table.new) cursor.new }
 {
     let description = Description::new(sender.cname, extra);
     let items = description.items();

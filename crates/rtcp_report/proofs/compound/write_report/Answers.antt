@@ -39,37 +39,21 @@ returns-then-is_none g c =
       | else-most-eq0 w ↦ none_waits most c.args.cursor.now start (sym w.next_with_news-first.ensures ∙ sym w.first-is
           ∙ none)
     ] in
-    let is = whole_report c.args.limit most c.args.t c.args.cursor.now start (reporter_with c.args.sender.now items)
+    whole_report c.args.limit most c.args.t c.args.cursor.now start (reporter_with c.args.sender.now items)
     (reporter_of c.args.sender.now c.args.extra) same c.most_blocks-most.ensures.fits
     c.most_blocks-most.ensures.greatest
     [] c.write.new.octets.items start c.args.cursor.now
     (without_blocks most c.args.t c.args.cursor.now start (reporter_with c.args.sender.now items)
-    c.write.new.octets.items rows c.write.ensures.octets c.write.ensures.reads_back) in
-    record {
-      octets = is.octets_are;
-      within = is.within;
-      size = is.size;
-      reads_back = is.reads_back;
-      content = is.content;
-      cursor = is.cursor_is;
-    }
+    c.write.new.octets.items rows c.write.ensures.octets c.write.ensures.reads_back)
 
 pub returns : goal.returns
 returns g c =
     let start = g.T.MemberTable.content c.args.table.now in
     let items = map item_ref_of c.items-items.result.now in
     let same = ap (reporter_with c.args.sender.now) (c.items-items.ensures ∙ c.new-description.ensures) in
-    let is = whole_report c.args.limit c.most_blocks-most.result c.args.t c.args.cursor.now start
+    whole_report c.args.limit c.most_blocks-most.result c.args.t c.args.cursor.now start
     (reporter_with c.args.sender.now items) (reporter_of c.args.sender.now c.args.extra) same
     c.most_blocks-most.ensures.fits c.most_blocks-most.ensures.greatest
     c.write_with_blocks.ensures.0 c.write_with_blocks.new.octets.items
     (g.T.MemberTable.content c.write_with_blocks.new.table) c.write_with_blocks.new.cursor
-    c.write_with_blocks.ensures.1 in
-    record {
-      octets = is.octets_are;
-      within = is.within;
-      size = is.size;
-      reads_back = is.reads_back;
-      content = is.content;
-      cursor = is.cursor_is;
-    }
+    c.write_with_blocks.ensures.1
