@@ -108,12 +108,6 @@ pub one_fails : {A B : Type 0} (P : B → Type 0) (view : A → B) (xs : List A)
 one_fails P view xs i d test lt is fails =
     ((λ no. absurd (cc)), (λ all. sym fails ∙ is.1 (all_here P view xs i d lt all)))
 
--- Where an item passes its test, one more holds.
-pub one_passes : {A B : Type 0} (P : B → Type 0) (view : A → B) (xs : List A) (i : ℕ) (d : A) (test : Bool) →
-    i < length xs → IsTrue test ↔ P (view (get_or xs i d)) → test ≡ true → All P (map view (take i xs)) →
-    All P (map view (take (i + 1) xs))
-one_passes P view xs i d test lt is passes before = all_more P view xs i d lt before (is.0 passes)
-
 -- Where each passes, all hold.
 pub each_passes : {A B : Type 0} (P : B → Type 0) (view : A → B) (xs : List A) (i : ℕ) → length xs ≤ i →
     All P (map view (take i xs)) → IsTrue true ↔ All P (map view xs)

@@ -1,6 +1,7 @@
 //! Which packets can be written.
 
 ghost use Rattle.std.specs.Prelude.{◌≡◌, ◌≤◌, ◌↔◌, All, IsTrue, map, option_copied};
+ghost use Rattle.rtcp_wire.specs.Values.{ChunkValue, ItemValue, ReportBlock};
 ghost use Rattle.rtcp_wire.specs.Views.{block_value};
 ghost use Rattle.rtcp_wire.specs.WriterViews.{item_ref_of, chunk_ref_of, packet_ref_of};
 ghost use Rattle.rtcp_wire.specs.Writing.{IsWords, IsWritableBlock, IsWritableItem, IsWritableChunk, IsWritableReason, IsWritableEnd, HasWritableParts, IsWritable};
@@ -55,7 +56,7 @@ fn has_writable_parts(packet: &PacketRef<'_>) -> bool
             extension,
             ..
         } => is_writable_end(blocks, extension),
-        PacketRef::Sdes { chunks } => chunks.len() <= MAX_COUNT && are_writable_chunks(chunks),
+        PacketRef::Sdes { chunks } => chunks.len() <= MAX_COUNT && are_writable(chunks),
         PacketRef::Bye { ids, reason } => ids.len() <= MAX_COUNT && is_writable_reason(reason),
         PacketRef::App { subtype, data, .. } => subtype as usize <= MAX_COUNT && is_words(data),
         PacketRef::Other { kind, count, body } => {
@@ -69,52 +70,67 @@ fn has_writable_parts(packet: &PacketRef<'_>) -> bool
 fn is_writable_end(blocks: &[Block], extension: &[u8]) -> bool
     ensures { IsTrue result ↔ IsWritableEnd (map block_value blocks.now) extension.now }
 {
-    blocks.len() <= MAX_COUNT && are_writable_blocks(blocks) && is_words(extension)
+    blocks.len() <= MAX_COUNT && are_writable(blocks) && is_words(extension)
 }
 
-fn are_writable_blocks(blocks: &[Block]) -> bool
-    ensures { IsTrue result ↔ All IsWritableBlock (map block_value blocks.now) }
+/// A part of a packet, of which there may be several.
+trait Part {
+    ghost Value: { Type 0 };
+
+    ghost view: { Self → Value };
+
+    ghost may_be_written: { Value → Type 0 };
+
+    /// Whether the part can be written.
+    fn is_writable(&self) -> bool
+        ensures { IsTrue result ↔ may_be_written (view self.now) };
+}
+
+impl Part for Block {
+    ghost Value = { ReportBlock };
+
+    ghost view = { block_value };
+
+    ghost may_be_written = { IsWritableBlock };
+
+    fn is_writable(&self) -> bool {
+        MIN_LOST <= self.lost && self.lost <= MAX_LOST
+    }
+}
+
+impl Part for ChunkRef<'_> {
+    ghost Value = { ChunkValue };
+
+    ghost view = { chunk_ref_of };
+
+    ghost may_be_written = { IsWritableChunk };
+
+    fn is_writable(&self) -> bool {
+        are_writable(self.items)
+    }
+}
+
+impl Part for ItemRef<'_> {
+    ghost Value = { ItemValue };
+
+    ghost view = { item_ref_of };
+
+    ghost may_be_written = { IsWritableItem };
+
+    fn is_writable(&self) -> bool {
+        self.kind != 0 && self.text.len() <= MAX_TEXT
+    }
+}
+
+fn are_writable<P: Part>(parts: &[P]) -> bool
+    ensures { IsTrue result ↔ All P.may_be_written (map P.view parts.now) }
 {
-    for block in blocks {
-        if !is_writable_block(block) {
+    for part in parts {
+        if !part.is_writable() {
             return false;
         }
     }
     true
-}
-
-fn is_writable_block(block: &Block) -> bool
-    ensures { IsTrue result ↔ IsWritableBlock (block_value block.now) }
-{
-    MIN_LOST <= block.lost && block.lost <= MAX_LOST
-}
-
-fn are_writable_chunks(chunks: &[ChunkRef<'_>]) -> bool
-    ensures { IsTrue result ↔ All IsWritableChunk (map chunk_ref_of chunks.now) }
-{
-    for chunk in chunks {
-        if !are_writable_items(chunk.items) {
-            return false;
-        }
-    }
-    true
-}
-
-fn are_writable_items(items: &[ItemRef<'_>]) -> bool
-    ensures { IsTrue result ↔ All IsWritableItem (map item_ref_of items.now) }
-{
-    for item in items {
-        if !is_writable_item(item) {
-            return false;
-        }
-    }
-    true
-}
-
-fn is_writable_item(item: &ItemRef<'_>) -> bool
-    ensures { IsTrue result ↔ IsWritableItem (item_ref_of item.now) }
-{
-    item.kind != 0 && item.text.len() <= MAX_TEXT
 }
 
 fn is_writable_reason(reason: Option<&[u8]>) -> bool
