@@ -2,7 +2,7 @@
 //! that speak, and hosts that ask every 20 milliseconds whether a report is due.
 
 use crate::digest::Digest;
-use crate::jobs::datagram::{Datagram, Media};
+use crate::jobs::datagram::Traffic;
 use crate::jobs::host::{Host, Setup};
 use crate::random::{Random, ssrc_of};
 use std::alloc::{AllocError, Global};
@@ -15,15 +15,6 @@ const MEMBERS: u32 = 1_000;
 
 /// How many microseconds lie between two calls of a session's timer.
 const TURN: u64 = 20_000;
-
-/// What comes in.
-#[derive(Drop)]
-struct Traffic {
-    seed: u32,
-    random: Random,
-    media: Media,
-    report: Datagram,
-}
 
 /// The digest of so many turns of 20 milliseconds.
 ///
@@ -44,12 +35,7 @@ pub fn run(alloc: Global, turns: u32, seed: u32) -> Result<Digest, AllocError> {
             hosts.push(host)?;
         }
     }
-    let mut traffic = Traffic {
-        seed,
-        random,
-        media: Media::new(),
-        report: Datagram::new(),
-    };
+    let mut traffic = Traffic::new(seed, random);
     let mut digest = Digest::new();
     for turn in 0..turns {
         for number in 0..SESSIONS {

@@ -143,13 +143,7 @@ fn full_kind(random: &mut Random) -> Kind {
     let mut datagram = Datagram::new();
     put_full(&mut datagram, random);
     datagram.description(7);
-    let mut line = HexLine::new();
-    line.push_octets(datagram.as_slice());
-    Kind {
-        line,
-        first_block: 7,
-        blocks: 31,
-    }
+    kind_of(&datagram)
 }
 
 /// A sender report with 31 blocks, a receiver report with 17, eight descriptions and a goodbye.
@@ -171,6 +165,11 @@ fn several_kind(random: &mut Random) -> Kind {
     datagram.word(random.word());
     datagram.word(0x0662_7965);
     datagram.word(0x2062_7965);
+    kind_of(&datagram)
+}
+
+/// A datagram that begins with a sender report with 31 blocks.
+fn kind_of(datagram: &Datagram) -> Kind {
     let mut line = HexLine::new();
     line.push_octets(datagram.as_slice());
     Kind {

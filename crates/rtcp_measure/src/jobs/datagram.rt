@@ -141,3 +141,24 @@ impl Media {
         self.octets[8..12].copy_from_slice(&ssrc.to_be_bytes());
     }
 }
+
+/// What comes to several sessions in turn.
+#[derive(Drop)]
+pub struct Traffic {
+    pub seed: u32,
+    pub random: Random,
+    pub media: Media,
+    pub report: Datagram,
+}
+
+impl Traffic {
+    /// Nothing yet.
+    pub fn new(seed: u32, random: Random) -> Traffic {
+        Traffic {
+            seed,
+            random,
+            media: Media::new(),
+            report: Datagram::new(),
+        }
+    }
+}

@@ -3,7 +3,7 @@
 use crate::digest::Digest;
 use crate::random::Random;
 use arrayvec::ArrayVec;
-use rtcp_engine::{Config, Participant};
+use rtcp_engine::{Config, Participant, Reply};
 use rtcp_members::{HeapTable, SourceState};
 use std::alloc::{AllocError, Global};
 
@@ -80,14 +80,7 @@ impl Host {
         let reply = self
             .participant
             .arrive_rtp_into(now, peer, word, octets, &mut self.room);
-        digest.reply(&reply, &self.room);
-        match reply {
-            Ok(told) => {
-                self.next = told.standing.next.unwrap_or(u64::MAX);
-                told.others_changed
-            }
-            Err(_) => false,
-        }
+        self.take(&reply, digest)
     }
 
     /// An RTCP datagram came. Returns whether who is there changed.
@@ -102,14 +95,7 @@ impl Host {
         let reply = self
             .participant
             .arrive_rtcp_into(now, peer, word, octets, &mut self.room);
-        digest.reply(&reply, &self.room);
-        match reply {
-            Ok(told) => {
-                self.next = told.standing.next.unwrap_or(u64::MAX);
-                told.others_changed
-            }
-            Err(_) => false,
-        }
+        self.take(&reply, digest)
     }
 
     /// The host sent a packet of 160 octets.
@@ -127,7 +113,12 @@ impl Host {
         let reply = self
             .participant
             .tick_into(now, first, second, &mut self.room);
-        digest.reply(&reply, &self.room);
+        self.take(&reply, digest)
+    }
+
+    /// Mixes a reply. Returns whether who is there changed.
+    fn take(&mut self, reply: &Reply, digest: &mut Digest) -> bool {
+        digest.reply(reply, &self.room);
         match reply {
             Ok(told) => {
                 self.next = told.standing.next.unwrap_or(u64::MAX);

@@ -1,7 +1,7 @@
 //! Who is there: each second, sessions of 1,000 sources are listed, and what changed since the last listing is told.
 
 use crate::digest::Digest;
-use crate::jobs::datagram::{Datagram, Media};
+use crate::jobs::datagram::Traffic;
 use crate::jobs::host::{Host, Setup};
 use crate::random::{Random, ssrc_of};
 use rtcp_engine::{Changes, is_rising};
@@ -20,15 +20,6 @@ struct Watched {
     host: Host,
     before: Vec<SourceState>,
     after: Vec<SourceState>,
-}
-
-/// What comes in.
-#[derive(Drop)]
-struct Traffic {
-    seed: u32,
-    random: Random,
-    media: Media,
-    report: Datagram,
 }
 
 /// The digest of so many seconds.
@@ -54,12 +45,7 @@ pub fn run(alloc: Global, seconds: u32, seed: u32) -> Result<Digest, AllocError>
             })?;
         }
     }
-    let mut traffic = Traffic {
-        seed,
-        random,
-        media: Media::new(),
-        report: Datagram::new(),
-    };
+    let mut traffic = Traffic::new(seed, random);
     let mut digest = Digest::new();
     for second in 0..seconds {
         for number in 0..SESSIONS {
