@@ -62,37 +62,6 @@ terms = record { sender_bw = 16; receiver_bw = 16; size = 48; percent = 100 }
 abbrev pub pair : List Joined
 pair = who_hears 187 170 ∷ who_hears 170 187 ∷ []
 
-four_reports : total_reports 2462496 2462489 pair ≡ 4
-four_reports = refl
-
-pub two_later : total_as false 2462496 2462489 pair ≡ 2
-two_later = refl
-
-four_allowed : length pair + carried_in 2462489 terms.receiver_bw terms ≡ 4
-four_allowed = refl
-
--- The interval then computed fits into the window, and nothing more does.
-six_seconds_of : intervals_of (later_ones
-    (in_window 2462489 2462489 (reports_in (sent_at (who_hears 187 170).history)))) ≡ 6000000
-six_seconds_of = refl
-
-six_seconds_fit : 2 * 121828 * 2462489 / 100000 ≡ 6000002
-six_seconds_fit = refl
-
--- So many are allowed by intervals of 6 seconds, and only one by intervals of twice that length.
-two_allowed : 1 + 2 * 121828 * 2462489 / (100000 * 6000000) ≡ 2
-two_allowed = refl
-
-one_by_twice : 1 + 2 * 121828 * 2462489 / (100000 * 12000000) ≡ 1
-one_by_twice = refl
-
--- Each leaves room for two compounds of 48 octets, and no room is left.
-share_of_two : shares_within 2462496 2462489 (who_hears 187 170) ≡ 24576
-share_of_two = refl
-
-room_for_two : 2 * 121828 * 2462489 * (256 * 16) / (100000 * 1000000) ≡ 24576
-room_for_two = refl
-
 -- The other is heard, and counted.
 hears_other : (outcome : Outcome) → is_such is_member (entry_at 1024 outcome.trace 187) ≡ true →
     AreHeard is_member (setup_of 170) outcome (187 ∷ [])
@@ -103,10 +72,6 @@ hears_other outcome is = record {
       (All-nil (λ (ssrc : ℕ). is_such is_member (entry_at 1024 outcome.trace ssrc) ≡ true));
 }
 
-is_heard : map (λ decided. is_such is_member (entry_at 1024 decided.outcome.trace 187))
-    (later_within 2462496 2462489 (who_hears 187 170)) ≡ true ∷ []
-is_heard = refl
-
 -- ---- One that sends, and another
 
 abbrev pub sender : Joined
@@ -114,12 +79,6 @@ sender = joined_with 170 (ticked 3283319 0 0 ∷ ticked 1231245 0 0 ∷ rtp_sent
 
 abbrev mixed : List Joined
 mixed = sender ∷ who_hears 170 187 ∷ []
-
-four_of_both : total_reports 0 5000000 mixed ≡ 4
-four_of_both = refl
-
-ten_allowed : length mixed + carried_in 5000000 (terms.sender_bw + terms.receiver_bw) terms ≡ 10
-ten_allowed = refl
 
 -- ---- Three, of which one sends
 
@@ -150,12 +109,6 @@ other_of_three other ssrc = joined_with ssrc
 abbrev three : List Joined
 three = sender_of_three ∷ other_of_three 204 187 ∷ other_of_three 187 204 ∷ []
 
-six_of_three : total_reports 0 5100000 three ≡ 6
-six_of_three = refl
-
-eleven_allowed : length three + carried_in 5100000 (terms.sender_bw + terms.receiver_bw) terms ≡ 11
-eleven_allowed = refl
-
 -- ---- One that begins to send and ceases, and another
 
 -- It reports as one that does not send, then as a sender, and again as one that does not.
@@ -165,9 +118,6 @@ turning = joined_with 170 (ticked 12600000 0 0 ∷ ticked 4924978 0 0 ∷ rtp_se
 
 abbrev turning_pair : List Joined
 turning_pair = turning ∷ who_hears 170 187 ∷ []
-
-roles : map (λ decided. (load_at decided).we_sent) (decided_within 0 13000000 turning) ≡ false ∷ true ∷ false ∷ []
-roles = refl
 
 -- ---- They are crowds, by a test that computes
 
@@ -320,3 +270,28 @@ three_are_crowd = crowd_of terms 0 5100000 three refl
 
 turning_is_crowd : IsCrowd terms 0 13000000 turning_pair
 turning_is_crowd = crowd_of terms 0 13000000 turning_pair refl
+
+record Crowds : Type 0 where
+  four_reports : total_reports 2462496 2462489 pair ≡ 4
+  two_later : total_as false 2462496 2462489 pair ≡ 2
+  four_allowed : length pair + carried_in 2462489 terms.receiver_bw terms ≡ 4
+  -- The interval then computed fits into the window, and nothing more does.
+  six_seconds_of : intervals_of (later_ones
+      (in_window 2462489 2462489 (reports_in (sent_at (who_hears 187 170).history)))) ≡ 6000000
+  six_seconds_fit : 2 * 121828 * 2462489 / 100000 ≡ 6000002
+  -- So many are allowed by intervals of 6 seconds, and only one by intervals of twice that length.
+  two_allowed : 1 + 2 * 121828 * 2462489 / (100000 * 6000000) ≡ 2
+  one_by_twice : 1 + 2 * 121828 * 2462489 / (100000 * 12000000) ≡ 1
+  -- Each leaves room for two compounds of 48 octets, and no room is left.
+  share_of_two : shares_within 2462496 2462489 (who_hears 187 170) ≡ 24576
+  room_for_two : 2 * 121828 * 2462489 * (256 * 16) / (100000 * 1000000) ≡ 24576
+  is_heard : map (λ decided. is_such is_member (entry_at 1024 decided.outcome.trace 187))
+      (later_within 2462496 2462489 (who_hears 187 170)) ≡ true ∷ []
+  four_of_both : total_reports 0 5000000 mixed ≡ 4
+  ten_allowed : length mixed + carried_in 5000000 (terms.sender_bw + terms.receiver_bw) terms ≡ 10
+  six_of_three : total_reports 0 5100000 three ≡ 6
+  eleven_allowed : length three + carried_in 5100000 (terms.sender_bw + terms.receiver_bw) terms ≡ 11
+  roles : map (λ decided. (load_at decided).we_sent) (decided_within 0 13000000 turning) ≡ false ∷ true ∷ false ∷ []
+
+crowds : Crowds
+crowds = search

@@ -94,9 +94,6 @@ pair_is_counted = counted_of terms 2462496 2462489 pair refl
 pub average_of_pair : averages_of (waits_as false (all_waits 2462496 2462489 pair)) ≡ 24576
 average_of_pair = refl
 
-room_of_pair : 2 * 121828 * 2462489 * (256 * 16) / (100000 * 1000000) ≡ 24576
-room_of_pair = refl
-
 -- ---- One that sends, alone
 
 abbrev pub large_setup : (ssrc : ℕ) → Setup
@@ -111,21 +108,8 @@ alone = large_with 170 (ticked 6480065 0 0 ∷ ticked 4309355 0 0 ∷ rtp_sent 2
 pub average_of_one : averages_of (all_waits 4309362 2170710 alone) ≡ 43328
 average_of_one = refl
 
-room_of_one : 2 * 121828 * 2170710 * (256 * (16 + 16)) / (100000 * 1000000) ≡ 43328
-room_of_one = refl
-
 pub alone_is_counted : IsCounted terms 4309362 2170710 alone
 alone_is_counted = counted_of terms 4309362 2170710 alone refl
-
--- Its two reports are as many as may be by its average, of 169 octets. By the least size, 48, four might be.
-two_reports : total_reports 4309362 2170710 alone ≡ 2
-two_reports = refl
-
-two_by_average : length alone + carried_in 2170710 (rtcp_bw terms) (record terms { size = 169 }) ≡ 2
-two_by_average = refl
-
-four_by_size : length alone + carried_in 2170710 (rtcp_bw terms) terms ≡ 4
-four_by_size = refl
 
 -- ---- One after another
 
@@ -145,12 +129,6 @@ comes = record (who_hears 170 204) { start = 5000007 }
 
 abbrev pub turnover : List Joined
 turnover = stays ∷ goes ∷ comes ∷ []
-
--- Three report, at most two wait at a time, and each counts two.
-three_wait : map (λ wait. wait.since ∷ wait.until ∷ (load_at wait.next).members ∷ []) (all_waits 0 10000000 turnover)
-    ≡ (7410007 ∷ 9880007 ∷ 2 ∷ []) ∷ (4924985 ∷ 7410007 ∷ 2 ∷ []) ∷ (2462496 ∷ 4924985 ∷ 2 ∷ [])
-    ∷ (2462496 ∷ 4924985 ∷ 2 ∷ []) ∷ (7462496 ∷ 9924985 ∷ 2 ∷ []) ∷ []
-three_wait = refl
 
 pub turnover_is_counted : IsCounted terms 0 10000000 turnover
 turnover_is_counted = counted_of terms 0 10000000 turnover refl
@@ -213,3 +191,18 @@ with_one_deaf = sends_aware 170 171 ∷ sends_aware 171 170 ∷ hears_nobody ∷
 
 pub average_with_one_deaf : averages_of (all_waits 6464041 13239066 with_one_deaf) ≡ 304424
 average_with_one_deaf = refl
+
+record Waits : Type 0 where
+  room_of_pair : 2 * 121828 * 2462489 * (256 * 16) / (100000 * 1000000) ≡ 24576
+  room_of_one : 2 * 121828 * 2170710 * (256 * (16 + 16)) / (100000 * 1000000) ≡ 43328
+  -- Its two reports are as many as may be by its average, of 169 octets. By the least size, 48, four might be.
+  two_reports : total_reports 4309362 2170710 alone ≡ 2
+  two_by_average : length alone + carried_in 2170710 (rtcp_bw terms) (record terms { size = 169 }) ≡ 2
+  four_by_size : length alone + carried_in 2170710 (rtcp_bw terms) terms ≡ 4
+  -- Three report, at most two wait at a time, and each counts two.
+  three_wait : map (λ wait. wait.since ∷ wait.until ∷ (load_at wait.next).members ∷ []) (all_waits 0 10000000 turnover)
+      ≡ (7410007 ∷ 9880007 ∷ 2 ∷ []) ∷ (4924985 ∷ 7410007 ∷ 2 ∷ []) ∷ (2462496 ∷ 4924985 ∷ 2 ∷ [])
+      ∷ (2462496 ∷ 4924985 ∷ 2 ∷ []) ∷ (7462496 ∷ 9924985 ∷ 2 ∷ []) ∷ []
+
+waits : Waits
+waits = search
