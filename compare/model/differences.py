@@ -126,7 +126,7 @@ def ways_of_hosts(octets, answers):
     """What a host said beside, and was taken."""
     for line, answer in zip(lines_of(octets), answers.splitlines()[1:]):
         if answer.startswith("ok") and line.startswith((b"configure ", b"forget ")):
-            yield "settings" if line.startswith(b"configure ") else "dismissal"
+            yield "settings" if line.startswith(b"configure ") else "forget"
 
 
 def kinds_of(octets, answers, fault):

@@ -422,7 +422,7 @@ class History:
         moment = choose(self.rng, (9, self.advance()), (1, self.moment + self.rng.randrange(1000 * SECOND)))
         return f"leave {moment} {random_word(self.rng):08x}"
 
-    def farewell_line(self):
+    def bye_line(self):
         """A compound with BYE packets, among others."""
         rng, pool = self.rng, self.pool()
         count = choose(rng, (6, 1), (3, rng.randrange(2, 6)), (1, rng.randrange(60)))
@@ -434,11 +434,11 @@ class History:
 
     def backoff_line(self):
         rng = self.rng
-        kind = choose(rng, (6, "farewell"), (4, "tick"), (1, "leave"), (3, "any"), (2, "colliding"), (0.4, "settings"),
+        kind = choose(rng, (6, "bye"), (4, "tick"), (1, "leave"), (3, "any"), (2, "colliding"), (0.4, "settings"),
                       (0.4, "forget"))
         if kind == "tick":
             return f"tick {self.tick_moment()} {random_word(rng):08x} {random_word(rng):08x}"
-        makers = {"farewell": self.farewell_line, "leave": self.leave_line, "any": self.line,
+        makers = {"bye": self.bye_line, "leave": self.leave_line, "any": self.line,
                   "colliding": self.colliding_line, "forget": self.forgetting_line,
                   "settings": lambda: f"configure {self.advance()} {random_settings(rng)}"}
         return makers[kind]()
@@ -523,7 +523,7 @@ def many_leave(rng, sources, start):
         yield f"tick {moment} {random_word(rng):08x} {random_word(rng):08x}"
 
 
-def many_say_goodbye(rng, sources, start):
+def many_send_byes(rng, sources, start):
     """One to five BYE packets in a datagram, with a tick after each; then ticks that lie further and further apart."""
     moment = start
     while sources:
@@ -552,11 +552,11 @@ def ending_session(seed):
     sources, end = rng.sample(range(1000, 2**32), 1100), 11 * SECOND
     lines = [*many_join(rng, sources), f"sent {end} 0 160", *(collision(end, number, sources) for number in range(3))]
     lines += [f"sent {end} 0 160", f"leave {end} {random_word(rng):08x}", collision(end, 3, sources)]
-    farewells = list(many_say_goodbye(rng, sources, end))
+    byes = list(many_send_byes(rng, sources, end))
     for number in range(4, 10):
-        moment = int(farewells[40 * number].split(" ")[1])
-        farewells.insert(40 * number + 1, collision(moment, number, sources))
-    return "".join(line + "\n" for line in lines + farewells).encode()
+        moment = int(byes[40 * number].split(" ")[1])
+        byes.insert(40 * number + 1, collision(moment, number, sources))
+    return "".join(line + "\n" for line in lines + byes).encode()
 
 
 def large_session(seed):

@@ -222,7 +222,7 @@ class Source:
         jitter = jitter_of(self.transits, self.rates)
         return len(self.integers), self.lost(), self.greatest[-1] % 2**32, jitter, self.rates[-1]
 
-    def told(self, ssrc):
+    def listed(self, ssrc):
         """The line that tells of it."""
         member, sender, left = int(self.is_member()), int(self.counts_as_sender()), self.left
         received, lost, highest, jitter, rate = self.reception()
@@ -319,7 +319,7 @@ class Participant:
     def others(self):
         """What the answer to the last call says of the others, and a line for each source that is told of."""
         told = sorted(self.sources) if self.is_present() else []
-        lines = "".join(self.sources[ssrc].told(ssrc) for ssrc in told)
+        lines = "".join(self.sources[ssrc].listed(ssrc) for ssrc in told)
         return f" others={int(self.others_changed)} entries={self.entries()}\n{lines}"
 
     def begin_call(self, moment):
@@ -351,9 +351,9 @@ class Participant:
         self.listed.append(peer)
         out = "-"
         if self.has_sent():
-            goodbye = self.goodbye_compound()
-            self.move_average(len(goodbye))
-            out = "bye:" + goodbye.hex()
+            bye = self.bye_compound()
+            self.move_average(len(bye))
+            out = "bye:" + bye.hex()
         self.earlier.append(self.ssrc)
         taken = {*self.earlier, *self.sources, *named, *csrcs}
         while word in taken:
@@ -451,15 +451,15 @@ class Participant:
         self.bandwidths, self.clocks, self.items = (sender_bw, receiver_bw), clocks, items
         return self.end_call(moment)
 
-    def dismiss(self, ssrc):
+    def drop(self, ssrc):
         if ssrc in self.sources and self.sources[ssrc].left is None:
             del self.sources[ssrc]
 
     def forget(self, moment, ssrc):
-        """A host says that a source is gone. One that said goodbye stays as long as it would."""
+        """A host says that a source is gone. One that sent a BYE stays as long as it would."""
         self.begin_call(moment)
         if self.is_present():
-            self.step(self.dismiss, ssrc)
+            self.step(self.drop, ssrc)
             self.reconsider_departures(moment)
         return self.end_call(moment)
 
@@ -489,7 +489,7 @@ class Participant:
     def tick(self, moment, word1, word2):
         self.begin_call(moment)
         if not self.is_present():
-            return self.say_goodbye(moment) if self.is_due(moment, False, word1) else self.end_call(moment)
+            return self.send_bye(moment) if self.is_due(moment, False, word1) else self.end_call(moment)
         self.step(self.check, moment)
         self.reconsider_departures(moment)
         if not self.is_due(moment, self.is_sender, word1):
@@ -509,9 +509,9 @@ class Participant:
             self.has_left = True
             return self.end_call(moment)
         if self.members() <= MOST_WITHOUT_BACKOFF:
-            return self.say_goodbye(moment)
+            return self.send_bye(moment)
         self.goodbyes = []
-        self.average = 256 * (len(self.goodbye_compound()) + HEADERS)
+        self.average = 256 * (len(self.bye_compound()) + HEADERS)
         self.last, self.known = moment, self.members()
         self.next = moment + drawn_interval(self.interval(is_sender=False), word)
         return self.end_call(moment)
@@ -524,11 +524,11 @@ class Participant:
             self.move_average(len(octets))
         return self.end_call(moment, *change)
 
-    def say_goodbye(self, moment):
+    def send_bye(self, moment):
         self.has_left = True
-        return self.end_call(moment, "bye:" + self.goodbye_compound().hex())
+        return self.end_call(moment, "bye:" + self.bye_compound().hex())
 
-    def goodbye_compound(self):
+    def bye_compound(self):
         report = packet_header(0, 201, 8) + words(self.ssrc)
         return report + self.description([]) + packet_header(1, 203, 8) + words(self.ssrc)
 

@@ -291,7 +291,7 @@ class Session:
         if rng.randrange(4):
             self.options += ["--limit", str(histories.full_packet_limit(rng))]
 
-    def add_farewell(self):
+    def add_last_bye(self):
         """A leave with so many members that it may begin a backoff, and BYE packets, ticks and a leave after it."""
         self.add_audience()
         rng, end = self.rng, len(self.lines)
@@ -349,7 +349,7 @@ class Session:
         place = self.place()
         self.put(place, f"configure {self.moment(place)} {histories.random_settings(self.rng)}")
 
-    def add_dismissals(self):
+    def add_forgets(self):
         """Sources of which a host says that they are gone, mostly known ones."""
         rng = self.rng
         for _ in range(choose(rng, (3, 1), (1, rng.randrange(1, 5)))):
@@ -433,8 +433,8 @@ class Session:
 CHANGES = [
     (4, "drop"), (4, "double"), (4, "exchange"), (3, "splice"), (4, "move_one"), (5, "move_rest"), (1, "move_to_limit"),
     (1, "stretch"), (3, "change_words"), (9, "change_datagrams"), (3, "add_datagram"), (4, "add_goodbyes"),
-    (2, "add_audience"), (4, "add_run"), (0.8, "add_crowd"), (1, "add_farewell"), (2, "add_return"), (4, "add_ticks"),
-    (2, "add_sent"), (2, "add_leave"), (2, "add_settings"), (2, "add_dismissals"),
+    (2, "add_audience"), (4, "add_run"), (0.8, "add_crowd"), (1, "add_last_bye"), (2, "add_return"), (4, "add_ticks"),
+    (2, "add_sent"), (2, "add_leave"), (2, "add_settings"), (2, "add_forgets"),
 ]
 
 
