@@ -204,5 +204,5 @@ record Waits : Type 0 where
       ≡ (7410007 ∷ 9880007 ∷ 2 ∷ []) ∷ (4924985 ∷ 7410007 ∷ 2 ∷ []) ∷ (2462496 ∷ 4924985 ∷ 2 ∷ [])
       ∷ (2462496 ∷ 4924985 ∷ 2 ∷ []) ∷ (7462496 ∷ 9924985 ∷ 2 ∷ []) ∷ []
 
-waits : Waits
-waits = search
+worked : Waits
+worked = search
