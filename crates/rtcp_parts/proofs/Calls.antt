@@ -86,7 +86,7 @@ rest_none (x ∷ xs) zero at = absurd (cc at)
 rest_none (x ∷ xs) (suc index) at = rest_none xs index at
 
 -- Of two lists that are the same, the first elements and the rests are.
-same_first : {A : Type 0} (x y : A) (xs ys : List A) → x ∷ xs ≡ y ∷ ys → x ≡ y
+pub same_first : {A : Type 0} (x y : A) (xs ys : List A) → x ∷ xs ≡ y ∷ ys → x ≡ y
 same_first x y xs ys h = cc h
 
 same_rest : {A : Type 0} (x y : A) (xs ys : List A) → x ∷ xs ≡ y ∷ ys → xs ≡ ys

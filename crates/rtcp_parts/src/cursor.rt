@@ -34,6 +34,8 @@ pub(crate) fn begun(datagram: &[u8], cursor: &Cursor) -> Result<Cursor, WireFaul
     ensures refused { (fault : FirstFault) → IsFirstFault datagram.now fault → cursor.now.next ≡ 0 →
         result ≡ Err fault }
     ensures later { cursor.now.next ≢ 0 → IsOk result }
+    ensures reads { cursor.now.next ≡ 0 →
+        IfOk result (λ begun. (packets : List RtcpPacket) × IsAccepted datagram.now packets) }
 {
     if cursor.next != 0 {
         return Ok(if cursor.is_within(datagram.len()) {

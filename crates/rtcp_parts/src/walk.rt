@@ -78,15 +78,17 @@ pub trait Walk: Copy {
         ensures own { keeps_boundary → (packets : List RtcpPacket) → IsAccepted datagram.now packets →
             IfOk result (λ given. IfSome given (is_own datagram.now)) }
     {
-        let mut cursor = Cursor::default();
+        let mut cursor = match begun(datagram, &Cursor::default()) {
+            Ok(cursor) => cursor,
+            Err(fault) => return Err(fault),
+        };
         let mut passed = 0;
         'parts: while passed < index {
-            match Self::next(datagram, &mut cursor) {
-                Ok(Some(_)) => passed += 1,
-                Ok(None) => return Ok(None),
-                Err(fault) => return Err(fault),
+            match Self::take(datagram, &mut cursor) {
+                Some(_) => passed += 1,
+                None => return Ok(None),
             }
         }
-        Self::next(datagram, &mut cursor)
+        Ok(Self::take(datagram, &mut cursor))
     }
 }
