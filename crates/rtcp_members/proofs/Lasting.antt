@@ -13,10 +13,8 @@ use Rattle.rtcp_members.proofs.stays.StayLaws.{stay_is_prefix}
 
 -- how far back a step asks for a sighting
 abbrev pub silent_before : TraceStep → ℕ
-silent_before (fact_came fact moment) = 0
 silent_before (check_made horizons) = horizons.silent
-silent_before (block_taken other) = 0
-silent_before (source_forgotten other) = 0
+silent_before step = 0
 
 -- A step that ends no stay of a source which was named last at this moment.
 pub record Spares (ssrc naming : ℕ) (step : TraceStep) : Type 0 where
@@ -109,10 +107,8 @@ heard_before ssrc step since before heard newer horizons older is =
 
 heard_now : (ssrc : ℕ) (step : TraceStep) (since before : List TraceStep) →
     IsHeardAtChecks ssrc (step ∷ since) before → silent_before step ≤ last_naming ssrc (since ++ before)
-heard_now ssrc (fact_came fact moment) since before heard = omega arith
 heard_now ssrc (check_made horizons) since before heard = heard [] horizons since refl
-heard_now ssrc (block_taken other) since before heard = omega arith
-heard_now ssrc (source_forgotten other) since before heard = omega arith
+heard_now ssrc step since before heard = omega arith
 
 spares_now : (ssrc : ℕ) (step : TraceStep) (since before : List TraceStep) → IsLeftAlone ssrc (step ∷ since) →
     IsHeardAtChecks ssrc (step ∷ since) before → Spares ssrc (last_naming ssrc (since ++ before)) step

@@ -6,7 +6,7 @@ use Rattle.std.proofs.lemmas.List.{length-map, get_or-map}
 use Rattle.std.specs.List.{All, list_all}
 use Rattle.std.proofs.lemmas.Option.{slice_get_within}
 use Rattle.rtcp_wire.specs.declared.fact.Fact.{Fact}
-use Rattle.rtcp_wire.specs.declared.fact.Fact.TheVariants.{Heard, Told, Named, Gone, Media}
+use Rattle.rtcp_wire.specs.declared.fact.Fact.TheVariants.{Gone, Media}
 use Rattle.rtcp_source.specs.Summary.{SourceValue}
 use Rattle.rtcp_members.specs.declared.bounds.Bounds.{Bounds}
 use Rattle.rtcp_members.specs.declared.entry.Entry.{Entry}
@@ -47,12 +47,10 @@ after_by : (b : Bounds) (fact : Fact) (t : ℕ) (valid : Bool) (mark : Option �
     StandsBy b (entry_with_fact fact t
     (record { valid = valid; mark = mark; sighting = sighting; sending = sending; source = source }))
 after_by b fact t valid (Some mark) sighting sending source up h = h
-after_by b (Heard ssrc) t valid None sighting sending source up h = (up, h.1)
-after_by b (Told ssrc ntp rtp) t valid None sighting sending source up h = (up, h.1)
-after_by b (Named ssrc) t valid None sighting sending source up h = (up, h.1)
 after_by b (Gone ssrc) t valid None sighting sending source up h = (h.0, up)
 after_by b (Media ssrc seq timestamp octets rate) t valid None sighting sending source up h =
     (up.0, by_counted b _ t sending up.1 h.1)
+after_by b fact t valid None sighting sending source up h = (up, h.1)
 
 pub stands_after : (b : Bounds) (fact : Fact) (t : ℕ) (e : EntryValue) → IsUpTo b fact t → StandsBy b e →
     StandsBy b (entry_with_fact fact t e)

@@ -126,9 +126,7 @@ module _ (test : EntryValue → Bool) (capacity : ℕ) where
       passing (passes trace) (names (step ∷ trace)) ≡ count_at test capacity trace
   by_later_names (fact_came fact moment) trace = with_one_more fact trace
       (is_gone fact || has (subject fact) (names trace)) (λ new. (or_parts (is_gone fact) _ new).1)
-  by_later_names (check_made horizons) trace = refl
-  by_later_names (block_taken other) trace = refl
-  by_later_names (source_forgotten other) trace = refl
+  by_later_names step trace = refl
 
   -- Where nobody changes, the count stays.
   count_stays : (step : TraceStep) (trace : List TraceStep) →

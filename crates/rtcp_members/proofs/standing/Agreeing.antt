@@ -3,7 +3,7 @@ use Rattle.std.proofs.Common.{◌≡◌, ℕ, ◌&&◌, List, Option, Some, None
 use Rattle.std.proofs.lemmas.Bool.{eq-eqb}
 use Rattle.rtcp_wire.specs.Facts.{subject}
 use Rattle.rtcp_wire.specs.declared.fact.Fact.{Fact}
-use Rattle.rtcp_wire.specs.declared.fact.Fact.TheVariants.{Heard, Told, Named, Gone, Media}
+use Rattle.rtcp_wire.specs.declared.fact.Fact.TheVariants.{Media}
 use Rattle.rtcp_source.specs.Packets.{Given, taken_in, run_of, is_counted}
 use Rattle.rtcp_source.specs.Summary.{summary_of}
 use Rattle.rtcp_source.proofs.LawLemmas.{summary_suffices-taken}
@@ -16,13 +16,10 @@ use Rattle.rtcp_members.proofs.stays.Staying.{entry_with, entry_unmarked}
 -- To the summary of what a source gave, a fact of it is a counted packet as to its run.
 counts_in_run : (fact : Fact) (given : List Given) → counts fact (summary_of given) ≡ is_counted_fact (subject fact)
     fact given
-counts_in_run (Heard ssrc) given = refl
-counts_in_run (Told ssrc ntp rtp) given = refl
-counts_in_run (Named ssrc) given = refl
-counts_in_run (Gone ssrc) given = refl
 counts_in_run (Media ssrc seq timestamp octets rate) given =
     ap is_counted (summary_suffices-taken given seq) ∙ ap (λ b. b && is_counted (taken_in (run_of given) seq))
     (sym (eq-eqb ssrc ssrc refl))
+counts_in_run fact given = refl
 
 module _ (fact : Fact) where
   counted_by_mark : (stay : List TraceStep) (mark : Option ℕ) → mark_of (subject fact) stay ≡ mark →

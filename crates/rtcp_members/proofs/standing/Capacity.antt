@@ -95,8 +95,7 @@ fact_keeps_capacity table fact moment within =
 -- A fact adds one entry at most.
 one_at_most : (added held : Bool) (len : ℕ) → cond added (cond held len (len + 1)) len ≤ len + 1
 one_at_most true true len = omega arith
-one_at_most true false len = omega arith
-one_at_most false held len = omega arith
+one_at_most added held len = omega arith
 
 pub fact_adds_one : (table : TableValue) (fact : Fact) (moment : ℕ) →
     map.len (after_fact fact moment table).entries ≤ map.len table.entries + 1

@@ -47,16 +47,12 @@ naming_is_named : (step : TraceStep) (trace : List TraceStep) (ssrc : ℕ) → i
 naming_is_named (fact_came fact moment) trace ssrc naming =
     let parts = and_parts (not (is_gone fact)) (subject fact == ssrc) naming in
     named_with fact ssrc (names trace) (not-true (is_gone fact) parts.0) parts.1
-naming_is_named (check_made horizons) trace ssrc naming = absurd (true≢false (sym naming))
-naming_is_named (block_taken other) trace ssrc naming = absurd (true≢false (sym naming))
-naming_is_named (source_forgotten other) trace ssrc naming = absurd (true≢false (sym naming))
+naming_is_named step trace ssrc naming = absurd (true≢false (sym naming))
 
 pub still_named : (step : TraceStep) (trace : List TraceStep) (ssrc : ℕ) → has ssrc (names trace) ≡ true →
     has ssrc (names (step ∷ trace)) ≡ true
 still_named (fact_came fact moment) trace ssrc known = still_with fact ssrc (names trace) known
-still_named (check_made horizons) trace ssrc known = known
-still_named (block_taken other) trace ssrc known = known
-still_named (source_forgotten other) trace ssrc known = known
+still_named step trace ssrc known = known
 
 -- ---- Stays
 

@@ -2,7 +2,7 @@
 use Rattle.std.proofs.Common.{◌≡◌, ◌==◌, ℕ, Bool, true, false, is_some, if◌then◌else◌, List, [], ◌∷◌, ◌++◌, Some, sym, subst}
 use Rattle.std.proofs.lemmas.Bool.{cond_both}
 use Rattle.rtcp_wire.specs.declared.fact.Fact.{Fact}
-use Rattle.rtcp_wire.specs.declared.fact.Fact.TheVariants.{Heard, Told, Named, Gone, Media}
+use Rattle.rtcp_wire.specs.declared.fact.Fact.TheVariants.{Told, Media}
 use Rattle.rtcp_source.specs.Packets.{Given}
 use Rattle.rtcp_source.specs.Summary.{HasOneRate}
 use Rattle.rtcp_members.specs.Traces.{TraceStep, fact_came, check_made, block_taken, source_forgotten}
@@ -29,13 +29,11 @@ unmarked_has rate ssrc (step ∷ earlier) has =
 
 by_fact : (rate ssrc : ℕ) (fact : Fact) (moment : ℕ) (given : List Given) → HasRate rate fact →
     HasOneRate rate given → HasOneRate rate (given_by ssrc fact moment given)
-by_fact rate ssrc (Heard other) moment given has before = before
 by_fact rate ssrc (Told other ntp rtp) moment given has before =
     cond_both (other == ssrc) _ given (HasOneRate rate) (λ _. before) (λ _. before)
-by_fact rate ssrc (Named other) moment given has before = before
-by_fact rate ssrc (Gone other) moment given has before = before
 by_fact rate ssrc (Media other seq timestamp octets own) moment given has before =
     cond_both (other == ssrc) _ given (HasOneRate rate) (λ _. (has, before)) (λ _. before)
+by_fact rate ssrc fact moment given has before = before
 
 given_has : (rate ssrc : ℕ) (stay : List TraceStep) → HasOneClock rate stay → HasOneRate rate (given_of ssrc stay)
 given_has rate ssrc [] has = tt

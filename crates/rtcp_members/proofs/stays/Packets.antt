@@ -5,10 +5,10 @@ use Rattle.std.specs.Cmp.{nat_cmp_total}
 use Rattle.std.specs.FinMap as map
 use Rattle.std.proofs.lemmas.List.Elements.{All-head, All-tail}
 use Rattle.rtcp_wire.specs.declared.fact.Fact.{Fact}
-use Rattle.rtcp_wire.specs.declared.fact.Fact.TheVariants.{Heard, Told, Named, Gone, Media}
+use Rattle.rtcp_wire.specs.declared.fact.Fact.TheVariants.{Media}
 use Rattle.rtcp_clock.specs.Moments.{media_units}
 use Rattle.rtcp_source.specs.declared.taken.Taken.{Taken}
-use Rattle.rtcp_source.specs.declared.taken.Taken.TheVariants.{Probation, Counted, Became, Restarted, Bad}
+use Rattle.rtcp_source.specs.declared.taken.Taken.TheVariants.{Counted}
 use Rattle.rtcp_source.specs.Packets.{transit_of}
 use Rattle.rtcp_source.specs.Summary.{SourceValue}
 use Rattle.rtcp_source.specs.Steps.{source_with, taken_by}
@@ -25,10 +25,7 @@ Few packets entry = IfSome entry (λ e. e.source.packets ≤ packets)
 one_packet : (taken : Taken) (seq transit octets rate : ℕ) (source : SourceValue) →
     (source_with taken seq transit octets rate source).packets ≡ source.packets + 1
 one_packet Counted seq transit octets rate source = refl
-one_packet Became seq transit octets rate source = refl
-one_packet Restarted seq transit octets rate source = refl
-one_packet Probation seq transit octets rate source = refl
-one_packet Bad seq transit octets rate source = refl
+one_packet taken seq transit octets rate source = refl
 
 -- how many packets there are with a fact more
 abbrev with_fact : (packets : ℕ) → Fact → ℕ
@@ -36,10 +33,6 @@ with_fact packets fact = if is_media fact then packets + 1 else packets
 
 few_after : (packets : ℕ) (fact : Fact) (moment : ℕ) (entry : EntryValue) → entry.source.packets ≤ packets →
     (entry_after fact moment entry).source.packets ≤ with_fact packets fact
-few_after packets (Heard ssrc) moment entry few = few
-few_after packets (Told ssrc ntp rtp) moment entry few = few
-few_after packets (Named ssrc) moment entry few = few
-few_after packets (Gone ssrc) moment entry few = few
 few_after packets (Media ssrc seq timestamp octets rate) moment entry few =
     omega (
       arith,
@@ -47,6 +40,7 @@ few_after packets (Media ssrc seq timestamp octets rate) moment entry few =
       one_packet (taken_by entry.source seq) seq (transit_of timestamp (media_units moment rate))
           octets rate entry.source,
     )
+few_after packets fact moment entry few = few
 
 few_or_new : (packets : ℕ) (entry : Option EntryValue) → Few packets entry →
     (unwrap_or entry new_entry).source.packets ≤ packets

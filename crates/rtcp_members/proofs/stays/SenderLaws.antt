@@ -197,8 +197,7 @@ module _ (capacity : ℕ) (trace : List TraceStep) (ssrc : ℕ) where
 
   marked_is_none : (valid sends : Bool) → (valid && false && sends) ≡ true → ⊥
   marked_is_none true true h = absurd cc
-  marked_is_none true false h = absurd cc
-  marked_is_none false sends h = absurd cc
+  marked_is_none valid sends h = absurd cc
 
   sender_stays : (stay : Option (List TraceStep)) → stay_of capacity trace ssrc ≡ stay →
       is_such is_sender (option_map (entry_of ssrc) stay) ≡ true → IsSenderAt capacity trace ssrc

@@ -1,7 +1,7 @@
 -- What a stay says of its source, after one step more.
 use Rattle.std.proofs.Common.{◌≡◌, ℕ, true, false, if◌then◌else◌, ◌||◌, ◌==◌, List, [], ◌∷◌, Option, Some, None, is_some, refl, sym, ap, ◌∙◌}
 use Rattle.rtcp_wire.specs.declared.fact.Fact.{Fact}
-use Rattle.rtcp_wire.specs.declared.fact.Fact.TheVariants.{Heard, Told, Named, Gone, Media}
+use Rattle.rtcp_wire.specs.declared.fact.Fact.TheVariants.{Heard, Media}
 use Rattle.rtcp_clock.specs.Moments.{media_units}
 use Rattle.rtcp_source.specs.Packets.{packet_came, taken_in, is_counted, run_of}
 use Rattle.rtcp_source.specs.Summary.{summary_of}
@@ -58,10 +58,6 @@ module _ (ssrc : ℕ) (step : TraceStep) (stay : List TraceStep) where
 -- A fact of the source moves what is said of it as the tables say.
 pub own_fact : (ssrc moment : ℕ) (fact : Fact) (stay : List TraceStep) → (subject fact == ssrc) ≡ true
     → moved_entry ssrc (fact_came fact moment) stay ≡ entry_after fact moment (entry_with ssrc stay None)
-own_fact ssrc moment (Heard other) stay own = rw own refl
-own_fact ssrc moment (Told other ntp rtp) stay own = rw own refl
-own_fact ssrc moment (Named other) stay own = rw own refl
-own_fact ssrc moment (Gone other) stay own = rw own refl
 own_fact ssrc moment (Media other seq timestamp octets rate) stay own =
     let given = given_of ssrc stay in
     let taken : taken_in (run_of given) seq ≡ taken_by (summary_of given) seq =
@@ -77,15 +73,13 @@ own_fact ssrc moment (Media other seq timestamp octets rate) stay own =
       sending = (if is_counted (taken i) then Some moment else sending_of ssrc stay);
       source = moved i;
     })
+own_fact ssrc moment fact stay own = rw own refl
 
 -- A fact of another source changes nothing.
 pub other_fact : (ssrc moment : ℕ) (fact : Fact) (stay : List TraceStep) → (subject fact == ssrc) ≡ false
     → moved_entry ssrc (fact_came fact moment) stay ≡ entry_with ssrc stay None
 other_fact ssrc moment (Heard other) stay apart = rw apart refl
-other_fact ssrc moment (Told other ntp rtp) stay apart = rw apart refl
-other_fact ssrc moment (Named other) stay apart = rw apart refl
-other_fact ssrc moment (Gone other) stay apart = rw apart refl
-other_fact ssrc moment (Media other seq timestamp octets rate) stay apart = rw apart refl
+other_fact ssrc moment fact stay apart = rw apart refl
 
 -- ---- Checks
 

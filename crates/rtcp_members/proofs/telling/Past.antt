@@ -3,7 +3,7 @@ use Rattle.std.proofs.Common.{◌≡◌, ◌≤◌, ◌==◌, ◌&&◌, ℕ, Boo
 use Rattle.std.proofs.Common.{Option, Some, None, IfSome, All, sym, subst, arith}
 use Rattle.std.proofs.lemmas.List.Elements.{All-nil, All-cons}
 use Rattle.rtcp_wire.specs.declared.fact.Fact.{Fact}
-use Rattle.rtcp_wire.specs.declared.fact.Fact.TheVariants.{Heard, Told, Named, Gone, Media}
+use Rattle.rtcp_wire.specs.declared.fact.Fact.TheVariants.{Told, Media}
 use Rattle.rtcp_wire.specs.Facts.{subject, is_gone}
 use Rattle.rtcp_source.specs.Packets.{Given, block_made}
 use Rattle.rtcp_source.specs.Summary.{last_told}
@@ -76,9 +76,7 @@ marked_at : (latest ssrc : ℕ) (step : TraceStep) (mark : Option ℕ) → step_
 marked_at latest ssrc step (Some mark) came before = before
 marked_at latest ssrc (fact_came fact moment) None came before =
     marked_if latest moment (is_gone fact && subject fact == ssrc) came
-marked_at latest ssrc (check_made horizons) None came before = tt
-marked_at latest ssrc (block_taken other) None came before = tt
-marked_at latest ssrc (source_forgotten other) None came before = tt
+marked_at latest ssrc step None came before = tt
 
 marked_by : (latest ssrc : ℕ) (stay : List TraceStep) → CameBy latest stay → IsBy latest (mark_of ssrc stay)
 marked_by latest ssrc [] came = tt
@@ -97,13 +95,11 @@ told_if latest false more given with_more before = before
 
 told_with : (latest ssrc : ℕ) (fact : Fact) (moment : ℕ) (given : List Given) → moment ≤ latest →
     ToldBy latest given → ToldBy latest (given_by ssrc fact moment given)
-told_with latest ssrc (Heard other) moment given came before = before
 told_with latest ssrc (Told other ntp rtp) moment given came before =
     told_if latest (other == ssrc) _ given came before
-told_with latest ssrc (Named other) moment given came before = before
-told_with latest ssrc (Gone other) moment given came before = before
 told_with latest ssrc (Media other seq timestamp octets rate) moment given came before =
     told_if latest (other == ssrc) _ given before before
+told_with latest ssrc fact moment given came before = before
 
 told_by : (latest ssrc : ℕ) (stay : List TraceStep) → CameBy latest stay →
     ToldBy latest (given_of ssrc stay)

@@ -73,9 +73,7 @@ above_first : (test : EntryRow → Bool) (key first : ℕ) (rest : Option ℕ) (
     → (if c then Some first else lesser_of (if b then Some key else None) rest) ≡ lesser_of
     (if b then Some key else None) (if c then Some first else rest)
 above_first test key first rest true true less = ap Some (omega (arith, less))
-above_first test key first rest true false less = refl
-above_first test key first rest false true less = refl
-above_first test key first rest false false less = refl
+above_first test key first rest b c less = refl
 
 -- A row put into a sorted list: the first that passes is the lesser of it and of the first before.
 put_first : (test : EntryRow → Bool) (key : ℕ) (value : EntryValue) (rows : List EntryRow) →

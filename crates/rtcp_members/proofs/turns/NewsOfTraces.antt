@@ -35,8 +35,7 @@ AreRising (x ∷ xs) = AreAbove x xs × AreRising xs
 
 either_way : (a b c : Bool) → (a || (b || c)) ≡ (b || (a || c))
 either_way true true c = refl
-either_way true false c = refl
-either_way false b c = refl
+either_way a b c = refl
 
 has_put : (q x : ℕ) (ys : List ℕ) → has q (put_rising x ys) ≡ ((x == q) || has q ys)
 has_put q x [] = refl
