@@ -6,7 +6,7 @@ use Rattle.rtcp_wire.specs.Contents.{blocks_by, packet_blocks}
 use Rattle.rtcp_wire.specs.Grammar.{IsBody, Joins, IsBlock, IsReportEnd, IsSpelling, block_in}
 use Rattle.rtcp_wire.specs.Views.{block_value}
 use Rattle.rtcp_wire.specs.declared.block.Block.{Block}
-use Rattle.rtcp_wire.specs.Values.{ReportBlock, RtcpPacket, SenderValue, sr, rr, sdes, bye, app, other}
+use Rattle.rtcp_wire.specs.Values.{ReportBlock, RtcpPacket, SenderValue, sr, rr, other}
 use Rattle.rtcp_wire.proofs.Prefixes.{length_parts}
 use Rattle.rtcp_parts.specs.declared.cursor.Cursor.{Cursor}
 use Rattle.rtcp_parts.specs.declared.packet.Packet.{Packet}
@@ -35,10 +35,7 @@ none_in (rr reporter blocks extension) h =
     ap (λ (bs : List ReportBlock). packet_blocks (rr reporter bs extension))
     (no_blocks blocks (λ some. h.4
     (omega (arith, h.3.0), omega (arith, h.3.0), omega (arith, some, h.3.1.ends.counted))))
-none_in (sdes chunks) h = refl
-none_in (bye ids reason) h = refl
-none_in (app subtype source name content) h = refl
-none_in (other kind count body) h = refl
+none_in packet h = refl
 
 -- A report has room for what stands before its blocks, since it is one of the two.
 pub room_before : (value : RtcpPacket) (kind count : ℕ) (body : List ℕ) → IsBody value kind count body → 200 ≤ kind
@@ -49,11 +46,9 @@ room_before (sr sender blocks extension) kind count body h low high =
 room_before (rr reporter blocks extension) kind count body h low high =
     let size : blocks_place kind ≡ 4 = ap blocks_place h.0 in
     omega (arith, size, ap length h.1.parts, length-append h.1.id h.1.rest, h.1.sender.0)
-room_before (sdes chunks) kind count body h low high = absurd (omega (arith, high, h.0))
-room_before (bye ids reason) kind count body h low high = absurd (omega (arith, high, h.0))
-room_before (app subtype source name content) kind count body h low high = absurd (omega (arith, high, h.0))
 room_before (other its_kind its_count its_body) kind count body h low high =
     absurd (omega (arith, h.0, low, high))
+room_before value kind count body h low high = absurd (omega (arith, high, h.0))
 
 -- ---- The first block
 
@@ -104,12 +99,9 @@ at_first_block datagram packet now from (rr reporter blocks extension) placed at
     let ssrc : now.ssrc ≡ reporter = at.ssrc ∙ ap (big_number 4) h.1.parts
     ∙ word_first h.1.id h.1.rest (omega (arith, h.1.sender.0)) ∙ sym h.1.sender.1 in
     at_end datagram now reporter packet.count blocks extension h.1.rest rest h.1.ends at.left ssrc
-at_first_block datagram packet now from (sdes chunks) placed at h low high = absurd (omega (arith, high, h.0))
-at_first_block datagram packet now from (bye ids reason) placed at h low high = absurd (omega (arith, high, h.0))
-at_first_block datagram packet now from (app subtype source name content) placed at h low high =
-    absurd (omega (arith, high, h.0))
 at_first_block datagram packet now from (other its_kind its_count its_body) placed at h low high =
     absurd (omega (arith, h.0, low, high))
+at_first_block datagram packet now from value placed at h low high = absurd (omega (arith, high, h.0))
 
 -- ---- The next block
 

@@ -6,7 +6,7 @@ use Rattle.rtcp_wire.specs.Contents.{goodbyes_by, packet_goodbyes}
 use Rattle.rtcp_wire.specs.Grammar.{Joins, IsBody, IsId, IsReasonPart, IsSpelling}
 use Rattle.rtcp_parts.specs.Placed.{MaySpan, span_at}
 use Rattle.rtcp_wire.specs.Placed.{StandsIn}
-use Rattle.rtcp_wire.specs.Values.{RtcpPacket, sr, rr, sdes, bye, app, other}
+use Rattle.rtcp_wire.specs.Values.{RtcpPacket, bye, other}
 use Rattle.rtcp_parts.specs.declared.placed.Span.{Span}
 use Rattle.rtcp_parts.proofs.Places.{stands_within}
 use Rattle.rtcp_wire.proofs.Prefixes.{length_parts}
@@ -31,14 +31,10 @@ no_sources (id ∷ ids) none = absurd (none (omega arith))
 
 -- A packet of another type, or without sources.
 pub none_in : (packet : RtcpPacket) → IsUnwanted with_sources packet → packet_goodbyes packet ≡ []
-none_in (sr sender blocks extension) h = refl
-none_in (rr reporter blocks extension) h = refl
-none_in (sdes chunks) h = refl
 none_in (bye ids reason) h =
     ap (λ (ns : List ℕ). packet_goodbyes (bye ns reason))
     (no_sources ids (λ some. h.4 (omega (arith, h.3.0), omega (arith, h.3.0), omega (arith, some, h.3.1.counted))))
-none_in (app subtype source name content) h = refl
-none_in (other kind count body) h = refl
+none_in packet h = refl
 
 -- The walk is at the first source of a goodbye.
 pub at_first_source : (datagram : List ℕ) (packet : Packet) (now : Cursor) (from : ℕ) (value : RtcpPacket)
@@ -59,15 +55,9 @@ at_first_source datagram packet now from (bye ids reason) placed place end left 
   because = h.1.ends;
   here = refl;
 }
-at_first_source datagram packet now from (sr sender blocks extension) placed place end left h kind =
-    absurd (omega (arith, kind, h.0))
-at_first_source datagram packet now from (rr reporter blocks extension) placed place end left h kind =
-    absurd (omega (arith, kind, h.0))
-at_first_source datagram packet now from (sdes chunks) placed place end left h kind = absurd (omega (arith, kind, h.0))
-at_first_source datagram packet now from (app subtype source name content) placed place end left h kind =
-    absurd (omega (arith, kind, h.0))
 at_first_source datagram packet now from (other its_kind its_count its_body) placed place end left h kind =
     absurd (omega (arith, h.0, kind))
+at_first_source datagram packet now from value placed place end left h kind = absurd (omega (arith, kind, h.0))
 
 -- ---- A source
 

@@ -9,7 +9,7 @@ use Rattle.rtcp_wire.specs.Grammar.{Joins, IsBody, IsChunk, IsItem, IsSpelling}
 use Rattle.rtcp_parts.specs.Placed.{PlacesItem}
 use Rattle.rtcp_wire.specs.Placed.{StandsIn}
 use Rattle.rtcp_parts.specs.declared.placed.PlacedItem.{PlacedItem}
-use Rattle.rtcp_wire.specs.Values.{ChunkValue, ItemValue, RtcpPacket, sr, rr, sdes, bye, app, other}
+use Rattle.rtcp_wire.specs.Values.{ChunkValue, ItemValue, RtcpPacket, sdes}
 use Rattle.rtcp_parts.proofs.Places.{stands_within}
 use Rattle.rtcp_wire.proofs.Prefixes.{length_parts}
 use Rattle.rtcp_parts.specs.declared.cursor.Cursor.{Cursor}
@@ -325,14 +325,9 @@ with_chunks = record { first = 202; last = 202; least = 1 }
 
 -- Other packets have no items.
 no_items_in : (packet : RtcpPacket) → IsUnwanted with_chunks packet → packet_items packet ≡ []
-no_items_in (sr sender blocks extension) h = refl
-no_items_in (rr reporter blocks extension) h = refl
-no_items_in (sdes []) h = refl
 no_items_in (sdes (chunk ∷ chunks)) h =
     absurd (h.4 (omega (arith, h.3.0), omega (arith, h.3.0), omega (arith, h.3.1)))
-no_items_in (bye ids reason) h = refl
-no_items_in (app subtype source name content) h = refl
-no_items_in (other kind count body) h = refl
+no_items_in packet h = refl
 
 -- A packet of their type is its chunks.
 pub record IsOfChunks (packet : RtcpPacket) (count : ℕ) (body : List ℕ) : Type 0 where
@@ -343,13 +338,9 @@ pub record IsOfChunks (packet : RtcpPacket) (count : ℕ) (body : List ℕ) : Ty
 
 of_chunks : (packet : RtcpPacket) (kind count : ℕ) (body : List ℕ) → IsBody packet kind count body → kind ≡ 202 →
     IsOfChunks packet count body
-of_chunks (sr sender blocks extension) kind count body h is = absurd (omega (arith, h.0, is))
-of_chunks (rr reporter blocks extension) kind count body h is = absurd (omega (arith, h.0, is))
 of_chunks (sdes chunks) kind count body h is =
     record { chunks = chunks; items = refl; counted = h.1; each = h.2 }
-of_chunks (bye ids reason) kind count body h is = absurd (omega (arith, h.0, is))
-of_chunks (app subtype source name content) kind count body h is = absurd (omega (arith, h.0, is))
-of_chunks (other its_kind its_count its_body) kind count body h is = absurd (omega (arith, h.0, is))
+of_chunks packet kind count body h is = absurd (omega (arith, h.0, is))
 
 module _ (datagram : List ℕ) (from : ℕ) (packet : Packet) (chunk now : Cursor) (placed : IsPlaced datagram from packet)
     (wanted : IsWanted with_chunks packet.kind packet.count)

@@ -6,7 +6,7 @@ use Rattle.byteorder.specs.Endian.{big_number}
 use Rattle.rtcp_wire.specs.Contents.{packet_apps, packet_senders}
 use Rattle.rtcp_wire.specs.Grammar.{IsApplication, IsBody, Joins, IsSpelling, sender_in}
 use Rattle.rtcp_parts.specs.Placed.{PlacesApp}
-use Rattle.rtcp_wire.specs.Values.{AppValue, RtcpPacket, SenderValue, sr, rr, sdes, bye, app, other}
+use Rattle.rtcp_wire.specs.Values.{AppValue, RtcpPacket, SenderValue, sr, app}
 use Rattle.rtcp_parts.specs.declared.placed.PlacedApp.{PlacedApp}
 use Rattle.rtcp_parts.proofs.AppPlaces.{app_places}
 use Rattle.rtcp_parts.specs.declared.cursor.Cursor.{Cursor}
@@ -92,11 +92,7 @@ reports = record { first = 200; last = 200; least = 0 }
 pub no_sender_in : (packet : RtcpPacket) → IsUnwanted reports packet → packet_senders packet ≡ []
 no_sender_in (sr sender blocks extension) h =
     absurd (h.4 (omega (arith, h.3.0), omega (arith, h.3.0), omega arith))
-no_sender_in (rr reporter blocks extension) h = refl
-no_sender_in (sdes chunks) h = refl
-no_sender_in (bye ids reason) h = refl
-no_sender_in (app subtype source name content) h = refl
-no_sender_in (other kind count body) h = refl
+no_sender_in packet h = refl
 
 -- A sender report has room for its sender, and begins with it.
 pub sender_room : (value : RtcpPacket) (kind count : ℕ) (body : List ℕ) → IsBody value kind count body → kind ≡ 200
@@ -106,12 +102,7 @@ sender_room (sr sender blocks extension) kind count body h is = (
   ap (λ (s : SenderValue). s ∷ []) (h.1.says
       ∙ ap sender_in (sym (ap (take 24) h.1.parts ∙ take_at h.1.prefix h.1.rest 24 h.1.prefix_size))),
 )
-sender_room (rr reporter blocks extension) kind count body h is = absurd (omega (arith, is, h.0))
-sender_room (sdes chunks) kind count body h is = absurd (omega (arith, is, h.0))
-sender_room (bye ids reason) kind count body h is = absurd (omega (arith, is, h.0))
-sender_room (app subtype source name content) kind count body h is = absurd (omega (arith, is, h.0))
-sender_room (other its_kind its_count its_body) kind count body h is =
-    absurd (omega (arith, h.0, is))
+sender_room value kind count body h is = absurd (omega (arith, is, h.0))
 
 -- The next sender report has the next sender.
 pub sender_next : (datagram : List ℕ) (packets : List RtcpPacket) (packet : Packet) (given : Sender)
@@ -137,13 +128,9 @@ abbrev pub applications : Wanted
 applications = record { first = 204; last = 204; least = 0 }
 
 pub no_app_in : (packet : RtcpPacket) → IsUnwanted applications packet → packet_apps packet ≡ []
-no_app_in (sr sender blocks extension) h = refl
-no_app_in (rr reporter blocks extension) h = refl
-no_app_in (sdes chunks) h = refl
-no_app_in (bye ids reason) h = refl
 no_app_in (app subtype source name content) h =
     absurd (h.4 (omega (arith, h.3.0), omega (arith, h.3.0), omega arith))
-no_app_in (other kind count body) h = refl
+no_app_in packet h = refl
 
 -- What such a packet's body says: it is the packet of that value, and has its SSRC, its name and its data.
 pub record Defined (value : RtcpPacket) (count : ℕ) (body : List ℕ) : Type 0 where
@@ -160,12 +147,7 @@ defined (app subtype source name content) kind count body h is = record {
   subtype = h.1;
   says = h.2;
 }
-defined (sr sender blocks extension) kind count body h is = absurd (omega (arith, is, h.0))
-defined (rr reporter blocks extension) kind count body h is = absurd (omega (arith, is, h.0))
-defined (sdes chunks) kind count body h is = absurd (omega (arith, is, h.0))
-defined (bye ids reason) kind count body h is = absurd (omega (arith, is, h.0))
-defined (other its_kind its_count its_body) kind count body h is =
-    absurd (omega (arith, h.0, is))
+defined value kind count body h is = absurd (omega (arith, is, h.0))
 
 -- It has room for its SSRC and its name.
 pub app_room : (value : RtcpPacket) (count : ℕ) (body : List ℕ) → Defined value count body → 8 ≤ length body

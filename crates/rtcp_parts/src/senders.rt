@@ -25,13 +25,14 @@ const REPORTS: Wanted = Wanted {
 };
 
 /// What a sender report says of its sender (RFC 3550, 6.4.1).
+#[repr(C)]
 #[derive(Clone, Copy, Debug, PartialEq, Eq)]
 pub struct Sender {
-    /// The SSRC of the source that sent it.
-    pub ssrc: u32,
     /// When it was sent, as an NTP timestamp: seconds since 1900 in the upper 32 bits, and 1/2^32 of a second in the
     /// lower ones.
     pub ntp: u64,
+    /// The SSRC of the source that sent it.
+    pub ssrc: u32,
     /// The same moment in units of the sender's RTP timestamps.
     pub rtp: u32,
     /// How many RTP packets were sent up to then.
@@ -68,8 +69,8 @@ fn sender_from(body: &[u8]) -> Option<Sender>
 {
     let (octets, _) = body.split_at_checked(SENDER_SIZE)?;
     Some(Sender {
-        ssrc: u32_at(octets, 0),
         ntp: BigEndian::read_u64(octets.split_at(4).1),
+        ssrc: u32_at(octets, 0),
         rtp: u32_at(octets, 12),
         packets: u32_at(octets, 16),
         octets: u32_at(octets, 20),
