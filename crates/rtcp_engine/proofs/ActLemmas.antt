@@ -218,13 +218,11 @@ acts_configured {p} settings pace paced = record {
 
     outs : (life : Life) → IsAt p life → None ≡ out_by p.presence.setup act life
     outs (present outcome) at = refl
-    outs (backing_off outcome backoff) at = refl
-    outs (gone outcome) at = refl
+    outs life at = refl
 
     moves : (life : Life) → IsAt p life → false ≡ others_moved_by p.presence.setup act life
     moves (present outcome) at = none_since _ outcome.trace
-    moves (backing_off outcome backoff) at = refl
-    moves (gone outcome) at = refl
+    moves life at = refl
 
 -- the same of one that another became
 pub acts_set : {phase : PhaseValue} {changes : List IdentifierChange} {old new : State} (settings : SettingsValue) →

@@ -6,7 +6,7 @@ use Rattle.rtcp_wire.specs.RtpHeads.{RtpValue}
 use Rattle.rtcp_wire.specs.Writing.{written_all}
 use Rattle.rtcp_members.specs.Traces.{TraceStep, with_facts}
 use Rattle.rtcp_members.specs.Entries.{members_at, senders_at, counted_at}
-use Rattle.rtcp_members.specs.Tables.{StandsAt as IsTableAt, counted, after_facts, members_in, senders_in, after_forgetting}
+use Rattle.rtcp_members.specs.Tables.{StandsAt as IsTableAt, TableValue, counted, after_facts, members_in, senders_in, after_forgetting}
 use Rattle.rtcp_members.specs.Pending.{EntryRow, pending, after_blocks, blocks_of, last_reported}
 use Rattle.rtcp_members.specs.News.{pending_rows_at}
 use Rattle.std.specs.FinMap as finite
@@ -124,40 +124,38 @@ facts_keep_cursor [] t trace = refl
 facts_keep_cursor (fact ∷ facts) t trace = facts_keep_cursor facts t
     (Rattle.rtcp_members.specs.Traces.fact_came fact t ∷ trace)
 
+-- A table that changes as the trace does, with an own stream, leaves the source that was reported last.
+pub table_agrees : {s : State} {o : Outcome} (table : TableValue) (trace : List TraceStep) (own : OwnValue)
+    (steps : List OwnStep) → IsTableAt table trace → table.capacity ≡ s.table.capacity → own ≡ own_of steps →
+    last_reported_in trace ≡ last_reported_in o.trace → Agrees s o
+    → Agrees (record s { table = table; own = own }) (record o { trace = trace; own = steps })
+table_agrees table trace own steps stands kept same cursor a = record {
+  timing = a.timing;
+  average = a.average;
+  pace = a.pace;
+  still = record {
+    table = stands;
+    capacity = kept ∙ a.still.capacity;
+    own = same;
+    cursor = a.still.cursor ∙ sym cursor;
+    reports = a.still.reports;
+  };
+}
+
 pub facts_agree : (s : State) (o : Outcome) (facts : List Fact) (t : ℕ) → Agrees s o →
     Agrees (record s { table = after_facts facts t s.table }) (record o { trace = with_facts facts t o.trace })
 facts_agree s o facts t a =
-    let kept = tables.bounds_are_kept-facts s.table facts t in
-    record {
-      timing = a.timing;
-      average = a.average;
-      pace = a.pace;
-      still = record {
-        table = tables.tables_follow_traces-facts s.table o.trace facts t a.still.table;
-        capacity = kept.capacity ∙ a.still.capacity;
-        own = a.still.own;
-        cursor = a.still.cursor ∙ sym (facts_keep_cursor facts t o.trace);
-        reports = a.still.reports;
-      };
-    }
+    table_agrees (after_facts facts t s.table) (with_facts facts t o.trace) s.own o.own
+    (tables.tables_follow_traces-facts s.table o.trace facts t a.still.table)
+    (tables.bounds_are_kept-facts s.table facts t).capacity a.still.own (facts_keep_cursor facts t o.trace) a
 
 -- a source that is forgotten leaves the one that was reported last
 pub forgotten_agree : (s : State) (o : Outcome) (ssrc : ℕ) → Agrees s o →
     Agrees (record s { table = after_forgetting ssrc s.table }) (ticks.with_forgotten ssrc o)
 forgotten_agree s o ssrc a =
-    let kept = tables.bounds_are_kept-forgotten s.table ssrc in
-    record {
-      timing = a.timing;
-      average = a.average;
-      pace = a.pace;
-      still = record {
-        table = tables.tables_follow_traces-forgotten s.table o.trace ssrc a.still.table;
-        capacity = kept.capacity ∙ a.still.capacity;
-        own = a.still.own;
-        cursor = a.still.cursor;
-        reports = a.still.reports;
-      };
-    }
+    table_agrees (after_forgetting ssrc s.table) (ticks.with_forgotten ssrc o).trace s.own o.own
+    (tables.tables_follow_traces-forgotten s.table o.trace ssrc a.still.table)
+    (tables.bounds_are_kept-forgotten s.table ssrc).capacity a.still.own refl a
 
 pub sizes_agree : (s : State) (o : Outcome) (size : ℕ) → Agrees s o →
     Agrees (record s { average = moved_average s.average size }) (record o { sizes = size ∷ o.sizes })

@@ -33,9 +33,8 @@ refusal_is p h act call datagram stands calls datagrams =
     ∙ (λ i. option_or (calls i) (datagrams i))
 
 none_before : (life : Life) (refusal : Option Refusal) → refusal_in life refusal ≡ None → refusal ≡ None
-none_before (present outcome) refusal none = none
-none_before (backing_off outcome backoff) refusal none = none
 none_before (gone outcome) refusal none = absurd cc
+none_before life refusal none = none
 
 pub neither : (first second : Option Refusal) → option_or first second ≡ None → (first ≡ None) × (second ≡ None)
 neither None second none = (refl, none)

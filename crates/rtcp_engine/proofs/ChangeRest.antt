@@ -28,15 +28,7 @@ bye_keeps_timing false size backoff = refl
 
 renamed_rest : (new : NewIdentifier) (session : Session) (life : Life) → session.life ≡ life →
     KeepsRest (record session { life = life }) (changed_to new (record session { life = life }))
-renamed_rest new session (present outcome) is = record {
-  settings = refl;
-  table = λ ssrc. refl;
-  held = λ ssrc. refl;
-  members = refl;
-  senders = refl;
-  entries = refl;
-  timing = refl;
-}
+renamed_rest new session (present outcome) is = search
 renamed_rest new session (backing_off outcome backoff) is = record {
   settings = refl;
   table = λ ssrc. refl;
@@ -46,27 +38,11 @@ renamed_rest new session (backing_off outcome backoff) is = record {
   entries = refl;
   timing = ap Some (bye_keeps_timing (has_sent outcome.own) (length (bye_octets session.setup)) backoff);
 }
-renamed_rest new session (gone outcome) is = record {
-  settings = refl;
-  table = λ ssrc. refl;
-  held = λ ssrc. refl;
-  members = refl;
-  senders = refl;
-  entries = refl;
-  timing = refl;
-}
+renamed_rest new session (gone outcome) is = search
 
 -- A change of identifier leaves settings, table, counts and schedule as they were.
 rest_of_change : (session : Session) (change : Option NewIdentifier) → KeepsRest session (changed_by change session)
-rest_of_change session None = record {
-  settings = refl;
-  table = λ ssrc. refl;
-  held = λ ssrc. refl;
-  members = refl;
-  senders = refl;
-  entries = refl;
-  timing = refl;
-}
+rest_of_change session None = search
 rest_of_change session (Some new) = renamed_rest new session session.life refl
 
 pub rest_stays : (session : Session) (act : Act) → KeepsRest session (changed_by (change_by session act) session)

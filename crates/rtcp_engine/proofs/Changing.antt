@@ -4,7 +4,7 @@ use Rattle.std.specs.Option.{option_or}
 use Rattle.rtcp_engine.specs.declared.config.ConfigError.{ConfigError}
 use Rattle.rtcp_engine.specs.declared.refusal.Refusal.TheVariants.{Settings}
 use Rattle.rtcp_engine.specs.Setups.{Setup, IsUsable, settings_of, with_settings}
-use Rattle.rtcp_engine.specs.Acts.{Act, arrived, rtp_sent, ticked, left, configured, forgotten}
+use Rattle.rtcp_engine.specs.Acts.{Act, arrived, configured}
 use Rattle.rtcp_engine.specs.Identities.{with_ssrc}
 use Rattle.rtcp_engine.specs.Leaving.{Life, present, backing_off, gone}
 use Rattle.rtcp_engine.specs.Lives.{out_by, own_bye}
@@ -68,13 +68,9 @@ no_error (Some error) none = absurd cc
 -- Settings that are taken leave a setup as usable.
 usable_after : (session : Session) (act : Act) (setup : Setup) → IsUsable setup →
     refusal_of_content session act ≡ None → IsUsable (setup_after act setup)
-usable_after session (arrived moment peer word datagram) setup usable none = usable
-usable_after session (rtp_sent moment timestamp octets) setup usable none = usable
-usable_after session (ticked moment first_word second_word) setup usable none = usable
-usable_after session (left moment word) setup usable none = usable
-usable_after session (forgotten moment ssrc) setup usable none = usable
 usable_after session (configured moment settings) setup usable none =
     usable_with_settings settings setup usable (no_error _ none)
+usable_after session act setup usable none = usable
 
 pub usable_in : (setup : Setup) (word : ℕ) (acts : List Act) → IsUsable setup → AllTaken setup word acts →
     IsUsable (session_of setup word acts).setup
@@ -97,12 +93,8 @@ pub nothing_more : (session : Session) (act : Act) (new : NewIdentifier) → cha
     (setup : Setup) (life : Life) → out_by setup act life ≡ None
 nothing_more session (arrived moment peer word datagram) new is setup (present outcome) = refl
 nothing_more session (arrived moment peer word datagram) new is setup (backing_off outcome backoff) = refl
-nothing_more session (rtp_sent moment timestamp octets) new is setup life = absurd cc
-nothing_more session (ticked moment first_word second_word) new is setup life = absurd cc
-nothing_more session (left moment word) new is setup life = absurd cc
-nothing_more session (configured moment settings) new is setup life = absurd cc
-nothing_more session (forgotten moment ssrc) new is setup life = absurd cc
 nothing_more session act new is setup (gone outcome) = refl
+nothing_more session act new is setup life = absurd cc
 
 pub bye_alone : (session : Session) (act : Act) (new : NewIdentifier) → change_by session act ≡ Some new →
     let now = changed_to new session in

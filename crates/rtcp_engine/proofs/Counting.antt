@@ -1,8 +1,8 @@
 -- The reports that a session counts are those that it sent.
-use Rattle.std.proofs.Common.{◌≡◌, ℕ, ◌&&◌, Bool, true, false, is_some, nat_le, List, [], ◌∷◌, ◌++◌, map, Option, Some, None, option_map, Ok, Err, if◌then◌else◌, refl, sym, ap, ◌∙◌}
+use Rattle.std.proofs.Common.{◌≡◌, ℕ, ◌&&◌, Bool, true, false, is_some, nat_le, List, [], ◌∷◌, ◌++◌, map, Option, Some, None, option_map, Ok, if◌then◌else◌, refl, sym, ap, ◌∙◌}
 use Rattle.std.specs.Option.{option_or}
 use Rattle.rtcp_engine.specs.Setups.{Setup}
-use Rattle.rtcp_engine.specs.Acts.{rtcp, rtp, Act, arrived, rtp_sent, ticked, left, configured, moment_of, forgotten}
+use Rattle.rtcp_engine.specs.Acts.{rtcp, rtp, Act, arrived, ticked, left, moment_of}
 use Rattle.rtcp_engine.specs.OwnStreams.{has_sent}
 use Rattle.rtcp_engine.specs.Outcomes.{Outcome, Report, interval_at, member_count}
 use Rattle.rtcp_engine.specs.Ticks.{checked, has_come, has_passed, reported, put_off}
@@ -30,8 +30,7 @@ tick_by setup t first_word second_word now sent true true h =
       interval = interval_at setup now;
       octets = report_octets setup t now;
     } ∷ reports) h
-tick_by setup t first_word second_word now sent true false h = h
-tick_by setup t first_word second_word now sent false passed h = h
+tick_by setup t first_word second_word now sent come passed h = h
 
 leave_by : (setup : Setup) (t word : ℕ) (outcome : Outcome) (sent : List Sent) (unheard few : Bool) →
     outcome.reports ≡ counted sent
@@ -66,28 +65,19 @@ one_act : (setup : Setup) (act : Act) (life : Life) (sent : List Sent) → repor
     → reports_of (lived setup act life) ≡ counted
     (sent_with (moment_of act) (interval_by setup act life) false (out_by setup act life) ++ sent)
 one_act setup (arrived moment peer drawn (rtcp size (Ok packets))) (present outcome) sent h = h
-one_act setup (arrived moment peer drawn (rtcp size (Err fault))) (present outcome) sent h = h
 one_act setup (arrived moment peer drawn (rtp (Ok head))) (present outcome) sent h = h
-one_act setup (arrived moment peer drawn (rtp (Err fault))) (present outcome) sent h = h
-one_act setup (rtp_sent moment timestamp octets) (present outcome) sent h = h
 one_act setup (ticked moment first_word second_word) (present outcome) sent h =
     let now = checked setup moment outcome in
     tick_by setup moment first_word second_word now sent (has_come moment now) (has_passed setup moment first_word now)
     h
 one_act setup (left moment word) (present outcome) sent h =
     leave_by setup moment word outcome sent (is_unheard outcome) (nat_le (member_count setup outcome) few_members) h
-one_act setup (configured moment settings) (present outcome) sent h = h
-one_act setup (forgotten moment ssrc) (present outcome) sent h = h
-one_act setup (arrived moment peer drawn (rtcp size reading)) (backing_off outcome backoff) sent h = h
-one_act setup (arrived moment peer drawn (rtp reading)) (backing_off outcome backoff) sent h = h
-one_act setup (rtp_sent moment timestamp octets) (backing_off outcome backoff) sent h = h
 one_act setup (ticked moment first_word second_word) (backing_off outcome backoff) sent h =
     bye_by setup moment first_word (leaving_interval setup backoff) outcome backoff sent
     (is_bye_due setup moment first_word backoff) h
-one_act setup (left moment word) (backing_off outcome backoff) sent h = h
-one_act setup (configured moment settings) (backing_off outcome backoff) sent h = h
-one_act setup (forgotten moment ssrc) (backing_off outcome backoff) sent h = h
-one_act setup act (gone outcome) sent h = h
+one_act setup act (present outcome) sent h = h
+one_act setup (arrived moment peer drawn (rtcp size reading)) (backing_off outcome backoff) sent h = h
+one_act setup act life sent h = h
 
 one_step : (session : Session) (act : Act) (sent : List Sent) (change : Option NewIdentifier) →
     change_by session act ≡ change → reports_of session.life ≡ counted sent

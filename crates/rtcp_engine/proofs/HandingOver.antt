@@ -6,7 +6,7 @@ use Rattle.std.proofs.lemmas.List.{append_assoc}
 use Rattle.std.specs.Option.{option_or}
 use Rattle.rtcp_engine.specs.declared.refusal.Refusal.{Refusal}
 use Rattle.rtcp_engine.specs.declared.refusal.Refusal.TheVariants.{Left}
-use Rattle.rtcp_engine.specs.Acts.{Act, arrived, rtp_sent, ticked, left, configured, forgotten, moment_of}
+use Rattle.rtcp_engine.specs.Acts.{Act, ticked, left, moment_of}
 use Rattle.rtcp_engine.specs.Answers.{answer_of, answers_to, followed_by, followed_by_all, step_by}
 use Rattle.rtcp_engine.specs.Changes.{NewIdentifier, Session, bye_of_change, change_by, changed_by}
 use Rattle.rtcp_engine.specs.Histories.{History, after_act, brought_by, life_at, session_at, with_act}
@@ -40,9 +40,8 @@ all_sent h (act ∷ acts) =
 -- ---- The end
 
 abbrev IsGone : Life → Type 0
-IsGone (present outcome) = ⊥
-IsGone (backing_off outcome backoff) = ⊥
 IsGone (gone outcome) = Unit {0}
+IsGone life = ⊥
 
 no_report : (octets : Option (List ℕ)) → is_bye (option_map report_out octets) ≡ true → ⊥
 no_report None bye = absurd cc
@@ -51,9 +50,8 @@ no_report (Some octets) bye = absurd cc
 leaves : (unheard few : Bool) (o : Outcome) (waiting : Life) (octets : List ℕ) →
     is_bye (option_map bye_out (if unheard then None else (if few then Some octets else None))) ≡ true →
     IsGone (if unheard then gone o else (if few then gone o else waiting))
-leaves true few o waiting octets bye = tt
-leaves false true o waiting octets bye = tt
 leaves false false o waiting octets bye = absurd (cc bye)
+leaves unheard few o waiting octets bye = tt
 
 waits : (due : Bool) (o : Outcome) (waiting : Life) (octets : List ℕ) →
     is_bye (if due then Some (bye_out octets) else None) ≡ true → IsGone (if due then gone o else waiting)
@@ -65,17 +63,9 @@ gone_after : (setup : Setup) (act : Act) (life : Life) → is_bye (out_by setup 
     IsGone (lived setup act life)
 gone_after setup (ticked moment first_word second_word) (present o) bye = absurd (no_report _ bye)
 gone_after setup (left moment word) (present o) bye = leaves _ _ o _ (bye_octets setup) bye
-gone_after setup (arrived moment peer word datagram) (present o) bye = absurd (cc bye)
-gone_after setup (rtp_sent moment timestamp octets) (present o) bye = absurd (cc bye)
-gone_after setup (configured moment settings) (present o) bye = absurd (cc bye)
-gone_after setup (forgotten moment ssrc) (present o) bye = absurd (cc bye)
 gone_after setup (ticked moment first_word second_word) (backing_off o b) bye = waits _ o _ (bye_octets setup) bye
-gone_after setup (left moment word) (backing_off o b) bye = absurd (cc bye)
-gone_after setup (arrived moment peer word datagram) (backing_off o b) bye = absurd (cc bye)
-gone_after setup (rtp_sent moment timestamp octets) (backing_off o b) bye = absurd (cc bye)
-gone_after setup (configured moment settings) (backing_off o b) bye = absurd (cc bye)
-gone_after setup (forgotten moment ssrc) (backing_off o b) bye = absurd (cc bye)
 gone_after setup act (gone o) bye = tt
+gone_after setup act life bye = absurd (cc bye)
 
 abbrev number : NewIdentifier → ℕ
 number new = new.ssrc
@@ -106,9 +96,8 @@ said h act None is goodbye =
     unchanged_gone session act (change_by session act) refl (not_true _ both.1) both.0
 
 refuses : (life : Life) (refusal : Option Refusal) → IsGone life → refusal_in life refusal ≡ Some Left
-refuses (present o) refusal h = absurd h
-refuses (backing_off o b) refusal h = absurd h
 refuses (gone o) refusal h = refl
+refuses life refusal h = absurd h
 
 refused : (h : History) (acts : List Act) → IsGone (life_at h) → AreRefusals (answers_to h acts)
 refused h [] is = tt

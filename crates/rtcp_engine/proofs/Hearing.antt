@@ -1,5 +1,5 @@
 -- Who is heard becomes a member, and who was heard lately stays one.
-use Rattle.std.proofs.Common.{◌≡◌, ℕ, ◌&&◌, ◌==◌, not, map, filter, cond, Bool, true, false, List, [], ◌∷◌, All, Contains, Option, Some, None, Ok, Err, refl, sym, ap, subst, ◌∙◌, arith}
+use Rattle.std.proofs.Common.{◌≡◌, ℕ, ◌&&◌, ◌==◌, not, map, filter, cond, Bool, true, false, List, [], ◌∷◌, All, Contains, Option, Some, None, Ok, refl, sym, ap, subst, ◌∙◌, arith}
 use Rattle.std.proofs.lemmas.List.Elements.{All-nil, All-cons, All-head, All-tail}
 use Rattle.rtcp_wire.specs.declared.fact.Fact.{Fact}
 use Rattle.rtcp_wire.specs.declared.fact.Fact.TheVariants.{Heard, Named}
@@ -83,33 +83,27 @@ module _ (ssrc : ℕ) where
       LeavesAlone ssrc act → HeardNow setup act outcome → IsIn setup.capacity (after setup act outcome).trace
   in_after setup (arrived t peer word (rtcp size (Ok packets))) outcome is alone heard =
       members_through setup.capacity ssrc t (facts_of packets) outcome.trace alone is
-  in_after setup (arrived t peer word (rtcp size (Err fault))) outcome is alone heard = is
   in_after setup (arrived t peer word (rtp (Ok head))) outcome is alone heard =
       let counted = counted_at setup.capacity outcome.trace (media_fact (rate_of setup head) head) in
       members_through setup.capacity ssrc t (facts_of_media setup.ssrc (rate_of setup head) head counted)
       outcome.trace (media_quiet setup.ssrc (rate_of setup head) head counted) is
-  in_after setup (arrived t peer word (rtp (Err fault))) outcome is alone heard = is
-  in_after setup (rtp_sent t timestamp octets) outcome is alone heard = is
   in_after setup (ticked t first_word second_word) outcome is alone heard =
       in_ticked setup t first_word second_word (checked setup t outcome) (in_check setup t outcome is heard)
-  in_after setup (left t word) outcome is alone heard = is
-  in_after setup (configured t settings) outcome is alone heard = is
   in_after setup (forgotten t other) outcome is alone heard =
       member_on setup.capacity ssrc (source_forgotten other) outcome.trace is
       (record { quiet = refl; kept = alone; heard = omega arith })
+  in_after setup act outcome is alone heard = is
 
   -- ---- Lives
 
   -- Where the participant takes part, the source is a member.
   abbrev LivesWith : (capacity : ℕ) → Life → Type 0
   LivesWith capacity (present outcome) = IsIn capacity outcome.trace
-  LivesWith capacity (backing_off outcome backoff) = Unit {0}
-  LivesWith capacity (gone outcome) = Unit {0}
+  LivesWith capacity life = Unit {0}
 
   abbrev HeardIn : Setup → Act → Life → Type 0
   HeardIn setup act (present outcome) = HeardNow setup act outcome
-  HeardIn setup act (backing_off outcome backoff) = Unit {0}
-  HeardIn setup act (gone outcome) = Unit {0}
+  HeardIn setup act life = Unit {0}
 
   lives_with : (setup : Setup) (act : Act) (life : Life) → LivesWith setup.capacity life → LeavesAlone ssrc act →
       HeardIn setup act life → LivesWith setup.capacity (lived setup act life)
@@ -123,15 +117,10 @@ module _ (ssrc : ℕ) where
   lives_with setup (configured t settings) (present outcome) is alone heard = is
   lives_with setup (forgotten t other) (present outcome) is alone heard =
       in_after setup (forgotten t other) outcome is alone tt
-  lives_with setup (arrived t peer word (rtcp size reading)) (backing_off outcome backoff) is alone heard = tt
-  lives_with setup (arrived t peer word (rtp reading)) (backing_off outcome backoff) is alone heard = tt
-  lives_with setup (rtp_sent t timestamp octets) (backing_off outcome backoff) is alone heard = tt
   lives_with setup (ticked t first_word second_word) (backing_off outcome backoff) is alone heard =
       of_wait (LivesWith setup.capacity) setup t first_word outcome backoff tt tt
-  lives_with setup (left t word) (backing_off outcome backoff) is alone heard = tt
-  lives_with setup (configured t settings) (backing_off outcome backoff) is alone heard = tt
-  lives_with setup (forgotten t other) (backing_off outcome backoff) is alone heard = tt
-  lives_with setup act (gone outcome) is alone heard = tt
+  lives_with setup (arrived t peer word (rtcp size reading)) (backing_off outcome backoff) is alone heard = tt
+  lives_with setup act life is alone heard = tt
 
   -- ---- Sessions
 
@@ -142,8 +131,7 @@ module _ (ssrc : ℕ) where
   renamed_with : (capacity : ℕ) (setup : Setup) (life : Life) → LivesWith capacity life →
       LivesWith capacity (with_new_ssrc setup life)
   renamed_with capacity setup (present outcome) is = is
-  renamed_with capacity setup (backing_off outcome backoff) is = tt
-  renamed_with capacity setup (gone outcome) is = tt
+  renamed_with capacity setup life is = tt
 
   changed_with : (session : Session) (change : Option NewIdentifier) → HasMember session →
       HasMember (changed_by change session)
@@ -153,8 +141,7 @@ module _ (ssrc : ℕ) where
   arrived_in : (t peer word : ℕ) (datagram : Datagram) (setup : Setup) (life : Life) →
       HeardIn setup (arrived t peer word datagram) life
   arrived_in t peer word datagram setup (present outcome) = tt
-  arrived_in t peer word datagram setup (backing_off outcome backoff) = tt
-  arrived_in t peer word datagram setup (gone outcome) = tt
+  arrived_in t peer word datagram setup life = tt
 
   act_with : (session : Session) (act : Act) → HasMember session → LeavesAlone ssrc act →
       HeardIn session.setup act session.life → HasMember (after_act session act)
@@ -183,22 +170,10 @@ module _ (ssrc : ℕ) where
           life_at (with_acts since history) ≡ life → HeardIn (setup_at (with_acts since history)) act life
       by (ticked t first_word second_word) heard (present outcome) is =
           heard [] t first_word second_word since outcome refl is
-      by (ticked t first_word second_word) heard (backing_off outcome backoff) is = tt
-      by (ticked t first_word second_word) heard (gone outcome) is = tt
       by (arrived t peer word datagram) heard life is =
           arrived_in t peer word datagram (setup_at (with_acts since history)) life
-      by (rtp_sent t timestamp octets) heard (present outcome) is = tt
-      by (rtp_sent t timestamp octets) heard (backing_off outcome backoff) is = tt
-      by (rtp_sent t timestamp octets) heard (gone outcome) is = tt
-      by (left t word) heard (present outcome) is = tt
-      by (left t word) heard (backing_off outcome backoff) is = tt
-      by (left t word) heard (gone outcome) is = tt
-      by (configured t settings) heard (present outcome) is = tt
-      by (configured t settings) heard (backing_off outcome backoff) is = tt
-      by (configured t settings) heard (gone outcome) is = tt
-      by (forgotten t other) heard (present outcome) is = tt
-      by (forgotten t other) heard (backing_off outcome backoff) is = tt
-      by (forgotten t other) heard (gone outcome) is = tt
+      by act heard (present outcome) is = tt
+      by act heard life is = tt
 
   pub heard_before : (history : History) (act : Act) (since : List Act) → IsHeardAtTicks ssrc (act ∷ since) history →
       IsHeardAtTicks ssrc since history
@@ -217,8 +192,7 @@ module _ (ssrc : ℕ) where
   has_member : (setup : Setup) (life : Life) → is_such is_member (entry_in_life setup life ssrc) ≡ true →
       LivesWith setup.capacity life
   has_member setup (present outcome) is = is
-  has_member setup (backing_off outcome backoff) is = tt
-  has_member setup (gone outcome) is = tt
+  has_member setup life is = tt
 
   is_one : (setup : Setup) (life : Life) (outcome : Outcome) → life ≡ present outcome →
       LivesWith setup.capacity life → is_such is_member (entry_in_life setup life ssrc) ≡ true
@@ -250,15 +224,13 @@ module _ (moment peer word size ssrc : ℕ) (packets : List RtcpPacket) (named :
 
     abbrev MayComeTo : (capacity : ℕ) → Life → Type 0
     MayComeTo capacity (present outcome) = MayBring capacity ssrc (facts_of packets) outcome.trace
-    MayComeTo capacity (backing_off outcome backoff) = ⊥
-    MayComeTo capacity (gone outcome) = ⊥
+    MayComeTo capacity life = ⊥
 
     joins_life : (setup : Setup) (life : Life) → MayComeTo setup.capacity life →
         is_such is_member (entry_in_life setup (lived setup compound life) ssrc) ≡ true
     joins_life setup (present outcome) may =
         named_become_members setup.capacity ssrc moment (facts_of packets) outcome.trace named may
-    joins_life setup (backing_off outcome backoff) may = absurd may
-    joins_life setup (gone outcome) may = absurd may
+    joins_life setup life may = absurd may
 
     joins_session : (session : Session) (change : Option NewIdentifier) →
         MayComeTo session.setup.capacity session.life → let now = changed_by change session in

@@ -1,5 +1,5 @@
 -- Where an act does not say that the others changed, each of them has the role that it had.
-use Rattle.std.proofs.Common.{◌≡◌, ℕ, ◌+◌, ◌-◌, ◌==◌, not, false, List, [], ◌∷◌, length, drop, Option, Some, None, Ok, Err, arith, refl, sym, ap, ◌∙◌, subst}
+use Rattle.std.proofs.Common.{◌≡◌, ℕ, ◌+◌, ◌-◌, ◌==◌, not, false, List, [], ◌∷◌, length, drop, Option, Some, None, Ok, arith, refl, sym, ap, ◌∙◌, subst}
 use Rattle.std.proofs.lemmas.Bool.Decides.{nat_tests}
 use Rattle.std.proofs.lemmas.List.{drop-drop}
 use Rattle.rtcp_wire.specs.declared.fact.Fact.{Fact}
@@ -10,12 +10,12 @@ use Rattle.rtcp_members.specs.Roles.{IsSameRole}
 use Rattle.rtcp_members.specs.Traces.{TraceStep, block_taken, fact_came, with_facts, source_forgotten}
 use Rattle.rtcp_members.proofs.LawLemmas as tables
 use Rattle.rtcp_report.specs.Traced.{with_blocks}
-use Rattle.rtcp_engine.specs.Acts.{Act, arrived, configured, left, rtcp, rtp, rtp_sent, ticked, forgotten}
+use Rattle.rtcp_engine.specs.Acts.{Act, arrived, left, rtcp, rtp, ticked, forgotten}
 use Rattle.rtcp_engine.specs.Answers.{step_by}
 use Rattle.rtcp_engine.specs.Arrivals.{after, facts_of_media, media_fact, rate_of}
 use Rattle.rtcp_engine.specs.Changes.{NewIdentifier, Session, change_by, changed_by}
 use Rattle.rtcp_engine.specs.Histories.{History, session_at, session_for, settings_after, setup_after, with_act}
-use Rattle.rtcp_engine.specs.Leaving.{Life, backing_off, after_wait, gone, left_at, present}
+use Rattle.rtcp_engine.specs.Leaving.{Life, backing_off, gone, left_at, present}
 use Rattle.rtcp_engine.specs.Lives.{entry_in_life, lived, moved_since, others_moved_by}
 use Rattle.rtcp_engine.specs.Outcomes.{Outcome}
 use Rattle.rtcp_engine.proofs.LifeLemmas.{of_check, of_leave, of_wait}
@@ -63,18 +63,14 @@ report_goes_on setup t first_word second_word outcome =
 
 goes_on : (setup : Setup) (act : Act) (outcome : Outcome) → GoesOn outcome.trace (after setup act outcome).trace
 goes_on setup (arrived t peer word (rtcp size (Ok packets))) outcome = facts_go_on (facts_of packets) t outcome.trace
-goes_on setup (arrived t peer word (rtcp size (Err fault))) outcome = goes_nowhere outcome.trace
 goes_on setup (arrived t peer word (rtp (Ok head))) outcome =
     facts_go_on (facts_of_media setup.ssrc (rate_of setup head) head
     (counted_at setup.capacity outcome.trace (media_fact (rate_of setup head) head)))
     t outcome.trace
-goes_on setup (arrived t peer word (rtp (Err fault))) outcome = goes_nowhere outcome.trace
-goes_on setup (rtp_sent t timestamp octets) outcome = goes_nowhere outcome.trace
 goes_on setup (ticked t first_word second_word) outcome =
     one_sooner (report_goes_on setup t first_word second_word (checked setup t outcome))
-goes_on setup (left t word) outcome = goes_nowhere outcome.trace
-goes_on setup (configured t settings) outcome = goes_nowhere outcome.trace
 goes_on setup (forgotten t ssrc) outcome = one_sooner (goes_nowhere (source_forgotten ssrc ∷ outcome.trace))
+goes_on setup act outcome = goes_nowhere outcome.trace
 
 kept_since : (setup : Setup) (before now : Outcome) → GoesOn before.trace now.trace →
     moved_since setup before now ≡ false → (ssrc : ℕ)
@@ -126,24 +122,18 @@ kept_in : (setup : Setup) (act : Act) (life : Life) → others_moved_by setup ac
 kept_in setup (arrived t peer word datagram) (present outcome) still ssrc =
     kept_since setup outcome (after setup (arrived t peer word datagram) outcome)
     (goes_on setup (arrived t peer word datagram) outcome) still ssrc
-kept_in setup (rtp_sent t timestamp octets) (present outcome) still ssrc = (refl, refl)
 kept_in setup (ticked t first_word second_word) (present outcome) still ssrc =
     kept_since setup outcome (after_tick setup t first_word second_word outcome)
     (goes_on setup (ticked t first_word second_word) outcome) still ssrc
 kept_in setup (left t word) (present outcome) still ssrc = kept_by_leave setup t word outcome still ssrc
-kept_in setup (configured t settings) (present outcome) still ssrc = (refl, refl)
 kept_in setup (forgotten t other) (present outcome) still ssrc =
     kept_since setup outcome (after setup (forgotten t other) outcome) (goes_on setup (forgotten t other) outcome) still
     ssrc
-kept_in setup (arrived t peer word (rtcp size reading)) (backing_off outcome backoff) still ssrc = (refl, refl)
-kept_in setup (arrived t peer word (rtp reading)) (backing_off outcome backoff) still ssrc = (refl, refl)
-kept_in setup (rtp_sent t timestamp octets) (backing_off outcome backoff) still ssrc = (refl, refl)
+kept_in setup act (present outcome) still ssrc = (refl, refl)
 kept_in setup (ticked t first_word second_word) (backing_off outcome backoff) still ssrc =
     subst (IsSameRole None) (sym (still_waiting setup t first_word outcome backoff ssrc)) (refl, refl)
-kept_in setup (left t word) (backing_off outcome backoff) still ssrc = (refl, refl)
-kept_in setup (configured t settings) (backing_off outcome backoff) still ssrc = (refl, refl)
-kept_in setup (forgotten t other) (backing_off outcome backoff) still ssrc = (refl, refl)
-kept_in setup act (gone outcome) still ssrc = (refl, refl)
+kept_in setup (arrived t peer word (rtcp size reading)) (backing_off outcome backoff) still ssrc = (refl, refl)
+kept_in setup act life still ssrc = (refl, refl)
 
 -- A change of identifier changes nothing of the others.
 same_in_change : (session : Session) (change : Option NewIdentifier) (ssrc : ℕ) → let now = changed_by change session in
@@ -162,8 +152,7 @@ same_in_change session (Some new) ssrc = under session.setup new session.life
 same_when_set : (settings : SettingsValue) (setup : Setup) (life : Life) (ssrc : ℕ) →
     entry_in_life setup life ssrc ≡ entry_in_life (with_settings settings setup) life ssrc
 same_when_set settings setup (present outcome) ssrc = refl
-same_when_set settings setup (backing_off outcome backoff) ssrc = refl
-same_when_set settings setup (gone outcome) ssrc = refl
+same_when_set settings setup life ssrc = refl
 
 pub others_kept : (history : History) (act : Act) → (step_by history act).others_changed ≡ false → (ssrc : ℕ)
     → let before = session_at history in let next = session_at (with_act history act) in

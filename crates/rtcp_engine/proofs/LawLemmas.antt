@@ -13,7 +13,7 @@ use Rattle.rtcp_engine.specs.declared.refusal.Refusal.{Refusal}
 use Rattle.rtcp_engine.specs.Setups.{Setup, SettingsValue, IsUsable, with_settings}
 use Rattle.rtcp_engine.specs.Refused.{error_in}
 use Rattle.rtcp_engine.specs.Acts.{Act, configured, moment_of, IsReading, IsRtpReading, IsTotal, IsUnique}
-use Rattle.rtcp_engine.specs.Leaving.{Life, present, backing_off, gone}
+use Rattle.rtcp_engine.specs.Leaving.{Life, present}
 use Rattle.rtcp_engine.specs.Lives.{TellsInLife, lived, out_by, own_bye, with_pace_in, next_in_life}
 use Rattle.rtcp_engine.specs.Changes.{NewIdentifier, Session, bye_of_change, change_by, changed_by}
 use Rattle.rtcp_engine.specs.OwnStreams.{OwnStep, packet_sent, check_passed, report_sent, counts_anew, sending_since}
@@ -208,14 +208,12 @@ changes_bring_one_bye session act new is =
 settings_live : (setup : Setup) (moment : ℕ) (settings : SettingsValue) (life : Life) →
     lived setup (configured moment settings) life ≡ with_pace_in setup settings moment life
 settings_live setup moment settings (present outcome) = refl
-settings_live setup moment settings (backing_off outcome backoff) = refl
-settings_live setup moment settings (gone outcome) = refl
+settings_live setup moment settings life = refl
 
 settings_send : (setup : Setup) (moment : ℕ) (settings : SettingsValue) (life : Life) →
     out_by setup (configured moment settings) life ≡ None
 settings_send setup moment settings (present outcome) = refl
-settings_send setup moment settings (backing_off outcome backoff) = refl
-settings_send setup moment settings (gone outcome) = refl
+settings_send setup moment settings life = refl
 
 pub settings_touch_the_setup_alone-life : (history : History) (moment : ℕ) (settings : SettingsValue) →
     life_at (with_act history (configured moment settings))
@@ -226,8 +224,7 @@ settings_touch_the_setup_alone-life history moment settings =
 same_next : (setup : Setup) (settings : SettingsValue) (moment : ℕ) (life : Life) →
     next_in_life (with_pace_in setup settings moment life) ≡ next_in_life life
 same_next setup settings moment (present outcome) = refl
-same_next setup settings moment (backing_off outcome backoff) = refl
-same_next setup settings moment (gone outcome) = refl
+same_next setup settings moment life = refl
 
 pub settings_touch_the_setup_alone-next : (history : History) (moment : ℕ) (settings : SettingsValue) →
     next_in_life (life_at (with_act history (configured moment settings))) ≡ next_in_life (life_at history)

@@ -15,7 +15,7 @@ use Rattle.rtcp_members.proofs.LawLemmas.{present_were_named_and_fit-named, pres
 use Rattle.rtcp_engine.specs.declared.changes.IdentifierChange.{IdentifierChange}
 use Rattle.rtcp_engine.specs.declared.refusal.Refusal.TheVariants.{OwnSsrc}
 use Rattle.rtcp_engine.specs.Setups.{Setup}
-use Rattle.rtcp_engine.specs.Acts.{Datagram, Act, arrived, rtp_sent, ticked, left, configured, moment_of, forgotten}
+use Rattle.rtcp_engine.specs.Acts.{Datagram, Act, arrived, moment_of}
 use Rattle.rtcp_engine.specs.Identities.{AreApart, first_free, is_among, may_change, most_changes}
 use Rattle.rtcp_engine.specs.Leaving.{Life, present, backing_off, gone}
 use Rattle.rtcp_engine.specs.Changes.{NewIdentifier, Session, change_by, changed_by, changing_peers, identifiers, is_about, is_in_table, is_taken, most_taken, named_by, new_identifier}
@@ -32,8 +32,7 @@ use Rattle.rtcp_engine.proofs.Changing.{usable_in}
 
 may_if : (own may : Bool) → own ≡ true → refusal_if (own && not may) OwnSsrc ≡ None → may ≡ true
 may_if true true is none = refl
-may_if true false is none = absurd cc
-may_if false may is none = absurd cc
+may_if own may is none = absurd cc
 
 -- a change is for a peer that may bring one
 may_by : (session : Session) (moment peer word : ℕ) (datagram : Datagram) →
@@ -52,11 +51,7 @@ few_after session (arrived moment peer word datagram) none few =
     (may_by session moment peer word datagram none own)).1 in
     omega (arith, below, length-map session.changes (λ (change : IdentifierChange). change.peer)))
     (λ other. few)
-few_after session (rtp_sent moment timestamp octets) none few = few
-few_after session (ticked moment first_word second_word) none few = few
-few_after session (left moment word) none few = few
-few_after session (configured moment settings) none few = few
-few_after session (forgotten moment ssrc) none few = few
+few_after session act none few = few
 
 pub few_listed : (setup : Setup) (word : ℕ) (acts : List Act) → AllTaken setup word acts →
     length (session_of setup word acts).changes ≤ most_changes
@@ -83,11 +78,7 @@ apart_after session (arrived moment peer word datagram) none apart =
     (may_by session moment peer word datagram none own) in
     (not_true (is_among peers peer) other.0, apart))
     (λ other. apart)
-apart_after session (rtp_sent moment timestamp octets) none apart = apart
-apart_after session (ticked moment first_word second_word) none apart = apart
-apart_after session (left moment word) none apart = apart
-apart_after session (configured moment settings) none apart = apart
-apart_after session (forgotten moment ssrc) none apart = apart
+apart_after session act none apart = apart
 
 pub apart_listed : (setup : Setup) (word : ℕ) (acts : List Act) → AllTaken setup word acts →
     AreApart (changing_peers (session_of setup word acts))

@@ -1,8 +1,8 @@
 -- Where nothing is said of other clocks, each RTP packet counts in units of the usual one.
-use Rattle.std.proofs.Common.{◌≡◌, ◌==◌, not, ℕ, Bool, true, false, List, [], ◌∷◌, map, filter, All, Option, Some, None, Ok, Err, refl, sym, ap, ◌∙◌, subst}
+use Rattle.std.proofs.Common.{◌≡◌, ◌==◌, not, ℕ, Bool, true, false, List, [], ◌∷◌, map, filter, All, Option, Some, None, Ok, refl, sym, ap, ◌∙◌, subst}
 use Rattle.std.proofs.lemmas.List.Elements.{All-head, All-tail}
 use Rattle.rtcp_wire.specs.declared.fact.Fact.{Fact}
-use Rattle.rtcp_wire.specs.declared.fact.Fact.TheVariants.{Heard, Told, Named, Gone, Media}
+use Rattle.rtcp_wire.specs.declared.fact.Fact.TheVariants.{Heard, Media}
 use Rattle.rtcp_wire.specs.Facts.{facts_of, is_media}
 use Rattle.rtcp_wire.specs.RtpHeads.{RtpValue}
 use Rattle.rtcp_wire.proofs.LawLemmas.{compounds_give_no_media}
@@ -18,7 +18,7 @@ use Rattle.rtcp_engine.specs.Changes.{NewIdentifier, Session, change_by, changed
 use Rattle.std.specs.List.{AllByRecursion}
 use Rattle.rtcp_engine.specs.Histories.{session_of, setup_after}
 use Rattle.rtcp_engine.specs.Taken.{GivesNoClocks}
-use Rattle.rtcp_engine.specs.Leaving.{Life, present, backing_off, gone}
+use Rattle.rtcp_engine.specs.Leaving.{Life, present, backing_off}
 use Rattle.rtcp_engine.specs.Lives.{lived, with_new_ssrc}
 use Rattle.rtcp_engine.specs.Outcomes.{Outcome}
 use Rattle.rtcp_engine.specs.Reporting.{reported_at}
@@ -29,11 +29,8 @@ use Rattle.rtcp_engine.proofs.LifeLemmas.{of_check, of_leave, of_wait}
 -- ---- Facts
 
 no_media : (rate : ℕ) (fact : Fact) → is_media fact ≡ false → HasRate rate fact
-no_media rate (Heard ssrc) is = tt
-no_media rate (Told ssrc ntp timestamp) is = tt
-no_media rate (Named ssrc) is = tt
-no_media rate (Gone ssrc) is = tt
 no_media rate (Media ssrc seq timestamp octets other) is = absurd cc
+no_media rate fact is = tt
 
 facts_have : (rate moment : ℕ) (facts : List Fact) (trace : List TraceStep) →
     All (λ fact. is_media fact ≡ false) facts →
@@ -72,29 +69,24 @@ after_has : (setup : Setup) (rate : ℕ) → IsOfOneClock setup rate → (act : 
     HasOneClock rate outcome.trace → HasOneClock rate (after setup act outcome).trace
 after_has setup rate is (arrived t peer word (rtcp size (Ok packets))) outcome has =
     facts_have rate t (facts_of packets) outcome.trace (compounds_give_no_media packets) has
-after_has setup rate is (arrived t peer word (rtcp size (Err fault))) outcome has = has
 after_has setup rate is (arrived t peer word (rtp (Ok head))) outcome has =
     subst (λ (r : ℕ). HasOneClock rate (with_facts
     (facts_of_media setup.ssrc r head (counted_at setup.capacity outcome.trace (media_fact r head))) t outcome.trace))
     (sym (is head.payload_type))
     (media_has setup.ssrc rate t head (counted_at setup.capacity outcome.trace (media_fact rate head)) outcome.trace
     has)
-after_has setup rate is (arrived t peer word (rtp (Err fault))) outcome has = has
-after_has setup rate is (rtp_sent t timestamp octets) outcome has = has
 after_has setup rate is (ticked t first_word second_word) outcome has =
     let now = checked setup t outcome in
     of_check (λ (next : Outcome). HasOneClock rate next.trace) setup t first_word second_word now (tt, has) (tt, has)
     (blocks_have rate (reported_at setup t now) now.trace (tt, has))
-after_has setup rate is (left t word) outcome has = has
-after_has setup rate is (configured t settings) outcome has = has
 after_has setup rate is (forgotten t ssrc) outcome has = (tt, has)
+after_has setup rate is act outcome has = has
 
 -- ---- Lives
 
 abbrev HasIn : (rate : ℕ) → Life → Type 0
 HasIn rate (present outcome) = HasOneClock rate outcome.trace
-HasIn rate (backing_off outcome backoff) = Unit {0}
-HasIn rate (gone outcome) = Unit {0}
+HasIn rate life = Unit {0}
 
 lived_has : (setup : Setup) (rate : ℕ) → IsOfOneClock setup rate → (act : Act) (life : Life) → HasIn rate life →
     HasIn rate (lived setup act life)
@@ -106,20 +98,14 @@ lived_has setup rate is (ticked t first_word second_word) (present outcome) has 
 lived_has setup rate is (left t word) (present outcome) has = of_leave (HasIn rate) setup t word outcome tt tt
 lived_has setup rate is (configured t settings) (present outcome) has = has
 lived_has setup rate is (forgotten t ssrc) (present outcome) has = (tt, has)
-lived_has setup rate is (arrived t peer word (rtcp size reading)) (backing_off outcome backoff) has = tt
-lived_has setup rate is (arrived t peer word (rtp reading)) (backing_off outcome backoff) has = tt
-lived_has setup rate is (rtp_sent t timestamp octets) (backing_off outcome backoff) has = tt
 lived_has setup rate is (ticked t first_word second_word) (backing_off outcome backoff) has =
     of_wait (HasIn rate) setup t first_word outcome backoff tt tt
-lived_has setup rate is (left t word) (backing_off outcome backoff) has = tt
-lived_has setup rate is (configured t settings) (backing_off outcome backoff) has = tt
-lived_has setup rate is (forgotten t ssrc) (backing_off outcome backoff) has = tt
-lived_has setup rate is act (gone outcome) has = tt
+lived_has setup rate is (arrived t peer word (rtcp size reading)) (backing_off outcome backoff) has = tt
+lived_has setup rate is act life has = tt
 
 renamed_has : (rate : ℕ) (setup : Setup) (life : Life) → HasIn rate life → HasIn rate (with_new_ssrc setup life)
 renamed_has rate setup (present outcome) has = has
-renamed_has rate setup (backing_off outcome backoff) has = tt
-renamed_has rate setup (gone outcome) has = tt
+renamed_has rate setup life has = tt
 
 changed_has : (rate : ℕ) (session : Session) (change : Option NewIdentifier) → HasIn rate session.life →
     HasIn rate (changed_by change session).life
@@ -144,12 +130,8 @@ no_clocks setup word (act ∷ earlier) none gives =
     by_change session (Some new) none = none
 
     by_act : (act : Act) (now : Setup) → GivesNoClocks act → now.clocks ≡ [] → (setup_after act now).clocks ≡ []
-    by_act (arrived t peer word datagram) now gives none = none
-    by_act (rtp_sent t timestamp octets) now gives none = none
-    by_act (ticked t first_word second_word) now gives none = none
-    by_act (left t word) now gives none = none
     by_act (configured t settings) now gives none = gives
-    by_act (forgotten t ssrc) now gives none = none
+    by_act act now gives none = none
 
 changed_clock : (rate : ℕ) (session : Session) (change : Option NewIdentifier) → IsOfOneClock session.setup rate →
     IsOfOneClock (changed_by change session).setup rate

@@ -10,8 +10,7 @@ use Rattle.rtcp_engine.specs.Outcomes.{Outcome, check_interval, end_at, end_of, 
 use Rattle.rtcp_engine.specs.Ticks.{horizons_of}
 use Rattle.rtcp_engine.specs.Changes.{change_by, changed_by}
 use Rattle.rtcp_engine.specs.Histories.{History, life_at, session_of, setup_at}
-use Rattle.rtcp_engine.specs.Leaving.{Life, present, backing_off, gone}
-use Rattle.rtcp_engine.specs.Lives.{lived}
+use Rattle.rtcp_engine.specs.Leaving.{Life, present}
 use Rattle.rtcp_engine.specs.Pacing.{end_by, end_while_present, last_end}
 use Rattle.rtcp_engine.proofs.Pacing.{InPaces, changed_paces, in_paces_on, paces_by, present_alone}
 
@@ -25,8 +24,7 @@ pub end_stays : (setup : Setup) (settings : SettingsValue) (t before : ℕ) (lif
     keeps_bandwidths settings setup ≡ true → end_by setup (configured t settings) life before ≡ before
 end_stays setup settings t before (present outcome) same =
     ap (λ (b : Bool). if b then before else max before (end_at setup t outcome)) same
-end_stays setup settings t before (backing_off outcome backoff) same = refl
-end_stays setup settings t before (gone outcome) same = refl
+end_stays setup settings t before life same = refl
 
 -- the newest pace ends then
 abbrev EndAt : ℕ → List Pace → Type 0

@@ -1,5 +1,6 @@
 -- Checks after a change of settings drop nobody sooner.
-use Rattle.std.proofs.Common.{◌≡◌, ℕ, ◌+◌, ◌-◌, ◌*◌, ◌<◌, ◌≤◌, ◌||◌, nat_lt, min, Bool, true, false, List, [], ◌∷◌, Option, Some, None, IfSome, Ok, Err, if◌then◌else◌, refl, sym, ap, ◌∙◌, subst, arith}
+use Rattle.std.proofs.Common.{◌≡◌, ℕ, ◌+◌, ◌-◌, ◌*◌, ◌≤◌, ◌||◌, nat_lt, min, Bool, true, false, List, [], ◌∷◌, Option, Some, None, IfSome, Ok, if◌then◌else◌, refl, sym, ap, ◌∙◌, subst, arith}
+use Rattle.std.proofs.lemmas.Bool.Decides.{nat_tests}
 use Rattle.std.proofs.lemmas.Bool.{ltb-false, lt-ltb, le-ltb}
 use Rattle.rtcp_members.specs.Entries.{members_at, senders_at}
 use Rattle.rtcp_members.specs.Stays.{is_before, is_removed}
@@ -11,7 +12,7 @@ use Rattle.rtcp_timer.specs.Loads.{interval_of}
 use Rattle.rtcp_timer.proofs.LawLemmas as timers
 use Rattle.rtcp_engine.specs.declared.pace.Pace.{Pace}
 use Rattle.rtcp_engine.specs.Setups.{Setup, SettingsValue, IsUsable, keeps_bandwidths, with_settings}
-use Rattle.rtcp_engine.specs.Acts.{Act, arrived, rtcp, rtp, rtp_sent, ticked, left, configured, forgotten}
+use Rattle.rtcp_engine.specs.Acts.{Act, arrived, rtcp, rtp, ticked, left, configured}
 use Rattle.rtcp_engine.specs.OwnStreams.{we_sent}
 use Rattle.rtcp_engine.specs.Outcomes.{Outcome, member_count, sender_count, one_if, newest_pace, slowed_by, receiver_load, receiver_interval_at, check_load, check_interval, pace_at, with_pace, IsPace}
 use Rattle.rtcp_engine.specs.Ticks.{checked, horizons_of}
@@ -55,14 +56,7 @@ with_bandwidths sender_bw receiver_bw load = record load { sender_bw = sender_bw
 slowed_alone : (t : ℕ) (pace : Option Pace) (load : Load) → slowed_by t pace load
     ≡ with_bandwidths (slowed_by t pace load).sender_bw (slowed_by t pace load).receiver_bw load
 slowed_alone t None load = refl
-slowed_alone t (Some pace) load =
-    let least : Load = with_bandwidths (min load.sender_bw pace.sender_bw) (min load.receiver_bw pace.receiver_bw) load
-    in
-    elim (nat_lt t pace.until) as (λ b. (if b then least else load)
-    ≡ with_bandwidths (if b then least else load).sender_bw (if b then least else load).receiver_bw load) [
-      | true ↦ refl
-      | false ↦ refl
-    ]
+slowed_alone t (Some pace) load = grind (arith, nat_tests)
 
 -- what a bandwidth is slowed to
 abbrev least_of : (t : ℕ) → Option Pace → (of : Pace → ℕ) → (bandwidth : ℕ) → ℕ
@@ -72,48 +66,23 @@ least_of t (Some pace) of bandwidth = if nat_lt t pace.until then min bandwidth 
 slowed_sender : (t : ℕ) (pace : Option Pace) (load : Load) →
     (slowed_by t pace load).sender_bw ≡ least_of t pace (λ (p : Pace). p.sender_bw) load.sender_bw
 slowed_sender t None load = refl
-slowed_sender t (Some pace) load =
-    let least : Load = with_bandwidths (min load.sender_bw pace.sender_bw) (min load.receiver_bw pace.receiver_bw) load
-    in
-    elim (nat_lt t pace.until) as (λ b. (if b then least else load).sender_bw
-    ≡ (if b then min load.sender_bw pace.sender_bw else load.sender_bw)) [ true ↦ refl | false ↦ refl ]
+slowed_sender t (Some pace) load = grind (arith, nat_tests)
 
 slowed_receiver : (t : ℕ) (pace : Option Pace) (load : Load) →
     (slowed_by t pace load).receiver_bw ≡ least_of t pace (λ (p : Pace). p.receiver_bw) load.receiver_bw
 slowed_receiver t None load = refl
-slowed_receiver t (Some pace) load =
-    let least : Load = with_bandwidths (min load.sender_bw pace.sender_bw) (min load.receiver_bw pace.receiver_bw) load
-    in
-    elim (nat_lt t pace.until) as (λ b. (if b then least else load).receiver_bw
-    ≡ (if b then min load.receiver_bw pace.receiver_bw else load.receiver_bw)) [ true ↦ refl | false ↦ refl ]
+slowed_receiver t (Some pace) load = grind (arith, nat_tests)
 
 -- A former pace counts less and less.
 counts_less : (moment t : ℕ) (pace : Option Pace) (of : Pace → ℕ) (bandwidth : ℕ) → moment ≤ t →
     least_of moment pace of bandwidth ≤ least_of t pace of bandwidth
 counts_less moment t None of bandwidth order = omega arith
-counts_less moment t (Some pace) of bandwidth order =
-    elim (nat_lt t pace.until) as (λ b. nat_lt t pace.until ≡ b → least_of moment (Some pace) of bandwidth
-    ≤ (if b then min bandwidth (of pace) else bandwidth)) [
-      | true ↦ λ early. subst (λ (b : Bool). (if b then min bandwidth (of pace) else bandwidth)
-          ≤ min bandwidth (of pace)) (sym (lt-ltb moment pace.until (sooner early))) (omega arith)
-      | false ↦ λ late. at_most (nat_lt moment pace.until)
-    ] refl
-  where
-    sooner : nat_lt t pace.until ≡ true → moment < pace.until
-    sooner early = omega (arith, order, Rattle.std.proofs.lemmas.Bool.ltb-true t pace.until early)
-
-    at_most : (b : Bool) → (if b then min bandwidth (of pace) else bandwidth) ≤ bandwidth
-    at_most true = omega arith
-    at_most false = omega arith
+counts_less moment t (Some pace) of bandwidth order = grind (arith, nat_tests, order)
 
 some_left : (t : ℕ) (pace : Option Pace) (of : Pace → ℕ) (bandwidth : ℕ) → IfSome pace (λ p. 16 ≤ of p) →
     16 ≤ bandwidth → 16 ≤ least_of t pace of bandwidth
 some_left t None of bandwidth some enough = enough
-some_left t (Some pace) of bandwidth some enough =
-    elim (nat_lt t pace.until) as (λ b. 16 ≤ (if b then min bandwidth (of pace) else bandwidth)) [
-      | true ↦ omega (arith, some, enough)
-      | false ↦ enough
-    ]
+some_left t (Some pace) of bandwidth some enough = grind (arith, nat_tests, some, enough)
 
 for_senders : (pace : Option Pace) → IfSome pace IsPace → IfSome pace (λ p. 16 ≤ p.sender_bw)
 for_senders None is = tt
@@ -140,8 +109,7 @@ pace_usable setup t outcome usable paced =
 -- what holds of the paces of one that takes part
 abbrev pub InPaces : (List Pace → Type 0) → Life → Type 0
 InPaces P (present outcome) = P outcome.paces
-InPaces P (backing_off outcome backoff) = Unit {0}
-InPaces P (gone outcome) = Unit {0}
+InPaces P life = Unit {0}
 
 -- the paces after an act
 abbrev pub paces_by : Setup → Act → Outcome → List Pace
@@ -151,26 +119,18 @@ paces_by setup act outcome = outcome.paces
 pub paces_on : (P : List Pace → Type 0) (setup : Setup) (act : Act) (outcome : Outcome) →
     P (paces_by setup act outcome) → InPaces P (lived setup act (present outcome))
 paces_on P setup (arrived t peer word (rtcp size (Ok packets))) outcome h = h
-paces_on P setup (arrived t peer word (rtcp size (Err fault))) outcome h = h
 paces_on P setup (arrived t peer word (rtp (Ok head))) outcome h = h
-paces_on P setup (arrived t peer word (rtp (Err fault))) outcome h = h
-paces_on P setup (rtp_sent t timestamp octets) outcome h = h
 paces_on P setup (ticked t first_word second_word) outcome h =
     of_check (λ (now : Outcome). P now.paces) setup t first_word second_word (checked setup t outcome) h h h
 paces_on P setup (left t word) outcome h = of_leave (InPaces P) setup t word outcome tt tt
-paces_on P setup (configured t settings) outcome h = h
-paces_on P setup (forgotten t ssrc) outcome h = h
+paces_on P setup act outcome h = h
 
 paces_while_backing_off : (P : List Pace → Type 0) (setup : Setup) (act : Act) (outcome : Outcome)
     (backoff : Backoff) → InPaces P (lived setup act (backing_off outcome backoff))
-paces_while_backing_off P setup (arrived t peer word (rtcp size reading)) outcome backoff = tt
-paces_while_backing_off P setup (arrived t peer word (rtp reading)) outcome backoff = tt
-paces_while_backing_off P setup (rtp_sent t timestamp octets) outcome backoff = tt
 paces_while_backing_off P setup (ticked t first_word second_word) outcome backoff =
     of_wait (InPaces P) setup t first_word outcome backoff tt tt
-paces_while_backing_off P setup (left t word) outcome backoff = tt
-paces_while_backing_off P setup (configured t settings) outcome backoff = tt
-paces_while_backing_off P setup (forgotten t ssrc) outcome backoff = tt
+paces_while_backing_off P setup (arrived t peer word (rtcp size reading)) outcome backoff = tt
+paces_while_backing_off P setup act outcome backoff = tt
 
 -- what holds after an act, if it does where the participant takes part
 pub in_paces_on : (P : List Pace → Type 0) (setup : Setup) (act : Act) (life : Life) →
@@ -182,8 +142,7 @@ in_paces_on P setup act (gone outcome) h = tt
 renamed_paces : (P : List Pace → Type 0) (setup : Setup) (life : Life) → InPaces P life →
     InPaces P (with_new_ssrc setup life)
 renamed_paces P setup (present outcome) h = h
-renamed_paces P setup (backing_off outcome backoff) h = tt
-renamed_paces P setup (gone outcome) h = tt
+renamed_paces P setup life h = tt
 
 pub changed_paces : (P : List Pace → Type 0) (session : Session) (change : Option NewIdentifier) →
     InPaces P session.life → InPaces P (changed_by change session).life

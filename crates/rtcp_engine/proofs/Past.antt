@@ -1,6 +1,6 @@
 -- What a participant tells of a source came by the latest act that was taken.
-use Rattle.std.proofs.Common.{◌≡◌, ◌≤◌, ◌^◌, ℕ, nat_lt, Bool, true, false, if◌then◌else◌, List, [], ◌∷◌, All}
-use Rattle.std.proofs.Common.{Option, Some, None, Ok, Err, refl, sym, subst, arith}
+use Rattle.std.proofs.Common.{◌≡◌, ◌≤◌, ◌^◌, ℕ, nat_lt, Bool, false, if◌then◌else◌, List, [], ◌∷◌, All}
+use Rattle.std.proofs.Common.{Option, Some, None, Ok, refl, sym, subst, arith}
 use Rattle.std.proofs.lemmas.Bool.{ltb-false}
 use Rattle.std.proofs.lemmas.List.Elements.{All-nil}
 use Rattle.rtcp_wire.specs.Facts.{facts_of}
@@ -18,7 +18,7 @@ use Rattle.rtcp_engine.specs.Arrivals.{after, facts_of_media, media_fact, rate_o
 use Rattle.rtcp_engine.specs.Changes.{NewIdentifier, Session, change_by, changed_by}
 use Rattle.rtcp_engine.specs.Histories.{History, last_moment, life_at, session_of, setup_at}
 use Rattle.rtcp_engine.specs.Leaving.{Life, backing_off}
-use Rattle.rtcp_engine.specs.Leaving.{gone, present}
+use Rattle.rtcp_engine.specs.Leaving.{present}
 use Rattle.rtcp_engine.specs.Lives.{TellsInLife, WalksInLife, lived, with_new_ssrc}
 use Rattle.rtcp_engine.specs.Outcomes.{Outcome}
 use Rattle.rtcp_engine.specs.Refusals.{refusal_after}
@@ -48,26 +48,21 @@ came_after : (setup : Setup) (act : Act) (outcome : Outcome) → CameBy (moment_
     CameBy (moment_of act) (after setup act outcome).trace
 came_after setup (arrived t peer word (rtcp size (Ok packets))) outcome came =
     tables.told_lies_in_the_past-facts t t (facts_of packets) outcome.trace (omega arith) came
-came_after setup (arrived t peer word (rtcp size (Err fault))) outcome came = came
 came_after setup (arrived t peer word (rtp (Ok head))) outcome came =
     let counted = counted_at setup.capacity outcome.trace (media_fact (rate_of setup head) head) in
     tables.told_lies_in_the_past-facts t t (facts_of_media setup.ssrc (rate_of setup head) head counted) outcome.trace
     (omega arith) came
-came_after setup (arrived t peer word (rtp (Err fault))) outcome came = came
-came_after setup (rtp_sent t timestamp octets) outcome came = came
 came_after setup (ticked t first_word second_word) outcome came =
     report_came setup t first_word second_word (checked setup t outcome) (omega arith, came)
-came_after setup (left t word) outcome came = came
-came_after setup (configured t settings) outcome came = came
 came_after setup (forgotten t ssrc) outcome came = (omega arith, came)
+came_after setup act outcome came = came
 
 -- ---- Lives
 
 -- Where it takes part, what happened to its members came by this moment: from a leave on nothing is told of them.
 abbrev LivesBy : (latest : ℕ) → Life → Type 0
 LivesBy latest (present outcome) = CameBy latest outcome.trace
-LivesBy latest (backing_off outcome backoff) = Unit {0}
-LivesBy latest (gone outcome) = Unit {0}
+LivesBy latest life = Unit {0}
 
 -- by an act no earlier than this moment, whose own moment it is then
 lives_by : (setup : Setup) (latest : ℕ) (act : Act) (life : Life) → latest ≤ moment_of act → LivesBy latest life →
@@ -86,22 +81,16 @@ lives_by setup latest (configured t settings) (present outcome) order came =
     tables.told_lies_in_the_past-later latest t outcome.trace order came
 lives_by setup latest (forgotten t ssrc) (present outcome) order came =
     (omega arith, tables.told_lies_in_the_past-later latest t outcome.trace order came)
-lives_by setup latest (arrived t peer word (rtcp size reading)) (backing_off outcome backoff) order came = tt
-lives_by setup latest (arrived t peer word (rtp reading)) (backing_off outcome backoff) order came = tt
-lives_by setup latest (rtp_sent t timestamp octets) (backing_off outcome backoff) order came = tt
 lives_by setup latest (ticked t first_word second_word) (backing_off outcome backoff) order came =
     of_wait (LivesBy t) setup t first_word outcome backoff tt tt
-lives_by setup latest (left t word) (backing_off outcome backoff) order came = tt
-lives_by setup latest (configured t settings) (backing_off outcome backoff) order came = tt
-lives_by setup latest (forgotten t ssrc) (backing_off outcome backoff) order came = tt
-lives_by setup latest act (gone outcome) order came = tt
+lives_by setup latest (arrived t peer word (rtcp size reading)) (backing_off outcome backoff) order came = tt
+lives_by setup latest act life order came = tt
 
 -- A change of identifier changes nothing of the others.
 renamed_by : (latest : ℕ) (setup : Setup) (life : Life) → LivesBy latest life →
     LivesBy latest (with_new_ssrc setup life)
 renamed_by latest setup (present outcome) came = came
-renamed_by latest setup (backing_off outcome backoff) came = tt
-renamed_by latest setup (gone outcome) came = tt
+renamed_by latest setup life came = tt
 
 changed_came : (latest : ℕ) (session : Session) (change : Option NewIdentifier) → LivesBy latest session.life →
     LivesBy latest (changed_by change session).life
@@ -125,9 +114,8 @@ session_lives_by setup word (act ∷ earlier) taken =
 
 not_too_far : (back far : Bool) (others : Option Refusal) →
     (if back then Some Backwards else (if far then Some TooFar else others)) ≡ None → far ≡ false
-not_too_far true far others none = absurd cc
-not_too_far false true others none = absurd cc
 not_too_far false false others none = refl
+not_too_far back far others none = absurd cc
 
 within_range : (history : History) (act : Act) → refusal_after history act ≡ None → moment_of act ≤ 2 ^ 50
 within_range history act none =
@@ -147,8 +135,7 @@ told_in : (latest : ℕ) (setup : Setup) (low : Option ℕ) (life : Life) (state
     TellsInLife setup low life (Some state) → IsToldBy latest state
 told_in latest setup low (present outcome) state came =
     tables.told_lies_in_the_past-told latest setup.capacity outcome.trace came low state
-told_in latest setup low (backing_off outcome backoff) state came = λ none. absurd cc
-told_in latest setup low (gone outcome) state came = λ none. absurd cc
+told_in latest setup low life state came = λ none. absurd cc
 
 none_by : (latest : ℕ) (states : List StateValue) → states ≡ [] → All (IsToldBy latest) states
 none_by latest states none = subst (All (IsToldBy latest)) (sym none) (All-nil (IsToldBy latest))
@@ -157,8 +144,7 @@ walk_in : (latest : ℕ) (setup : Setup) (life : Life) (states : List StateValue
     WalksInLife setup life states → All (IsToldBy latest) states
 walk_in latest setup (present outcome) states came =
     tables.told_lies_in_the_past-walk latest setup.capacity outcome.trace came None states
-walk_in latest setup (backing_off outcome backoff) states came = none_by latest states
-walk_in latest setup (gone outcome) states came = none_by latest states
+walk_in latest setup life states came = none_by latest states
 
 module _ (history : History) (is : IsHistory history) where
   lives : LivesBy (last_moment history.acts) (life_at history)

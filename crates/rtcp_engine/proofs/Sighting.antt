@@ -87,14 +87,13 @@ module _ (ssrc at : ℕ) where
   named_arrival : (setup : Setup) (datagram : Datagram) (outcome : Outcome) → names_source ssrc datagram ≡ true →
       IsSighted (with_datagram setup at datagram outcome).trace
   named_arrival setup (rtcp size (Ok packets)) outcome named = named_by (facts_of packets) outcome.trace named
-  named_arrival setup (rtcp size (Err fault)) outcome named = absurd cc
   named_arrival setup (rtp (Ok head)) outcome named =
       let rate : ℕ = rate_of setup head in
       let counted = counted_at setup.capacity outcome.trace (media_fact rate head) in
       let rest : List Fact = if counted then facts_of_csrcs setup.ssrc head.csrcs else [] in
       named_by (facts_of_media setup.ssrc rate head counted) outcome.trace
       (ap (λ (b : Bool). b || list_any (λ fact. not (is_gone fact) && subject fact == ssrc) rest) named)
-  named_arrival setup (rtp (Err fault)) outcome named = absurd cc
+  named_arrival setup datagram outcome named = absurd cc
 
   after_ticked : (setup : Setup) (t first_word second_word : ℕ) (outcome : Outcome) → IsSighted outcome.trace →
       IsSighted (after_check setup t first_word second_word outcome).trace
@@ -106,8 +105,7 @@ module _ (ssrc at : ℕ) where
 
   abbrev LivesSighted : Life → Type 0
   LivesSighted (present outcome) = IsSighted outcome.trace
-  LivesSighted (backing_off outcome backoff) = Unit {0}
-  LivesSighted (gone outcome) = Unit {0}
+  LivesSighted life = Unit {0}
 
   lives_sighted : (setup : Setup) (act : Act) (life : Life) → at ≤ moment_of act → LivesSighted life →
       LivesSighted (lived setup act life)
@@ -119,22 +117,16 @@ module _ (ssrc at : ℕ) where
   lives_sighted setup (left t word) (present outcome) order is = of_leave LivesSighted setup t word outcome tt tt
   lives_sighted setup (configured t settings) (present outcome) order is = is
   lives_sighted setup (forgotten t other) (present outcome) order is = is
-  lives_sighted setup (arrived t peer word (rtcp size reading)) (backing_off outcome backoff) order is = tt
-  lives_sighted setup (arrived t peer word (rtp reading)) (backing_off outcome backoff) order is = tt
-  lives_sighted setup (rtp_sent t timestamp octets) (backing_off outcome backoff) order is = tt
   lives_sighted setup (ticked t first_word second_word) (backing_off outcome backoff) order is =
       of_wait LivesSighted setup t first_word outcome backoff tt tt
-  lives_sighted setup (left t word) (backing_off outcome backoff) order is = tt
-  lives_sighted setup (configured t settings) (backing_off outcome backoff) order is = tt
-  lives_sighted setup (forgotten t other) (backing_off outcome backoff) order is = tt
-  lives_sighted setup act (gone outcome) order is = tt
+  lives_sighted setup (arrived t peer word (rtcp size reading)) (backing_off outcome backoff) order is = tt
+  lives_sighted setup act life order is = tt
 
   named_life : (setup : Setup) (peer word : ℕ) (datagram : Datagram) (life : Life) →
       names_source ssrc datagram ≡ true → LivesSighted (lived setup (arrived at peer word datagram) life)
   named_life setup peer word datagram (present outcome) named = named_arrival setup datagram outcome named
   named_life setup peer word (rtcp size reading) (backing_off outcome backoff) named = tt
-  named_life setup peer word (rtp reading) (backing_off outcome backoff) named = tt
-  named_life setup peer word datagram (gone outcome) named = tt
+  named_life setup peer word datagram life named = tt
 
   -- A change of identifier changes nothing of the others.
   changed_sighted : (session : Session) (change : Option NewIdentifier) → LivesSighted session.life →

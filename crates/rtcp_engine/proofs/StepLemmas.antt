@@ -21,7 +21,7 @@ use Rattle.rtcp_engine.specs.Arrivals.{facts_of_media, media_fact, rate_of, with
 use Rattle.rtcp_engine.specs.Steps.{OutValue}
 use Rattle.rtcp_engine.specs.Ticks.{horizons_of, with_check, without_silent, has_come, has_passed, is_report_due, put_off, tried_at, report_due, with_report, reported, after_check as after_check_at, with_forgotten}
 use Rattle.rtcp_engine.specs.States.{State, Agrees, Does, DoesWaiting, KeepsCapacity, Stays, Waits}
-use Rattle.rtcp_engine.proofs.Agreeing.{load, facts_agree, media_agree, sizes_agree, with_own, rows_in, octets_in, octets_agree, sent_reports_agree, forgotten_agree}
+use Rattle.rtcp_engine.proofs.Agreeing.{load, facts_agree, media_agree, sizes_agree, with_own, rows_in, octets_in, octets_agree, sent_reports_agree, forgotten_agree, table_agrees}
 
 -- ---- Steps one after the other
 
@@ -158,8 +158,7 @@ undue : (setup : Setup) (t first_word second_word : ℕ) (outcome : Outcome) (co
     ≡ (if come then (if passed then reported setup t second_word outcome else put_off setup t first_word outcome) else
     outcome)
 undue setup t first_word second_word outcome true true h = absurd cc
-undue setup t first_word second_word outcome true false h = refl
-undue setup t first_word second_word outcome false passed h = refl
+undue setup t first_word second_word outcome come passed h = refl
 
 -- a report leaves nothing of the schedule before it
 due : (s : State) (setup : Setup) (t first_word second_word : ℕ) (outcome : Outcome) (come passed : Bool) →
@@ -173,8 +172,7 @@ due s setup t first_word second_word outcome true true h a = record {
   pace = a.pace;
   still = with_own s (reported setup t second_word (put_off setup t first_word outcome)) a.still a.still.own;
 }
-due s setup t first_word second_word outcome true false h a = absurd cc
-due s setup t first_word second_word outcome false passed h a = absurd cc
+due s setup t first_word second_word outcome come passed h a = absurd cc
 
 -- ---- Checks
 
@@ -182,19 +180,10 @@ checks_agree : (s : State) (outcome : Outcome) (horizons : Horizons) (own : OwnV
     Adds s.own own (check_passed horizons.idle) → Agrees s outcome
     → Agrees (record s { table = after_check horizons s.table; own = own }) (with_check horizons outcome)
 checks_agree s outcome horizons own adds a =
-    let kept = tables.bounds_are_kept-check s.table horizons in
-    record {
-      timing = a.timing;
-      average = a.average;
-      pace = a.pace;
-      still = record {
-        table = tables.tables_follow_traces-check s.table outcome.trace horizons a.still.table;
-        capacity = kept.capacity ∙ a.still.capacity;
-        own = adds outcome.own a.still.own;
-        cursor = a.still.cursor;
-        reports = a.still.reports;
-      };
-    }
+    table_agrees (after_check horizons s.table) (with_check horizons outcome).trace own
+        (with_check horizons outcome).own
+    (tables.tables_follow_traces-check s.table outcome.trace horizons a.still.table)
+    (tables.bounds_are_kept-check s.table horizons).capacity (adds outcome.own a.still.own) refl a
 
 abbrev pub IsCheckInterval : State → (t td : ℕ) → Type 0
 IsCheckInterval w t td = (outcome : Outcome) → Agrees w outcome → td ≡ check_interval w.setup t outcome

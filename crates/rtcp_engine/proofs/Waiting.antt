@@ -270,15 +270,9 @@ while_backing_off_waits : (setup : Setup) (fall greatest t : ℕ) (act : Act) (o
 while_backing_off_waits setup fall greatest t (arrived moment peer drawn (rtcp size (Ok packets))) outcome backoff words
     h = cond_both (bye_count packets == 0) backoff _ (WaitsToLeave greatest) (λ _. h)
     (λ _. record { fell = h.fell; drawn = h.drawn })
-while_backing_off_waits setup fall greatest t (arrived moment peer drawn (rtcp size (Err fault))) outcome backoff words
-    h = h
-while_backing_off_waits setup fall greatest t (arrived moment peer drawn (rtp reading)) outcome backoff words h = h
-while_backing_off_waits setup fall greatest t (rtp_sent moment timestamp octets) outcome backoff words h = h
 while_backing_off_waits setup fall greatest t (ticked moment first_word second_word) outcome backoff words h =
     waits_on setup fall moment first_word outcome backoff words.0 h
-while_backing_off_waits setup fall greatest t (left moment word) outcome backoff words h = h
-while_backing_off_waits setup fall greatest t (configured moment settings) outcome backoff words h = h
-while_backing_off_waits setup fall greatest t (forgotten moment ssrc) outcome backoff words h = h
+while_backing_off_waits setup fall greatest t act outcome backoff words h = h
 
 waits_after : (setup : Setup) (fall greatest t : ℕ) (act : Act) (life : Life) → t ≤ moment_of act → HasWords act →
     KeepsTime setup fall greatest t life
@@ -425,8 +419,6 @@ tick_in_time setup fall greatest t limit leave moment first_word second_word sen
 -- after a history, and for an act that is taken
 pub in_time_after : (history : History) (act : Act) → IsHistory history → refusal_after history act ≡ None →
     HasWords act → IsInTime history act
-in_time_after history (arrived moment peer drawn datagram) is taken words = tt
-in_time_after history (rtp_sent moment timestamp octets) is taken words = tt
 in_time_after history (ticked moment first_word second_word) is taken words = λ late.
     tick_in_time (setup_at history) (last_fall history.setup history.word history.acts)
     (greatest_interval history.setup history.word history.acts) (last_moment history.acts) history.setup.limit
@@ -434,9 +426,7 @@ in_time_after history (ticked moment first_word second_word) is taken words = λ
     (in_time history (ticked moment first_word second_word) taken)
     (session_keeps_apart history.setup history.word history.acts is.usable is.taken)
     (session_keeps_time history.setup history.word history.acts is.word is.taken) late
-in_time_after history (left moment word) is taken words = tt
-in_time_after history (configured moment settings) is taken words = tt
-in_time_after history (forgotten moment ssrc) is taken words = tt
+in_time_after history act is taken words = tt
 
 pub all_in_time : (setup : Setup) (word : ℕ) (acts : List Act) → IsUsable setup → word < 2 ^ 32 →
     AllTaken setup word acts → AllInTime setup word acts

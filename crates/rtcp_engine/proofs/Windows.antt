@@ -30,10 +30,9 @@ ending_reports limit leave (bye ∷ earlier) h = subst (AreReports limit) (sym (
 
 reports_apart : (limit t : ℕ) (leave : Option ℕ) (sent : List Sent) (life : Life) → KeepsApart limit t leave life sent →
     AreReports limit (reports_in sent)
-reports_apart limit t leave sent (present outcome) h = h.kept.reports
-reports_apart limit t leave sent (backing_off outcome backoff) h = h.kept.reports
 reports_apart limit t leave sent (gone outcome) (inl h) = h.reports
 reports_apart limit t leave sent (gone outcome) (inr h) = ending_reports limit leave sent h
+reports_apart limit t leave sent life h = h.kept.reports
 
 spaced : (limit : ℕ) (reports : List Sent) → AreReports limit reports → AreSpaced reports
 spaced limit [] h = tt
@@ -197,17 +196,15 @@ last_in_backoff history outcome backoff is life =
 
 ends_in : (limit t : ℕ) (leave : Option ℕ) (sent : List Sent) (life : Life) → KeepsApart limit t leave life sent →
     EndsWithBye leave sent
-ends_in limit t leave sent (present outcome) h = kept_end limit leave sent h.kept.all
-ends_in limit t leave sent (backing_off outcome backoff) h = kept_end limit leave sent h.kept.all
 ends_in limit t leave sent (gone outcome) (inl h) = kept_end limit leave sent h.all
 ends_in limit t leave sent (gone outcome) (inr h) = bye_ends limit leave sent h
+ends_in limit t leave sent life h = kept_end limit leave sent h.kept.all
 
 limit_in : (limit t : ℕ) (leave : Option ℕ) (sent : List Sent) (life : Life) → KeepsApart limit t leave life sent →
     AllFit limit sent
-limit_in limit t leave sent (present outcome) h = kept_fit limit sent h.kept.all
-limit_in limit t leave sent (backing_off outcome backoff) h = kept_fit limit sent h.kept.all
 limit_in limit t leave sent (gone outcome) (inl h) = kept_fit limit sent h.all
 limit_in limit t leave sent (gone outcome) (inr h) = bye_fits limit leave sent h
+limit_in limit t leave sent life h = kept_fit limit sent h.kept.all
 
 -- ---- All together
 

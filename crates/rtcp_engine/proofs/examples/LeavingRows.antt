@@ -16,19 +16,18 @@ abbrev says_bye : AnswerValue
 says_bye = Ok (step_with (Some
     (record { kind = Bye; octets = empty_report ++ 129 ∷ 203 ∷ 0 ∷ 1 ∷ 0 ∷ 0 ∷ 0 ∷ 170 ∷ [] })) 0 0 0 None None)
 
--- One that sent nothing leaves silently, and is asked in vain from then on. A tick alone sends nothing.
-unheard : answers_to start (ticked 0 0 0 ∷ left 0 0 ∷ ticked 0 0 0 ∷ left 0 0 ∷ arrived 0 1 0
-    (rtcp 8 (Ok (rr 7 [] [] ∷ []))) ∷ [])
-    ≡ ok 1 0 0 1026037 ∷ silently_gone ∷ Err Left ∷ Err Left ∷ Err Left ∷ []
-unheard = refl
+record Leaves : Type 0 where
+  -- One that sent nothing leaves silently, and is asked in vain from then on. A tick alone sends nothing.
+  unheard : answers_to start (ticked 0 0 0 ∷ left 0 0 ∷ ticked 0 0 0 ∷ left 0 0 ∷ arrived 0 1 0
+      (rtcp 8 (Ok (rr 7 [] [] ∷ []))) ∷ [])
+      ≡ ok 1 0 0 1026037 ∷ silently_gone ∷ Err Left ∷ Err Left ∷ Err Left ∷ []
+  -- With few members the BYE goes out at once, after a report or an RTP packet.
+  after_report : answers_to start (ticked 1026037 0 0 ∷ left 10000000 0 ∷ [])
+      ≡ sends 1 0 0 3078111 empty_report ∷ says_bye ∷ []
+  after_packet : answers_to start (rtp_sent 0 0 0 ∷ left 0 0 ∷ []) ≡ ok 1 1 0 1026037 ∷ says_bye ∷ []
 
--- With few members the BYE goes out at once, after a report or an RTP packet.
-after_report : answers_to start (ticked 1026037 0 0 ∷ left 10000000 0 ∷ []) ≡ sends 1 0 0 3078111 empty_report
-    ∷ says_bye ∷ []
-after_report = refl
-
-after_packet : answers_to start (rtp_sent 0 0 0 ∷ left 0 0 ∷ []) ≡ ok 1 1 0 1026037 ∷ says_bye ∷ []
-after_packet = refl
+leaves : Leaves
+leaves = search
 
 -- so many others, named at moment 0
 abbrev named : ℕ → List Act
