@@ -9,10 +9,7 @@ use Rattle.jalwedd_host.proofs.Reasons.{low}
 
 high : (fault : RtpFault) → 11 ≤ number_of_head_fault fault
 high Short = omega arith
-high Version = omega arith
-high PayloadType = omega arith
-high Extension = omega arith
-high Padding = omega arith
+high fault = omega arith
 
 pub same_rule : (one other : RtpFault) → number_of_head_fault one ≡ number_of_head_fault other → one ≡ other
 same_rule Short Short same = refl

@@ -5,7 +5,7 @@ use Rattle.std.proofs.lemmas.Option.{slice_get_within, get_or_from_slice_get}
 use Rattle.rtcp_wire.specs.Contents.{all_apps, all_blocks, all_goodbyes, all_items, packet_apps}
 use Rattle.rtcp_wire.specs.Grammar.{AreOctets, IsAccepted}
 use Rattle.rtcp_wire.specs.RtpHeads.{RtpValue, IsReserved, IsRtpHead}
-use Rattle.rtcp_wire.specs.Values.{AppValue, ItemValue, ReportBlock, RtcpPacket, sr, rr, sdes, bye, app, other}
+use Rattle.rtcp_wire.specs.Values.{AppValue, ItemValue, ReportBlock, RtcpPacket, app}
 use Rattle.rtcp_wire.specs.Writing.{IsWritable, IsWritableBlock, IsWritableItem, IsWritableReason}
 use Rattle.rtcp_wire.proofs.LawLemmas as wire
 use Rattle.jalwedd_host.specs.declared.app.AppPlace.{AppPlace}
@@ -65,14 +65,10 @@ abbrev AppFits : AppValue → Type 0
 AppFits part = (part.subtype ≤ 31) × (length part.content % 4 ≡ 0)
 
 packet_fits : (p : RtcpPacket) → IsWritable p → All AppFits (packet_apps p)
-packet_fits (sr sender blocks extension) can = All-nil AppFits
-packet_fits (rr reporter blocks extension) can = All-nil AppFits
-packet_fits (sdes chunks) can = All-nil AppFits
-packet_fits (bye ids reason) can = All-nil AppFits
 packet_fits (app subtype source name content) can =
     All-cons AppFits (record { ssrc = source; subtype = subtype; name = name; content = content }) [] can.parts
     (All-nil AppFits)
-packet_fits (other kind count body) can = All-nil AppFits
+packet_fits p can = All-nil AppFits
 
 apps_fit : (ps : List RtcpPacket) → All IsWritable ps → All AppFits (all_apps ps)
 apps_fit [] can = All-nil AppFits

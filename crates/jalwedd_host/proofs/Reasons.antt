@@ -6,15 +6,7 @@ use Rattle.jalwedd_host.specs.Readings.{number_of}
 
 pub low : (reason : FaultReason) → number_of reason ≤ 10
 low Short = omega arith
-low Version = omega arith
-low FirstType = omega arith
-low FirstPadding = omega arith
-low Length = omega arith
-low Padding = omega arith
-low Body = omega arith
-low Item = omega arith
-low Reason = omega arith
-low TooLong = omega arith
+low reason = omega arith
 
 pub same_rule : (one other : FaultReason) → number_of one ≡ number_of other → one ≡ other
 same_rule Short Short same = refl

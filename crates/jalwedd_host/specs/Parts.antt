@@ -5,18 +5,14 @@ use Rattle.rtcp_wire.specs.Faults.{IsFirstFault}
 use Rattle.rtcp_wire.specs.Grammar.{IsAccepted}
 use Rattle.rtcp_wire.specs.Placed.{StandsIn}
 use Rattle.rtcp_wire.specs.Values.{SenderValue, ItemValue, RtcpPacket}
-use Rattle.jalwedd_host.specs.declared.parts.SenderInfo.{SenderInfo}
+use Rattle.rtcp_parts.specs.declared.senders.Sender.{Sender}
+use Rattle.rtcp_parts.specs.Senders.{ShowsSender as SaysSender}
 use Rattle.jalwedd_host.specs.declared.parts.ItemPlace.{ItemPlace}
 use Rattle.jalwedd_host.specs.declared.parts.GoodbyePlace.{GoodbyePlace}
 
 -- what a sender report says of its sender
-abbrev pub ShowsSender : SenderInfo → SenderValue → Type 0
-ShowsSender info sender =
-    (info.ssrc ≡ sender.ssrc)
-    × (info.ntp ≡ sender.ntp)
-    × (info.rtp ≡ sender.rtp)
-    × (info.packets ≡ sender.packets)
-    × (info.octets ≡ sender.octets)
+abbrev pub ShowsSender : Sender → SenderValue → Type 0
+ShowsSender info sender = SaysSender sender info
 
 -- an item, with the source that its chunk describes, and where its text stands
 abbrev pub ShowsItem : List ℕ → ItemPlace → ℕ × ItemValue → Type 0

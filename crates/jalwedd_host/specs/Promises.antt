@@ -1,29 +1,24 @@
 -- What a call of a session promises to a host in C.
 use Rattle.std.specs.Prelude.{ℕ, ◌≡◌, ◌≢◌, ◌⊎◌, ◌+◌, ◌<◌, List, Option, Some, None}
-use Rattle.rtcp_engine.specs.Acts.{Act, EventValue, IsActOfEvent, ticked}
+use Rattle.rtcp_engine.specs.Acts.{Act, EventValue, IsActOfEvent}
 use Rattle.rtcp_engine.specs.Answers.{answer_of, followed_by}
 use Rattle.rtcp_engine.specs.Histories.{History, life_at}
-use Rattle.rtcp_engine.specs.InTime.{IsOverdue}
+use Rattle.rtcp_engine.specs.Runs.{IsAnsweredInTime}
 use Rattle.jalwedd_host.specs.declared.session.HostSession.{HostSession}
 use Rattle.jalwedd_host.specs.declared.step.HostStep.{HostStep}
 use Rattle.jalwedd_host.specs.Answers.{HandsNothing, HandsOut, IsBlank, Shows, early_refusal, status_of, status_of_refusal}
 use Rattle.jalwedd_host.specs.Handles.{KeepsWithin, LeadsTo}
 
--- A tick that comes late, and is taken, hands something out.
-abbrev pub SendsIfLate : History → Act → (result kind : ℕ) → Type 0
-SendsIfLate history (ticked moment first_word second_word) result kind =
-    IsOverdue history (ticked moment first_word second_word) → result ≡ 0 → kind ≢ 0
-SendsIfLate history act result kind = Unit {0}
-
 -- A session that stands at a history is told an act. The status, the step and the host's octets say what the history
--- answers to it. Then the session stands at the history with the act, which the step shows. The start is as it was.
+-- answers to it. A tick that comes late, and is taken, is answered with a compound, which is handed out. Then the
+-- session stands at the history with the act, which the step shows. The start is as it was.
 pub record Serves
     (start : ℕ) (history : History) (act : Act)
     (after : Option HostSession) (result : ℕ) (step : HostStep) (was octets : List ℕ)
     : Type 0 where
   pub status : result ≡ status_of (answer_of history act)
   pub handed : HandsOut step was octets (answer_of history act)
-  pub not_too_late : SendsIfLate history act result step.kind
+  pub not_too_late : IsAnsweredInTime history act (answer_of history act)
   pub stands : LeadsTo after start (followed_by history act)
   pub shows : Shows start step (followed_by history act)
 

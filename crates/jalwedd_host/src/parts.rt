@@ -7,24 +7,8 @@ ghost use Rattle.jalwedd_host.specs.Parts.{ShowsGoodbye, ShowsItem, ShowsSender}
 ghost use Rattle.jalwedd_host.specs.Walks.{Carries};
 
 use crate::walks::Told;
+pub use rtcp_parts::Sender as SenderInfo;
 use rtcp_parts::{PlacedGoodbye, PlacedItem, Sender};
-
-/// What a sender report says of its sender (RFC 3550, 6.4.1).
-#[repr(C)]
-#[derive(Clone, Copy, Debug, PartialEq, Eq)]
-pub struct SenderInfo {
-    /// When it was sent, as an NTP timestamp: seconds since 1900 in the upper 32 bits, and 1/2^32 of a second in the
-    /// lower ones.
-    pub ntp: u64,
-    /// The SSRC of the source that sent it.
-    pub ssrc: u32,
-    /// The same moment in units of the sender's RTP timestamps.
-    pub rtp: u32,
-    /// How many RTP packets were sent up to then.
-    pub packets: u32,
-    /// How many octets their payloads have, without headers and padding.
-    pub octets: u32,
-}
 
 /// An SDES item (RFC 3550, 6.5), and where its text stands.
 #[repr(C)]
@@ -55,18 +39,12 @@ pub struct GoodbyePlace {
 }
 
 impl Told for Sender {
-    type Place = SenderInfo;
+    type Place = Sender;
 
     ghost tells = { Carries (λ datagram. SaysSender) (λ datagram. ShowsSender) };
 
-    fn told(&self) -> SenderInfo {
-        SenderInfo {
-            ntp: self.ntp,
-            ssrc: self.ssrc,
-            rtp: self.rtp,
-            packets: self.packets,
-            octets: self.octets,
-        }
+    fn told(&self) -> Sender {
+        *self
     }
 }
 
