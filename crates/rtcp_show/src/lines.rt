@@ -6,13 +6,13 @@ ghost use Rattle.rtcp_wire.specs.Values.{RtcpPacket};
 ghost use Rattle.rtcp_engine.specs.Views.{answer_value, event_value, out_value, step_value};
 ghost use Rattle.rtcp_text.specs.Check.{IsAnswerBy};
 ghost use Rattle.rtcp_show.specs.Wordings.{shown_in};
-ghost use Rattle.rtcp_show.specs.Lines.{ArePackets, HasPackets, ReadsAs, ShowsAnswer, ShowsBoth, ShowsBothBy, ShowsEvent, ShowsOut, ShowsRtcp, changed_text, moment_of_event as moment_in, passing_text, refused_text, rtp_text, told_text, unsent_text};
+ghost use Rattle.rtcp_show.specs.Lines.{ArePackets, HasPackets, ReadsAs, ShowsAnswer, ShowsBoth, ShowsBothBy, ShowsEvent, ShowsOut, ShowsRtcp, changed_text, moment_of_event as moment_in, passing_text, rtp_text, told_text, unsent_text};
 
 use crate::numbers::{push_moment, push_peer};
 use crate::wording::{Wording, push_compound, push_octets};
 use rtcp_engine::{Answer, Event, Out, Refusal};
 use rtcp_text::text::digits::push_word;
-use rtcp_text::text::push_answer;
+use rtcp_text::text::push_refusal;
 use rtcp_wire::Compound;
 use std::alloc::AllocError;
 
@@ -153,7 +153,7 @@ fn push_rtcp(
     push_passing(out, now, b" in ", peer)?;
     match answer {
         Ok(_) => push_datagram(out, wording, bytes, compound),
-        Err(refusal) => push_refused(out, refusal),
+        Err(refusal) => push_refusal(out, refusal),
     }
 }
 
@@ -182,7 +182,7 @@ fn push_rtp(out: &mut Vec<u8>, now: u64, peer: u64, answer: &Answer) -> Result<(
         Ok(_) => Ok(()),
         Err(refusal) => {
             push_passing(out, now, b" rtp ", peer)?;
-            push_refused(out, refusal)
+            push_refusal(out, refusal)
         }
     }
 }
@@ -196,7 +196,7 @@ fn push_told(out: &mut Vec<u8>, now: u64, answer: &Answer) -> Result<(), AllocEr
         Err(refusal) => {
             push_moment(out, now)?;
             out.push(b' ')?;
-            push_refused(out, refusal)
+            push_refusal(out, refusal)
         }
     }
 }
@@ -275,11 +275,4 @@ fn push_passing(out: &mut Vec<u8>, now: u64, word: &[u8], peer: u64) -> Result<(
     push_peer(out, peer)?;
     out.push(b' ')?;
     Ok(())
-}
-
-/// Appends why a call was refused.
-fn push_refused(out: &mut Vec<u8>, refusal: &Refusal) -> Result<(), AllocError>
-    ensures { OnOk result (out.new.items ≡ out.old.items ++ refused_text refusal.now) }
-{
-    push_answer(out, &Err(*refusal))
 }

@@ -22,9 +22,8 @@ mod reports;
 mod settings;
 mod tail;
 
-use crate::showing::{Brief, Showing};
-pub(crate) use answers::push_reply;
-pub use answers::{push_answer, push_start};
+use crate::showing::Showing;
+pub use answers::{push_refusal, push_reply, push_start};
 use descriptions::push_description;
 use digits::push_decimal;
 pub use events::push_event;
@@ -33,13 +32,6 @@ use others::{push_application, push_other};
 use reports::{push_receiver_report, push_sender_report};
 use rtcp_wire::{Compound, FaultReason, PacketView, WireFault};
 use std::alloc::AllocError;
-
-/// Appends the line that `rtcp check` answers to a datagram: its packets, or its first fault.
-pub fn push_checked(out: &mut Vec<u8>, datagram: &[u8]) -> Result<(), AllocError>
-    ensures { OnOk result ((text : List ℕ) × IsAnswerBy accepted_text datagram.now text × (out.new.items ≡ out.old.items ++ text)) }
-{
-    push_shown(out, datagram, &Brief)
-}
 
 /// Appends the line that answers a datagram: its packets as they are shown, or its first fault.
 pub(crate) fn push_shown<S: Showing>(

@@ -1,15 +1,15 @@
 //! The text of what a participant answers, as `rtcp replay` shows it.
 
-ghost use Rattle.std.specs.Prelude.{◌≡◌, ◌+◌, ◌≤◌, ◌++◌, OnOk, Some, codes, drop, option_map};
-ghost use Rattle.rtcp_engine.specs.Views.{answer_value, out_in, out_told, out_value, reply_value, size_written, step_value, told_value};
+ghost use Rattle.std.specs.Prelude.{◌≡◌, ◌+◌, ◌≤◌, ◌++◌, Err, Ok, OnOk, Some, codes, drop};
+ghost use Rattle.rtcp_engine.specs.Views.{out_in, out_told, reply_value, size_written, told_value};
 ghost use Rattle.rtcp_engine.specs.declared.refusal.Refusal.TheVariants.{Settings};
-ghost use Rattle.rtcp_text.specs.AnswerText.{answer_text, changed_text, counts_text, kind_text, next_text, out_text, refusal_text, rtp_fault_text, start_text, step_text};
+ghost use Rattle.rtcp_text.specs.AnswerText.{answer_text, changed_text, counts_text, kind_text, next_text, out_text, refusal_text, rtp_fault_text, start_text};
 
 use super::digits::{push_octets, push_word};
 use super::push_fault_words;
 use super::tail::Tail;
 use crate::fault::config_name;
-use rtcp_engine::{Answer, ConfigError, Out, OutKind, Refusal, Reply, Step, Told, Written};
+use rtcp_engine::{ConfigError, OutKind, Refusal, Reply, Told, Written};
 use rtcp_wire::{MAX_COMPOUND, RtpFault};
 use std::alloc::AllocError;
 
@@ -24,20 +24,8 @@ pub fn push_start(out: &mut Vec<u8>, next: Option<u64>) -> Result<(), AllocError
     out.extend_from_slice(text.as_slice())
 }
 
-/// Appends the line for an answer.
-pub fn push_answer(out: &mut Vec<u8>, answer: &Answer) -> Result<(), AllocError>
-    ensures { OnOk result (out.new.items ≡ out.old.items ++ answer_text (answer_value answer.now)) }
-{
-    match answer {
-        Ok(step) => push_step(out, step)?,
-        Err(refusal) => push_refused(out, refusal)?,
-    }
-    out.push(b'\n')?;
-    Ok(())
-}
-
 /// Appends the line for a reply, whose compound, if it has one, stands at the start of these octets.
-pub(crate) fn push_reply(
+pub fn push_reply(
     out: &mut Vec<u8>,
     reply: &Reply,
     octets: &[u8; MAX_COMPOUND],
@@ -46,31 +34,22 @@ pub(crate) fn push_reply(
     ensures { OnOk result (out.new.items ≡ out.old.items ++ answer_text (reply_value octets.now reply.now)) }
 {
     match reply {
-        Ok(told) => push_told(out, told, octets)?,
-        Err(refusal) => push_refused(out, refusal)?,
+        Ok(told) => push_told(out, told, octets),
+        Err(refusal) => push_refusal(out, refusal),
     }
-    out.push(b'\n')?;
-    Ok(())
 }
 
-/// Appends the text of a call that was taken, whose compound, if it has one, stands at the start of these octets.
+/// Appends the line for a call that was taken, whose compound, if it has one, stands at the start of these octets.
 fn push_told(out: &mut Vec<u8>, told: &Told, octets: &[u8; MAX_COMPOUND]) -> Result<(), AllocError>
     requires { size_written told.now.out ≤ 1472 }
-    ensures { OnOk result (out.new.items ≡ out.old.items ++ step_text (told_value octets.now told.now)) }
+    ensures { OnOk result (out.new.items ≡ out.old.items ++ answer_text (Ok (told_value octets.now told.now))) }
 {
     let standing = told.standing;
     push_taken(out, standing.members, standing.senders, standing.next)?;
     push_written(out, told.out, octets)?;
-    push_changed(out, told.changed)
-}
-
-/// Appends the text of a call that was taken.
-fn push_step(out: &mut Vec<u8>, step: &Step) -> Result<(), AllocError>
-    ensures { OnOk result (out.new.items ≡ out.old.items ++ step_text (step_value step.now)) }
-{
-    push_taken(out, step.members, step.senders, step.next)?;
-    push_out(out, &step.out)?;
-    push_changed(out, step.changed)
+    push_changed(out, told.changed)?;
+    out.push(b'\n')?;
+    Ok(())
 }
 
 /// Appends that a call was taken, up to its compound.
@@ -124,16 +103,6 @@ fn put_next(text: &mut Tail, next: Option<u64>)
     }
 }
 
-/// Appends what a compound to send is and its octets, or a hyphen where there is none.
-fn push_out(out: &mut Vec<u8>, sent: &Option<Out>) -> Result<(), AllocError>
-    ensures { OnOk result (out.new.items ≡ out.old.items ++ out_text (option_map out_value sent.now)) }
-{
-    match sent {
-        Some(sent) => push_compound(out, sent.kind, &sent.bytes),
-        None => out.extend_from_slice(b"-"),
-    }
-}
-
 /// Appends what a compound to send is and its octets, which stand at the start of these, or a hyphen where there is
 /// none.
 fn push_written(
@@ -180,16 +149,18 @@ fn kind_name(kind: OutKind) -> &'static str
     }
 }
 
-/// Appends that a call was refused, and why.
-fn push_refused(out: &mut Vec<u8>, refusal: &Refusal) -> Result<(), AllocError>
-    ensures { OnOk result (out.new.items ≡ out.old.items ++ (codes "refused " ++ refusal_text refusal.now)) }
+/// Appends the line for a call that was refused.
+pub fn push_refusal(out: &mut Vec<u8>, refusal: &Refusal) -> Result<(), AllocError>
+    ensures { OnOk result (out.new.items ≡ out.old.items ++ answer_text (Err refusal.now)) }
 {
     out.extend_from_slice(b"refused ")?;
-    push_refusal(out, refusal)
+    push_refusal_words(out, refusal)?;
+    out.push(b'\n')?;
+    Ok(())
 }
 
 /// Appends why a call was refused.
-fn push_refusal(out: &mut Vec<u8>, refusal: &Refusal) -> Result<(), AllocError>
+fn push_refusal_words(out: &mut Vec<u8>, refusal: &Refusal) -> Result<(), AllocError>
     ensures { OnOk result (out.new.items ≡ out.old.items ++ refusal_text refusal.now) }
 {
     match refusal {

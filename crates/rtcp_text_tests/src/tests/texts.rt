@@ -1,13 +1,12 @@
 //! Texts of packets, faults and answers.
 
 use super::same;
-use arrayvec::ArrayVec;
-use rtcp_engine::{ConfigError, Event, Out, OutKind, Refusal, Step};
+use rtcp_engine::{ConfigError, Event, OutKind, Refusal, Standing, Told, Written};
 use rtcp_text::text::digits::{push_decimal, push_octets, push_signed};
 use rtcp_text::text::{
-    push_accepted, push_answer, push_event, push_fault, push_packet, push_start,
+    push_accepted, push_event, push_fault, push_packet, push_refusal, push_reply, push_start,
 };
-use rtcp_wire::{Compound, FaultReason, RtpFault, WireFault};
+use rtcp_wire::{Compound, FaultReason, MAX_COMPOUND, RtpFault, WireFault};
 use std::alloc::{AllocError, Global};
 use std::test::Fail;
 
@@ -67,7 +66,7 @@ enum Said {
     Start(u64),
     /// The line of a call that was taken, by its members, its senders, the next moment, the new SSRC and the octets of
     /// the report to be sent, if there are these.
-    Step(u32, u32, Option<u64>, Option<u32>, Option<&'static [u8]>),
+    Step(u32, u32, Option<u64>, Option<u32>, Option<&'static [u8; 8]>),
     /// The line of one that was refused.
     Refused(Refusal),
 }
@@ -242,28 +241,31 @@ fn push_last(alloc: Global, out: &mut Vec<u8>, parts: &[&[u8]]) -> Result<(), Fa
 }
 
 /// Writes the answer to a call that was taken.
-fn push_step(
+fn push_taken(
     out: &mut Vec<u8>,
     (members, senders): (u32, u32),
     next: Option<u64>,
     changed: Option<u32>,
-    report: Option<&[u8]>,
+    report: Option<&[u8; 8]>,
 ) -> Result<(), Fail> {
-    let mut bytes = ArrayVec::new();
-    bytes.try_extend_from_slice(report.unwrap_or(&[]))?;
-    let step = Step {
-        out: report.is_some().then_some(Out {
-            kind: OutKind::Report,
-            bytes,
-        }),
-        members,
-        senders,
-        entries: members.saturating_sub(1),
-        next,
-        changed,
+    let mut octets = [0; MAX_COMPOUND];
+    octets[..8].copy_from_slice(report.unwrap_or(&[0; 8]));
+    let told = Told {
         others_changed: changed.is_none(),
+        changed,
+        out: report.is_some().then_some(Written {
+            kind: OutKind::Report,
+            size: 8,
+        }),
+        standing: Standing {
+            members,
+            senders,
+            entries: members.saturating_sub(1),
+            ssrc: 0,
+            next,
+        },
     };
-    push_answer(out, &Ok(step))?;
+    push_reply(out, &Ok(told), &octets)?;
     Ok(())
 }
 
@@ -281,9 +283,9 @@ fn text_of(alloc: Global, said: &Said) -> Result<Vec<u8>, Fail> {
         Said::Fault(reason, place) => push_fault(&mut out, &WireFault { reason, place })?,
         Said::Start(next) => push_start(&mut out, Some(next))?,
         Said::Step(members, senders, next, changed, report) => {
-            push_step(&mut out, (members, senders), next, changed, report)?
+            push_taken(&mut out, (members, senders), next, changed, report)?
         }
-        Said::Refused(refusal) => push_answer(&mut out, &Err(refusal))?,
+        Said::Refused(refusal) => push_refusal(&mut out, &refusal)?,
     }
     Ok(out)
 }
