@@ -28,17 +28,6 @@ parts_at-whole separator (octet ∷ octets) none =
     (none 0 (omega arith))
     ∙ ap (onto_first octet) (parts_at-whole separator octets (λ k lt. none (suc k) (omega arith)))
 
--- The first field ends before the first space.
-pub fields_of-split : (octets : List ℕ) (end : ℕ) → end < length octets → (slice_index octets end == 32) ≡ true
-    → ((k : ℕ) → k < end → (slice_index octets k == 32) ≡ false) →
-    fields_of octets ≡ take end octets ∷ fields_of (drop (suc end) octets)
-fields_of-split = parts_at-split 32
-
--- A line without spaces is one field.
-pub fields_of-whole : (octets : List ℕ) → ((k : ℕ) → k < length octets → (slice_index octets k == 32) ≡ false) →
-    fields_of octets ≡ octets ∷ []
-fields_of-whole = parts_at-whole 32
-
 -- The event of a line by its first field.
 pub event_in-named : (line name : List ℕ) (fields : List (List ℕ)) (kind : LineKind) → fields_of line ≡ name ∷ fields →
     kind_named name ≡ Some kind

@@ -18,6 +18,6 @@ mod ReplayLemmas
 mod RunLemmas
 mod SessionLemmas
 mod SettingsLemmas
-mod SpaceLemmas
+mod SeparatorLemmas
 mod TailLemmas
 mod TextLemmas

@@ -1,9 +1,8 @@
 -- What a line of a session says, as `rtcp replay` reads it.
-use Rattle.std.specs.Prelude.{ℕ, ◌==◌, ◌<◌, ◌^◌, List, [], ◌∷◌, ◌++◌, if◌then◌else◌, Option, Some, None, Result, Ok, Err, codes}
+use Rattle.std.specs.Prelude.{ℕ, ◌<◌, ◌^◌, List, [], ◌∷◌, ◌++◌, if◌then◌else◌, Option, Some, None, Result, Ok, Err, codes}
 use Rattle.std.specs.Borrow.{Bor}
 use Rattle.std.specs.Fmt.{decimal}
 use Rattle.std.specs.Int.{w32}
-use Rattle.std.specs.List.{slice_split}
 use Rattle.std.specs.Option.{ok_or}
 use Rattle.std.specs.Str.{bytes_eq}
 use Rattle.hex.specs.Hex.{IsBytes, encode_lower}
@@ -15,19 +14,18 @@ use Rattle.rtcp_text.specs.declared.fault.LineFault.{LineFault}
 use Rattle.rtcp_text.specs.declared.fault.LineFault.TheVariants.{Words, Hex, Number}
 use Rattle.rtcp_text.specs.Numerals.{decimal_in, hex_in, datagram_in}
 use Rattle.rtcp_text.specs.Results.{◌>>=◌}
-use Rattle.rtcp_text.specs.SettingsFields.{AreSettingsOfFields, clocks_in, items_in, settings_fields}
+use Rattle.rtcp_text.specs.SettingsFields.{AreSettingsOfFields, clocks_in, items_in, parts_at, parts_left, settings_fields}
 use Rattle.rtcp_text.specs.Text.{hex_word}
 
 -- ---- Fields
 
 -- what stands between the spaces (32) of a line
 abbrev pub fields_of : List ℕ → List (List ℕ)
-fields_of line = slice_split (λ octet. octet == 32) line
+fields_of line = parts_at 32 line
 
 -- what stands so after a field, if something comes after it
 abbrev pub fields_left : Option (Bor (List ℕ)) → List (List ℕ)
-fields_left None = []
-fields_left (Some rest) = fields_of rest.now
+fields_left rest = parts_left 32 rest
 
 abbrev pub moment_in : List ℕ → Result ℕ LineFault
 moment_in field = ok_or (decimal_in 64 field) Number

@@ -1,25 +1,24 @@
 //! A line of a session, as `rtcp replay` reads it.
 
-ghost use Rattle.std.specs.Prelude.{◌≡◌, ◌==◌, ◌<◌, ℕ, true, false, length, slice_index, List, ◌∷◌, [], Ok, Err, IfOk, IfErr, IfSome, IfNone};
+ghost use Rattle.std.specs.Prelude.{◌≡◌, ℕ, List, Ok, Err, IfOk, IfErr};
 ghost use Rattle.rtcp_engine.specs.Acts.{EventValue, settings_given};
 ghost use Rattle.rtcp_engine.specs.Views.{event_value, settings_value};
-ghost use Rattle.rtcp_text.specs.EventLines.{arrival, configuring, event_in, fields_left, fields_of, forgetting, kind_named, leave, moment_in, octets_in, seldom_named, sending, tick};
+ghost use Rattle.rtcp_text.specs.EventLines.{arrival, configuring, event_in, fields_left, forgetting, kind_named, leave, moment_in, octets_in, seldom_named, sending, tick};
 ghost use Rattle.rtcp_text.specs.declared.event_line.EventFault.TheVariants.{Line};
 ghost use Rattle.rtcp_text.specs.declared.fault.LineFault.{LineFault as Fault};
 
 use crate::digit_pairs::{DecodeFault, decode};
 use crate::fault::LineFault;
 use crate::numerals::{read_decimal, read_short_decimal, read_word};
+use crate::parts::{Parts, split_part};
 use crate::settings_fields::{read_clocks, read_items};
 use arrayvec::ArrayVec;
-use memchr::memchr;
 use rtcp_engine::{Event, Settings};
 use std::alloc::Global;
-use std::simd::prelude::*;
 use thiserror::Error;
 
-/// How many octets are looked through at once for the space after a field.
-const NEAR: usize = 16;
+/// The fields that are left of a line.
+type Fields<'a> = Parts<'a, b' '>;
 
 /// Why a line gives no event.
 #[derive(Clone, Copy, Debug, PartialEq, Eq, Error)]
@@ -74,7 +73,7 @@ pub fn read_event<'a>(line: &[u8], buffers: &'a mut EventBuffers) -> Result<Even
     ensures event { IfOk result (λ event. event_in line.now ≡ Ok (event_value event)) }
     ensures fault { (fault : Fault) → result ≡ Err (Line fault) → event_in line.now ≡ Err fault }
 {
-    let (name, rest) = split_field(line);
+    let (name, rest) = split_part::<b' '>(line);
     let fields = Fields { rest };
     match kind_of(name).ok_or(LineFault::Words)? {
         LineKind::Rtcp => {
@@ -314,52 +313,4 @@ fn read_octets<'a>(field: &[u8], datagram: &'a mut Vec<u8>) -> Result<&'a [u8], 
             Err(DecodeFault::Memory) => Err(EventFault::Memory),
         },
     }
-}
-
-/// The fields that are left of a line.
-#[derive(Clone, Copy, Debug)]
-struct Fields<'a> {
-    /// What comes after the space of the last field, if it has one.
-    rest: Option<&'a [u8]>,
-}
-
-impl<'a> Fields<'a> {
-    /// The next field, if there is one.
-    fn next(&mut self) -> Option<&'a [u8]>
-        ensures some { IfSome result (λ field. fields_left self.old.rest ≡ field.now ∷ fields_left self.new.rest) }
-        ensures none { IfNone result (fields_left self.old.rest ≡ []) }
-    {
-        let (field, rest) = split_field(self.rest?);
-        self.rest = rest;
-        Some(field)
-    }
-}
-
-/// The first field, and what comes after its space, if it has one.
-fn split_field(octets: &[u8]) -> (&[u8], Option<&[u8]>)
-    ensures { fields_of octets.now ≡ result.0.now ∷ fields_left result.1 }
-{
-    match find_space(octets) {
-        Some(end) => (octets.split_at(end).0, Some(octets.split_at(end + 1).1)),
-        None => (octets, None),
-    }
-}
-
-/// Where the first space is. It is looked for among the first octets at once, since most fields are short.
-#[inline]
-fn find_space(octets: &[u8]) -> Option<usize>
-    ensures within { IfSome result (λ end. end < length octets.now) }
-    ensures space { IfSome result (λ end. (slice_index octets.now end == 32) ≡ true) }
-    ensures before { IfSome result (λ end. (k : ℕ) → k < end → (slice_index octets.now k == 32) ≡ false) }
-    ensures none { IfNone result ((k : ℕ) → k < length octets.now → (slice_index octets.now k == 32) ≡ false) }
-{
-    if octets.len() >= NEAR {
-        let spaces = u8x16::from_slice(octets)
-            .simd_eq(u8x16::splat(b' '))
-            .to_bitmask();
-        if spaces != 0 {
-            return Some(spaces.trailing_zeros() as usize);
-        }
-    }
-    memchr(b' ', octets)
 }

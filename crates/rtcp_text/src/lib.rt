@@ -29,6 +29,7 @@ mod fault;
 pub mod laws;
 mod lines;
 pub mod numerals;
+mod parts;
 mod player;
 pub mod record;
 pub mod replay;

@@ -1,13 +1,13 @@
 //! The settings of a session, as fields of a line and options of a command line write them.
 
-ghost use Rattle.std.specs.Prelude.{◌≡◌, ◌==◌, ◌<◌, ◌∷◌, [], ℕ, true, false, length, slice_index, map, option_map, IfSome, IfNone};
+ghost use Rattle.std.specs.Prelude.{◌≡◌, map, option_map};
 ghost use Rattle.rtcp_report.specs.Views.{item_value};
 ghost use Rattle.rtcp_engine.specs.Views.{clock_value};
-ghost use Rattle.rtcp_text.specs.SettingsFields.{clock_in, clocks_in, item_in, items_in, parts_at, parts_left, sides_in};
+ghost use Rattle.rtcp_text.specs.SettingsFields.{clock_in, clocks_in, item_in, items_in, sides_in};
 
 use crate::numerals::{read_hex_text, read_short_decimal, read_small_decimal};
+use crate::parts::Parts;
 use arrayvec::ArrayVec;
-use memchr::memchr;
 use rtcp_engine::{Clock, Item};
 
 /// The clocks that a field says, at most 16.
@@ -18,7 +18,7 @@ pub(crate) fn read_clocks(field: &[u8]) -> Option<ArrayVec<Clock, 16>>
     if field == b"-".as_slice() {
         return Some(clocks);
     }
-    let mut parts = Parts::of(field, b',');
+    let mut parts = Parts::<b','>::of(field);
     'parts: while let Some(part) = parts.next() {
         let clock = read_clock(part)?;
         clocks.try_push(clock).ok()?;
@@ -34,7 +34,7 @@ pub(crate) fn read_items(field: &[u8]) -> Option<ArrayVec<Item, 7>>
     if field == b"-".as_slice() {
         return Some(items);
     }
-    let mut parts = Parts::of(field, b',');
+    let mut parts = Parts::<b','>::of(field);
     'parts: while let Some(part) = parts.next() {
         let item = read_item(part)?;
         items.try_push(item).ok()?;
@@ -66,63 +66,9 @@ fn read_item(text: &[u8]) -> Option<Item>
 fn sides_of(text: &[u8]) -> Option<(&[u8], &[u8])>
     ensures { option_map (λ sides. (sides.0.now, sides.1.now)) result ≡ sides_in text.now }
 {
-    let mut parts = Parts::of(text, b':');
+    let mut parts = Parts::<b':'>::of(text);
     let (Some(first), Some(second), None) = (parts.next(), parts.next(), parts.next()) else {
         return None;
     };
     Some((first, second))
-}
-
-/// The parts that are left of a text.
-#[derive(Clone, Copy, Debug)]
-struct Parts<'a> {
-    /// The octet between each two parts.
-    separator: u8,
-    /// What comes after the separator of the last part, if it has one.
-    rest: Option<&'a [u8]>,
-}
-
-impl<'a> Parts<'a> {
-    /// All parts of a text.
-    fn of(text: &'a [u8], separator: u8) -> Parts<'a>
-        ensures separator { result.separator ≡ separator }
-        ensures rest { parts_left separator result.rest ≡ parts_at separator text.now }
-    {
-        Parts {
-            separator,
-            rest: Some(text),
-        }
-    }
-
-    /// The next part, if there is one.
-    fn next(&mut self) -> Option<&'a [u8]>
-        ensures some { IfSome result (λ part.
-            parts_left self.old.separator self.old.rest ≡ part.now ∷ parts_left self.old.separator self.new.rest) }
-        ensures none { IfNone result (parts_left self.old.separator self.old.rest ≡ []) }
-        ensures separator { self.new.separator ≡ self.old.separator }
-    {
-        let (part, rest) = split_part(self.rest?, self.separator);
-        self.rest = rest;
-        Some(part)
-    }
-}
-
-/// The first part, and what comes after its separator, if it has one.
-fn split_part(octets: &[u8], separator: u8) -> (&[u8], Option<&[u8]>)
-    ensures { parts_at separator octets.now ≡ result.0.now ∷ parts_left separator result.1 }
-{
-    match find_separator(octets, separator) {
-        Some(end) => (octets.split_at(end).0, Some(octets.split_at(end + 1).1)),
-        None => (octets, None),
-    }
-}
-
-/// Where the first separator is.
-fn find_separator(octets: &[u8], separator: u8) -> Option<usize>
-    ensures within { IfSome result (λ end. end < length octets.now) }
-    ensures found { IfSome result (λ end. (slice_index octets.now end == separator) ≡ true) }
-    ensures before { IfSome result (λ end. (k : ℕ) → k < end → (slice_index octets.now k == separator) ≡ false) }
-    ensures none { IfNone result ((k : ℕ) → k < length octets.now → (slice_index octets.now k == separator) ≡ false) }
-{
-    memchr(separator, octets)
 }

@@ -1,6 +1,6 @@
 use Rattle.std.proofs.Common.{rules, ◌≡◌, [], Some, map, sym}
 use Rattle.rtcp_engine.specs.Views.{clock_value}
-use Rattle.rtcp_text.specs.SettingsFields.{clock_in, parts_at, parts_left}
+use Rattle.rtcp_text.specs.SettingsFields.{clock_in, parts_at}
 use Rattle.rtcp_text.proofs.ListLemmas.{IsReading, reading_ends, list_in-listed}
 use Rattle.rtcp_text.proofs.settings_fields.read_clocks.Goals as goal
 
@@ -8,7 +8,6 @@ pub returns : goal.returns
 returns c =
     let field = c.args.field.now in
     let done = map clock_value c.parts.clocks.items in
-    let none : parts_left 44 c.parts.parts.rest ≡ [] = rw c.parts.invariant.separator at c.in_default.ensures.none in
-    let read : IsReading clock_in (parts_at 44 field) done [] = rw none at c.parts.invariant.reading in
+    let read : IsReading clock_in (parts_at 44 field) done [] = rw c.in_default.ensures.none at c.parts.invariant.reading in
     sym (list_in-listed clock_in field 16 (Some done) (search rules)
     (reading_ends clock_in (parts_at 44 field) 16 done read c.parts.invariant.few))

@@ -1,6 +1,6 @@
 use Rattle.std.proofs.Common.{rules, ◌≡◌, [], Some, map, sym}
 use Rattle.rtcp_report.specs.Views.{item_value}
-use Rattle.rtcp_text.specs.SettingsFields.{item_in, parts_at, parts_left}
+use Rattle.rtcp_text.specs.SettingsFields.{item_in, parts_at}
 use Rattle.rtcp_text.proofs.ListLemmas.{IsReading, reading_ends, list_in-listed}
 use Rattle.rtcp_text.proofs.settings_fields.read_items.Goals as goal
 
@@ -8,7 +8,6 @@ pub returns : goal.returns
 returns c =
     let field = c.args.field.now in
     let done = map item_value c.parts.items.items in
-    let none : parts_left 44 c.parts.parts.rest ≡ [] = rw c.parts.invariant.separator at c.in_default.ensures.none in
-    let read : IsReading item_in (parts_at 44 field) done [] = rw none at c.parts.invariant.reading in
+    let read : IsReading item_in (parts_at 44 field) done [] = rw c.in_default.ensures.none at c.parts.invariant.reading in
     sym (list_in-listed item_in field 7 (Some done) (search rules)
     (reading_ends item_in (parts_at 44 field) 7 done read c.parts.invariant.few))
