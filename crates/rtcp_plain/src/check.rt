@@ -2,7 +2,7 @@
 
 ghost use Rattle.std.specs.Prelude.{◌≡◌, None};
 ghost use Rattle.rtcp_text.specs.Check.{Checks};
-ghost use Rattle.rtcp_text.specs.Counted.{FailsOnce, failures_of, inner_of};
+ghost use Rattle.rtcp_text.specs.Counted.{AreUnfailed, FailsOnce, inner_of};
 ghost use Rattle.rtcp_text.specs.Lines.{Wrote};
 ghost use Rattle.rtcp_plain.specs.Plain.{plain_text};
 
@@ -25,13 +25,11 @@ pub fn check_plain<R: Read, W: Write>(
     reader: &mut Counted<R>,
     writer: &mut Counted<W>,
 ) -> Result<(), TextFault>
-    requires reader_unfailed { failures_of reader.old ≡ 0 }
-    requires writer_unfailed { failures_of writer.old ≡ 0 }
+    requires { AreUnfailed reader.old writer.old }
 
     ensures checks { Checks (plain_text None) lines result (R.remaining (inner_of reader.new))
         (Wrote R.remaining W.contents reader.old writer.old writer.new) }
-    ensures fails { FailsOnce result TextFault.Read TextFault.Write (failures_of reader.new)
-        (failures_of writer.new) }
+    ensures fails { FailsOnce result TextFault.Read TextFault.Write reader.new writer.new }
 {
     check_as(alloc, lines, Plain, reader, writer)
 }

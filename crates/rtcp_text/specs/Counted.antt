@@ -19,10 +19,15 @@ abbrev pub took_nothing : {E : Type 0} → Result ℕ E → List ℕ → Bool
 took_nothing (Ok count) octets = (count == 0) && nat_lt 0 (length octets)
 took_nothing (Err e) octets = true
 
+-- No call of the reader or of the writer failed.
+abbrev pub AreUnfailed : {R W : Type 0} → Counted R → Counted W → Type 0
+AreUnfailed reader writer = (failures_of reader ≡ 0) × (failures_of writer ≡ 0)
+
 -- A call of the reader or of the writer failed exactly where the fault says so, and only one: by the faults of a failed
--- read and a failed write, and by how many calls failed.
-pub record FailsOnce {A F : Type 0} (result : Result A F) (read write : F) (reads writes : ℕ) : Type 0 where
-  pub read_failed : (result ≡ Err read) ↔ (reads ≢ 0)
-  pub write_failed : (result ≡ Err write) ↔ (writes ≢ 0)
-  pub read_once : reads ≤ 1
-  pub write_once : writes ≤ 1
+-- read and a failed write.
+pub record FailsOnce {A F R W : Type 0} (result : Result A F) (read write : F) (reader : Counted R) (writer : Counted W)
+    : Type 0 where
+  pub read_failed : (result ≡ Err read) ↔ (failures_of reader ≢ 0)
+  pub write_failed : (result ≡ Err write) ↔ (failures_of writer ≢ 0)
+  pub read_once : failures_of reader ≤ 1
+  pub write_once : failures_of writer ≤ 1

@@ -1,7 +1,7 @@
 //! A text that is read in blocks, and answered line by line.
 
 ghost use Rattle.std.specs.Prelude.{◌≡◌};
-ghost use Rattle.rtcp_text.specs.Counted.{FailsOnce, failures_of, inner_of};
+ghost use Rattle.rtcp_text.specs.Counted.{AreUnfailed, FailsOnce, inner_of};
 ghost use Rattle.rtcp_text.specs.Lines.{Wrote, IsTextFrom};
 ghost use Rattle.rtcp_text.specs.Progress.{RunLeaves};
 
@@ -36,12 +36,10 @@ pub fn answer_blocks<A: Answerer, R: Read, W: Write>(
     reader: &mut Counted<R>,
     writer: &mut Counted<W>,
 ) -> Result<(), TextFault>
-    requires reader_unfailed { failures_of reader.old ≡ 0 }
-    requires writer_unfailed { failures_of writer.old ≡ 0 }
+    requires { AreUnfailed reader.old writer.old }
     ensures leaves { Wrote R.remaining W.contents reader.old writer.old writer.new
         (RunLeaves (IsTextFrom lines A.answers A.refuses 1 answerer) result (R.remaining (inner_of reader.new))) }
-    ensures fails { FailsOnce result TextFault.Read TextFault.Write (failures_of reader.new)
-        (failures_of writer.new) }
+    ensures fails { FailsOnce result TextFault.Read TextFault.Write reader.new writer.new }
 {
     let mut cutter = LineCutter::new(alloc, lines, answerer);
     let mut block = [0; BLOCK];

@@ -2,7 +2,7 @@
 
 ghost use Rattle.std.specs.Prelude.{◌≡◌};
 ghost use Rattle.rtcp_text.specs.Check.{Checks};
-ghost use Rattle.rtcp_text.specs.Counted.{FailsOnce, failures_of, inner_of};
+ghost use Rattle.rtcp_text.specs.Counted.{AreUnfailed, FailsOnce, inner_of};
 ghost use Rattle.rtcp_text.specs.Lines.{Wrote};
 ghost use Rattle.rtcp_text.specs.Text.{accepted_text};
 
@@ -43,13 +43,11 @@ pub fn check<R: Read, W: Write>(
     reader: &mut Counted<R>,
     writer: &mut Counted<W>,
 ) -> Result<(), TextFault>
-    requires reader_unfailed { failures_of reader.old ≡ 0 }
-    requires writer_unfailed { failures_of writer.old ≡ 0 }
+    requires { AreUnfailed reader.old writer.old }
 
     ensures checks { Checks accepted_text 65536 result (R.remaining (inner_of reader.new))
         (Wrote R.remaining W.contents reader.old writer.old writer.new) }
-    ensures fails { FailsOnce result TextFault.Read TextFault.Write (failures_of reader.new)
-        (failures_of writer.new) }
+    ensures fails { FailsOnce result TextFault.Read TextFault.Write reader.new writer.new }
 {
     check_up_to(alloc, MOST_LINES, reader, writer)
 }
@@ -65,13 +63,11 @@ pub fn check_up_to<R: Read, W: Write>(
     reader: &mut Counted<R>,
     writer: &mut Counted<W>,
 ) -> Result<(), TextFault>
-    requires reader_unfailed { failures_of reader.old ≡ 0 }
-    requires writer_unfailed { failures_of writer.old ≡ 0 }
+    requires { AreUnfailed reader.old writer.old }
 
     ensures checks { Checks accepted_text lines result (R.remaining (inner_of reader.new))
         (Wrote R.remaining W.contents reader.old writer.old writer.new) }
-    ensures fails { FailsOnce result TextFault.Read TextFault.Write (failures_of reader.new)
-        (failures_of writer.new) }
+    ensures fails { FailsOnce result TextFault.Read TextFault.Write reader.new writer.new }
 {
     // So every input has a text, of which what is written is a prefix, and only one.
     accepted_or_faulty();
@@ -91,13 +87,11 @@ pub fn check_as<S: Showing, R: Read, W: Write>(
     reader: &mut Counted<R>,
     writer: &mut Counted<W>,
 ) -> Result<(), TextFault>
-    requires reader_unfailed { failures_of reader.old ≡ 0 }
-    requires writer_unfailed { failures_of writer.old ≡ 0 }
+    requires { AreUnfailed reader.old writer.old }
 
     ensures checks { Checks S.line lines result (R.remaining (inner_of reader.new))
         (Wrote R.remaining W.contents reader.old writer.old writer.new) }
-    ensures fails { FailsOnce result TextFault.Read TextFault.Write (failures_of reader.new)
-        (failures_of writer.new) }
+    ensures fails { FailsOnce result TextFault.Read TextFault.Write reader.new writer.new }
 {
     answer_blocks(alloc, lines, Checker::new(alloc, showing), reader, writer)
 }

@@ -7,7 +7,7 @@ ghost use Rattle.rtcp_engine.specs.States.{StandsAt};
 ghost use Rattle.rtcp_engine.specs.Taken.{begun};
 ghost use Rattle.rtcp_engine.specs.Views.{setup_of};
 ghost use Rattle.rtcp_engine.specs.declared.config.ConfigError.{ConfigError as Refused};
-ghost use Rattle.rtcp_text.specs.Counted.{FailsOnce, failures_of, inner_of};
+ghost use Rattle.rtcp_text.specs.Counted.{AreUnfailed, FailsOnce, inner_of};
 ghost use Rattle.rtcp_text.specs.Lines.{Wrote};
 ghost use Rattle.rtcp_text.specs.Replay.{Replays, SessionLeaves};
 
@@ -51,8 +51,7 @@ pub fn replay<R: Read, W: Write>(
     config: Config,
     word: u32,
 ) -> Result<(), ReplayFault>
-    requires reader_unfailed { failures_of reader.old ≡ 0 }
-    requires writer_unfailed { failures_of writer.old ≡ 0 }
+    requires { AreUnfailed reader.old writer.old }
 
     // A configuration that is refused leaves the reader and the writer as they were.
     ensures config { (error : Refused) →
@@ -63,7 +62,7 @@ pub fn replay<R: Read, W: Write>(
     ensures replays { Replays 65536 (begun (setup_of config) word) result (R.remaining (inner_of reader.new))
         (Wrote R.remaining W.contents reader.old writer.old writer.new) }
     ensures fails { FailsOnce result (ReplayFault.Run TextFault.Read) (ReplayFault.Run TextFault.Write)
-        (failures_of reader.new) (failures_of writer.new) }
+        reader.new writer.new }
 {
     replay_up_to(alloc, MOST_LINES, reader, writer, config, word)
 }
@@ -81,8 +80,7 @@ pub fn replay_up_to<R: Read, W: Write>(
     config: Config,
     word: u32,
 ) -> Result<(), ReplayFault>
-    requires reader_unfailed { failures_of reader.old ≡ 0 }
-    requires writer_unfailed { failures_of writer.old ≡ 0 }
+    requires { AreUnfailed reader.old writer.old }
 
     // A configuration that is refused leaves the reader and the writer as they were.
     ensures config { (error : Refused) →
@@ -93,7 +91,7 @@ pub fn replay_up_to<R: Read, W: Write>(
     ensures replays { Replays lines (begun (setup_of config) word) result (R.remaining (inner_of reader.new))
         (Wrote R.remaining W.contents reader.old writer.old writer.new) }
     ensures fails { FailsOnce result (ReplayFault.Run TextFault.Read) (ReplayFault.Run TextFault.Write)
-        (failures_of reader.new) (failures_of writer.new) }
+        reader.new writer.new }
 {
     if let Some(error) = config.error() {
         return Err(ReplayFault::Config(error));
@@ -120,13 +118,11 @@ fn session<T: MemberTable + Drop, R: Read, W: Write>(
     reader: &mut Counted<R>,
     writer: &mut Counted<W>,
 ) -> Result<(), TextFault>
-    requires reader_unfailed { failures_of reader.old ≡ 0 }
-    requires writer_unfailed { failures_of writer.old ≡ 0 }
+    requires { AreUnfailed reader.old writer.old }
     ensures leaves { (history : History) → StandsAt participant history
         → Wrote R.remaining W.contents reader.old writer.old writer.new
         (SessionLeaves lines history result (R.remaining (inner_of reader.new))) }
-    ensures fails { FailsOnce result TextFault.Read TextFault.Write (failures_of reader.new)
-        (failures_of writer.new) }
+    ensures fails { FailsOnce result TextFault.Read TextFault.Write reader.new writer.new }
 {
     let mut start = Vec::new(alloc);
     if let Err(AllocError) = push_start(&mut start, participant.next()) {
