@@ -1,7 +1,17 @@
 -- What a status says of the outcome.
-use Rattle.std.proofs.Common.{◌≡◌, ◌≢◌, ℕ, ◌⊎◌, inl, inr, List, Option, Some, None, refl, subst, ap}
+use Rattle.std.proofs.Common.{◌≡◌, ◌≢◌, ℕ, ◌⊎◌, ◌↔◌, inl, inr, List, Option, Some, None, Result, Ok, Err, IsErrAnd, refl, sym, subst, ap, ◌∙◌}
 use Rattle.std.specs.Io.KnownBytes.{Keeps}
+use Rattle.std.proofs.lemmas.Result.{err_from_is_err_and}
+use Rattle.rtcp_wire.specs.Values.{RtcpPacket}
+use Rattle.rtcp_plain.specs.Plain.{plain_text}
+use Rattle.rtcp_engine.specs.Refused.{error_in}
+use Rattle.rtcp_engine.specs.Taken.{begun}
+use Rattle.rtcp_engine.specs.Views.{setup_of}
+use Rattle.rtcp_engine.specs.declared.config.Config.{Config as ConfigOfCall}
 use Rattle.rtcp_engine.specs.declared.config.ConfigError.{ConfigError}
+use Rattle.rtcp_text.specs.Check.{Checks, IsTextOfBy}
+use Rattle.rtcp_text.specs.Replay.{Replays}
+use Rattle.rtcp_text.specs.Text.{accepted_text}
 use Rattle.rtcp_text.specs.declared.fault.LineFault.{LineFault}
 use Rattle.rtcp_text.specs.declared.fault.ReplayFault.{ReplayFault}
 use Rattle.rtcp_text.specs.declared.fault.ReplayFault.TheVariants.{Config as BadConfig, Run}
@@ -12,6 +22,9 @@ use Rattle.rtcp_text.specs.Lines.{Writes, Wrote}
 use Rattle.rtcp_text.specs.Counted.{inner_of}
 use Rattle.rtcp_command.specs.declared.fault.RunFault.{RunFault}
 use Rattle.rtcp_command.specs.declared.fault.RunFault.TheVariants.{Config, Text, Link, Record, NoRegularFile, Random, Read, Write, Memory}
+use Rattle.rtcp_command.specs.declared.orders.TextOrder.{TextOrder}
+use Rattle.rtcp_command.specs.declared.orders.TextOrder.TheVariants.{Check, CheckPlain, Replay}
+use Rattle.rtcp_command.specs.Orders.{AnswersOrder, IsTextOfOrder}
 use Rattle.rtcp_command.specs.Status.{fault_status, replay_fault, text_fault}
 
 pub refuses : (fault : RunFault) → fault_status fault ≡ 2
@@ -27,15 +40,16 @@ refuses Read two = absurd (cc two)
 refuses Write two = absurd (cc two)
 refuses Memory two = absurd (cc two)
 
--- What a fault of a run was.
-pub check_refused : (found : TextFault) (line : ℕ) (fault : LineFault) → text_fault found ≡ Text line fault →
+-- ---- What a fault of a run was
+
+check_refused : (found : TextFault) (line : ℕ) (fault : LineFault) → text_fault found ≡ Text line fault →
     found ≡ BadText line fault
 check_refused (BadText line' fault') line fault is = cc is
 check_refused Unread line fault is = absurd (cc is)
 check_refused Unwritten line fault is = absurd (cc is)
 check_refused NoMemory line fault is = absurd (cc is)
 
-pub replay_refused : (found : ReplayFault) (line : ℕ) (fault : LineFault) → replay_fault found ≡ Text line fault →
+replay_refused : (found : ReplayFault) (line : ℕ) (fault : LineFault) → replay_fault found ≡ Text line fault →
     found ≡ Run (BadText line fault)
 replay_refused (BadConfig error) line fault is = absurd (cc is)
 replay_refused (Run found) line fault is = ap Run (check_refused found line fault is)
@@ -46,10 +60,89 @@ no_config Unread error is = absurd (cc is)
 no_config Unwritten error is = absurd (cc is)
 no_config NoMemory error is = absurd (cc is)
 
-pub replay_config : (found : ReplayFault) (error : ConfigError) → replay_fault found ≡ Config error →
+replay_config : (found : ReplayFault) (error : ConfigError) → replay_fault found ≡ Config error →
     found ≡ BadConfig error
 replay_config (BadConfig error') error is = cc is
 replay_config (Run found) error is = absurd (no_config found error is)
+
+-- ---- What a run was, of which the answers are a check or a replay
+
+abbrev pub checked : Result (Unit {0}) TextFault → Result (Unit {0}) RunFault
+checked (Ok x) = Ok x
+checked (Err fault) = Err (text_fault fault)
+
+abbrev pub replayed : Result (Unit {0}) ReplayFault → Result (Unit {0}) RunFault
+replayed (Ok x) = Ok x
+replayed (Err fault) = Err (replay_fault fault)
+
+module _ (order : TextOrder) {left : Option (List ℕ)} {Leaves : (List ℕ → List ℕ → Type 0) → Type 0} where
+  pub answers_checked : (shows : List RtcpPacket → List ℕ) (most : ℕ)
+      → ((end : Option (ℕ × LineFault)) → Leaves (IsTextOfBy shows most end) → Leaves (IsTextOfOrder order end))
+      → (r : Result (Unit {0}) TextFault) → Checks shows most r left Leaves → AnswersOrder order (checked r) Leaves
+  answers_checked shows most same (Ok x) h = record {
+    whole = same None h.whole;
+    refused = λ line fault is. absurd (cc is);
+    config = λ error is. absurd (cc is);
+  }
+  answers_checked shows most same (Err found) h = record {
+    whole = tt;
+    refused = λ line fault is.
+        same (Some (line, fault)) (h.refused line fault (ap Err (check_refused found line fault (cc is))));
+    config = λ error is. absurd (no_config found error (cc is));
+  }
+
+pub answers_replayed : (config : ConfigOfCall) (word most : ℕ) {left : Option (List ℕ)}
+    {Leaves : (List ℕ → List ℕ → Type 0) → Type 0} (r : Result (Unit {0}) ReplayFault)
+    → ((error : ConfigError) → (r ≡ Err (BadConfig error)) ↔ (error_in (setup_of config) ≡ Some error))
+    → Replays most (begun (setup_of config) word) r left Leaves →
+    AnswersOrder (Replay config word most) (replayed r) Leaves
+answers_replayed config word most (Ok x) configs h = record {
+  whole = h.whole;
+  refused = λ line fault is. absurd (cc is);
+  config = λ error is. absurd (cc is);
+}
+answers_replayed config word most (Err found) configs h = record {
+  whole = tt;
+  refused = λ line fault is. h.refused line fault (ap Err (replay_refused found line fault (cc is)));
+  config = λ error is. (configs error).0 (ap Err (replay_config found error (cc is)));
+}
+
+module _ (order : TextOrder) {left : Option (List ℕ)} {Leaves : (List ℕ → List ℕ → Type 0) → Type 0} where
+  pub check_answers : (lines : ℕ) → order ≡ Check lines → (r : Result (Unit {0}) TextFault) →
+      Checks accepted_text lines r left Leaves → AnswersOrder order (checked r) Leaves
+  check_answers lines is r h =
+      subst (λ o. AnswersOrder o (checked r) Leaves) (sym is)
+      (answers_checked (Check lines) accepted_text lines (λ end p. p) r h)
+
+  pub check_plain_answers : (lines : ℕ) → order ≡ CheckPlain lines → (r : Result (Unit {0}) TextFault) →
+      Checks (plain_text None) lines r left Leaves → AnswersOrder order (checked r) Leaves
+  check_plain_answers lines is r h =
+      subst (λ o. AnswersOrder o (checked r) Leaves) (sym is)
+      (answers_checked (CheckPlain lines) (plain_text None) lines (λ end p. p) r h)
+
+  pub replay_answers : (config : ConfigOfCall) (word lines : ℕ) → order ≡ Replay config word lines →
+      (r : Result (Unit {0}) ReplayFault) →
+      ((error : ConfigError) → (r ≡ Err (BadConfig error)) ↔ (error_in (setup_of config) ≡ Some error)) →
+      Replays lines (begun (setup_of config) word) r left Leaves → AnswersOrder order (replayed r) Leaves
+  replay_answers config word lines is r configs h =
+      subst (λ o. AnswersOrder o (replayed r) Leaves) (sym is) (answers_replayed config word lines r configs h)
+
+-- the exit of a `?`
+pub at_exit : (order : TextOrder) {Leaves : (List ℕ → List ℕ → Type 0) → Type 0} (r : Result (Unit {0}) RunFault)
+    (fault : RunFault) → IsErrAnd r (λ e. e ≡ fault) → AnswersOrder order (Err fault) Leaves →
+    AnswersOrder order r Leaves
+at_exit order {Leaves} r fault exit holds =
+    let found = err_from_is_err_and r exit in
+    subst (λ x. AnswersOrder order x Leaves) (sym (found.1 ∙ ap Err found.2)) holds
+
+-- A failed flush comes before what else failed.
+pub answers_unwritten : (order : TextOrder) {Leaves : (List ℕ → List ℕ → Type 0) → Type 0} (fault : RunFault) →
+    fault ≡ Write → AnswersOrder order (Err fault) Leaves
+answers_unwritten order fault write = record {
+  whole = tt;
+  refused = λ line refused is. absurd (cc (write, is));
+  config = λ error is. absurd (cc (write, is));
+}
 
 -- A writer that counts is left with what the writer inside holds.
 pub Writes-inner : {R W : Type 0} (remaining : R → Option (List ℕ)) (contents : W → Option (List ℕ))
@@ -67,7 +160,21 @@ kept_of None last octets keeps e = absurd (cc e)
 kept_of (Some x) None octets keeps e = absurd keeps
 kept_of (Some x) (Some y) octets keeps e = cc (keeps, e)
 
-pub Writes-kept : (remaining held holds last : Option (List ℕ)) (P : List ℕ → List ℕ → Type 0) → Keeps holds last →
+Writes-kept : (remaining held holds last : Option (List ℕ)) (P : List ℕ → List ℕ → Type 0) → Keeps holds last →
     Writes remaining held holds P → Writes remaining held last P
 Writes-kept remaining held holds last P keeps writes = λ input before known written.
     let found = writes input before known written in (found.0, kept_of holds last _ keeps found.1, found.2)
+
+pub answers_kept : (order : TextOrder) (r : Result (Unit {0}) RunFault) {remaining held holds last : Option (List ℕ)} →
+    Keeps holds last → AnswersOrder order r (Writes remaining held holds) →
+    AnswersOrder order r (Writes remaining held last)
+answers_kept order (Ok x) keeps h = record {
+  whole = Writes-kept _ _ _ _ _ keeps h.whole;
+  refused = λ line fault is. Writes-kept _ _ _ _ _ keeps (h.refused line fault is);
+  config = h.config;
+}
+answers_kept order (Err fault) keeps h = record {
+  whole = tt;
+  refused = λ line fault is. Writes-kept _ _ _ _ _ keeps (h.refused line fault is);
+  config = h.config;
+}

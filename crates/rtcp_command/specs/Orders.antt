@@ -1,10 +1,12 @@
 -- What a run over text writes, by its order.
-use Rattle.std.specs.Prelude.{◌≡◌, ℕ, List, Option, Some, None}
+use Rattle.std.specs.Prelude.{◌≡◌, ℕ, List, Option, Some, None, Result, Err, OnOk}
 use Rattle.rtcp_engine.specs.declared.config.ConfigError.{ConfigError}
 use Rattle.rtcp_engine.specs.Refused.{error_in}
 use Rattle.rtcp_engine.specs.Taken.{begun}
 use Rattle.rtcp_engine.specs.Views.{setup_of}
 use Rattle.rtcp_text.specs.declared.fault.LineFault.{LineFault}
+use Rattle.rtcp_command.specs.declared.fault.RunFault.{RunFault}
+use Rattle.rtcp_command.specs.declared.fault.RunFault.TheVariants.{Config, Text}
 use Rattle.rtcp_command.specs.declared.orders.TextOrder.{TextOrder}
 use Rattle.rtcp_command.specs.declared.orders.TextOrder.TheVariants.{Check, CheckPlain, Replay}
 use Rattle.rtcp_plain.specs.Plain.{plain_text}
@@ -23,3 +25,12 @@ abbrev pub RefusesConfig : TextOrder → ConfigError → Type 0
 RefusesConfig (Check lines) error = ⊥
 RefusesConfig (CheckPlain lines) error = ⊥
 RefusesConfig (Replay config word lines) error = error_in (setup_of config) ≡ Some error
+
+-- What a run promises of its order, by its outcome and what it wrote.
+pub record AnswersOrder
+    (order : TextOrder) (result : Result (Unit {0}) RunFault) (Leaves : (List ℕ → List ℕ → Type 0) → Type 0)
+    : Type 0 where
+  pub whole : OnOk result (Leaves (IsTextOfOrder order None))
+  pub refused : (line : ℕ) (fault : LineFault) → result ≡ Err (Text line fault) →
+      Leaves (IsTextOfOrder order (Some (line, fault)))
+  pub config : (error : ConfigError) → result ≡ Err (Config error) → RefusesConfig order error

@@ -1,11 +1,11 @@
 //! A run over text, from its order to its status.
 
-ghost use Rattle.std.specs.Prelude.{◌≡◌, ◌≢◌, ◌≤◌, ◌⊎◌, ◌↔◌, ℕ, Some, None, OnOk, IfErr};
+ghost use Rattle.std.specs.Prelude.{◌≡◌, ◌≢◌, ◌≤◌, ◌⊎◌, ◌↔◌, ℕ, Some, None, Err, OnOk, IfErr};
 ghost use Rattle.std.specs.Io.KnownBytes.{Keeps};
 ghost use Rattle.rtcp_engine.specs.declared.config.ConfigError.{ConfigError as Refused};
-ghost use Rattle.rtcp_text.specs.Counted.{failures_of, inner_of};
+ghost use Rattle.rtcp_text.specs.Counted.{AreUnfailed, FailsOnce, failures_of, inner_of};
 ghost use Rattle.rtcp_text.specs.Lines.{Writes, Wrote};
-ghost use Rattle.rtcp_command.specs.Orders.{IsTextOfOrder, RefusesConfig};
+ghost use Rattle.rtcp_command.specs.Orders.{AnswersOrder, IsTextOfOrder, RefusesConfig};
 ghost use Rattle.rtcp_text.specs.declared.fault.LineFault.{LineFault as Fault};
 
 use crate::fault::{RunFault, fail};
@@ -51,51 +51,49 @@ pub fn command<R: Read + Drop, W: Write + Drop, F: Write>(
 ///
 /// # Errors
 ///
-/// Those of [`check_up_to`], [`check_plain`] or [`replay_up_to`], and [`RunFault::Write`] where the flush fails,
-/// whatever failed before.
+/// Those of [`answer`], and [`RunFault::Write`] where the flush fails, whatever failed before.
 fn run<R: Read, W: Write>(
     alloc: Global,
     order: TextOrder,
     reader: &mut Counted<R>,
     writer: &mut Counted<W>,
 ) -> Result<(), RunFault>
-    requires reader_unfailed { failures_of reader.old ≡ 0 }
-    requires writer_unfailed { failures_of writer.old ≡ 0 }
-
-    ensures whole { OnOk result
-        (Wrote R.remaining W.contents reader.old writer.old writer.new (IsTextOfOrder order None)) }
-    ensures refused { (line : ℕ) (fault : Fault) → result ≡ Err (RunFault.Text line fault)
-        → Wrote R.remaining W.contents reader.old writer.old writer.new
-        (IsTextOfOrder order (Some (line, fault))) }
-    ensures config { (error : Refused) → result ≡ Err (RunFault.Config error) → RefusesConfig order error }
-
+    requires { AreUnfailed reader.old writer.old }
+    ensures answers { AnswersOrder order result (Wrote R.remaining W.contents reader.old writer.old writer.new) }
     // A failed flush comes before what else failed.
     ensures read_failed { result ≡ Err RunFault.Read → failures_of reader.new ≢ 0 }
     ensures write_failed { (result ≡ Err RunFault.Write) ↔ (failures_of writer.new ≢ 0) }
     ensures whole_read { OnOk result (failures_of reader.new ≡ 0) }
 {
+    let outcome = answer(alloc, order, reader, writer);
+    flush(writer)?;
+    outcome
+}
+
+/// Answers a text by its order.
+///
+/// # Errors
+///
+/// Those of [`check_up_to`], [`check_plain`] or [`replay_up_to`].
+fn answer<R: Read, W: Write>(
+    alloc: Global,
+    order: TextOrder,
+    reader: &mut Counted<R>,
+    writer: &mut Counted<W>,
+) -> Result<(), RunFault>
+    requires { AreUnfailed reader.old writer.old }
+    ensures answers { AnswersOrder order result (Wrote R.remaining W.contents reader.old writer.old writer.new) }
+    ensures fails { FailsOnce result RunFault.Read RunFault.Write reader.new writer.new }
+{
     match order {
-        TextOrder::Check { lines } => {
-            let outcome = check_up_to(alloc, lines, reader, writer);
-            flush(writer)?;
-            outcome?;
-        }
+        TextOrder::Check { lines } => Ok(check_up_to(alloc, lines, reader, writer)?),
+        TextOrder::CheckPlain { lines } => Ok(check_plain(alloc, lines, reader, writer)?),
         TextOrder::Replay {
             config,
             word,
             lines,
-        } => {
-            let outcome = replay_up_to(alloc, lines, reader, writer, config, word);
-            flush(writer)?;
-            outcome?;
-        }
-        TextOrder::CheckPlain { lines } => {
-            let outcome = check_plain(alloc, lines, reader, writer);
-            flush(writer)?;
-            outcome?;
-        }
+        } => Ok(replay_up_to(alloc, lines, reader, writer, config, word)?),
     }
-    Ok(())
 }
 
 /// Flushes what was written.

@@ -1,12 +1,29 @@
-//! The text of the end of a session, as `rtcp listen` shows it.
+//! The end of a session, as `rtcp listen` shows it and in its status.
 
 ghost use Rattle.std.specs.Prelude.{◌≡◌, ◌++◌, IfOk, OnOk};
 ghost use Rattle.std.specs.Fmt.{decimal};
 ghost use Rattle.rtcp_command.specs.EndText.{arrivals_text, cause_text, end_text, sendings_text, yes_or_no};
+ghost use Rattle.rtcp_command.specs.Status.{listen_status};
 
+use crate::fault::{RunFault, fail};
 use rtcp_serve::{Cause, End};
 use rtcp_text::text::digits::push_decimal;
 use std::alloc::{AllocError, Global};
+use std::io::Write;
+
+/// Writes a line to `faults` where a session failed, and returns the status to end with. A failed write is
+/// ignored.
+pub fn conclude<F: Write>(outcome: &Result<End, RunFault>, faults: &mut F) -> u8
+    ensures { result ≡ listen_status outcome.now }
+{
+    match outcome {
+        Ok(end) => match end.cause {
+            Cause::Done | Cause::Limit => 0,
+            Cause::LinkDown => 1,
+        },
+        Err(fault) => fail(*fault, faults),
+    }
+}
 
 /// The line for the end of a session.
 pub fn end_line(alloc: Global, end: &End) -> Result<Vec<u8>, AllocError>

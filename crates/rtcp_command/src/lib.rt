@@ -1,6 +1,6 @@
-//! The command line of the program `rtcp`, from its arguments to the exit status. [`order::order`] reads the arguments
+//! The command line of the program `rtcp`, from its arguments to the exit status. [`arguments::order`] reads the arguments
 //! as an [`Order`]: work over text, which [`command::command`] does over any reader and any writer, or a session over a
-//! link. [`ends::end_line`] is the line printed at the end of a session, and [`listen::conclude`] gives its exit
+//! link. [`ends::end_line`] is the line printed at the end of a session, and [`ends::conclude`] gives its exit
 //! status. The crate does not touch the process: it reads no standard stream, no clock and no environment, and opens no
 //! socket.
 //!
@@ -23,15 +23,14 @@
 //! endpoint has one text.
 #![tactic(auto)]
 
+pub mod arguments;
 pub mod command;
 pub mod endpoint;
 pub mod ends;
 mod fault;
 pub mod groups;
 pub mod laws;
-pub mod listen;
 mod options;
-pub mod order;
 mod orders;
 pub mod ports;
 pub mod replay_command;

@@ -16,14 +16,14 @@ mod stop_file;
 use rand_core::{Rng, SeedableRng};
 use rand_pcg::Pcg32;
 use record_file::RecordFile;
-use rtcp_command::ends::end_line;
+use rtcp_command::arguments::refuse;
+use rtcp_command::ends::{conclude, end_line};
 use rtcp_command::groups::group_warnings;
-use rtcp_command::order::refuse;
 use rtcp_command::ports::picked_ports;
 use rtcp_command::replay_command::replay_line;
 use rtcp_command::session_recorder::SessionRecorder;
 pub use rtcp_command::{
-    ListenOrder, Order, OrderFault, RunFault, TextOrder, command, laws, listen, order,
+    ListenOrder, Order, OrderFault, RunFault, TextOrder, arguments, command, ends, laws,
 };
 use rtcp_engine::Participant;
 use rtcp_members::HeapTable;
@@ -46,7 +46,7 @@ use stop_file::StopFile;
 fn main(rt: HostRuntime) -> ExitCode {
     let status = match asked(&rt) {
         Ok(Order::Text(order)) => run_text(&rt, order),
-        Ok(Order::Listen(order)) => listen::conclude(&run_listen(&rt, order), &mut rt.stderr()),
+        Ok(Order::Listen(order)) => conclude(&run_listen(&rt, order), &mut rt.stderr()),
         Err(fault) => refuse(&fault, &mut rt.stderr()),
     };
     ExitCode::from(status)
@@ -56,14 +56,14 @@ fn main(rt: HostRuntime) -> ExitCode {
 ///
 /// # Errors
 ///
-/// Those of [`order::order`], and those of [`order::unreadable`] where the arguments cannot be read.
+/// Those of [`arguments::order`], and those of [`arguments::unreadable`] where the arguments cannot be read.
 fn asked(rt: &HostRuntime) -> Result<Order, OrderFault>
     ensures turns { IfOk result HasTurns }
 {
     let alloc = rt.alloc();
     let arguments = match env::args(rt) {
         Ok(arguments) => arguments,
-        Err(error) => return Err(order::unreadable(alloc, error.kind())),
+        Err(error) => return Err(arguments::unreadable(alloc, error.kind())),
     };
     let mut texts = Vec::new(alloc);
     for argument in arguments {
@@ -77,7 +77,7 @@ fn asked(rt: &HostRuntime) -> Result<Order, OrderFault>
             return Err(OrderFault::Memory);
         }
     }
-    order::order(alloc, &words)
+    arguments::order(alloc, &words)
 }
 
 /// Runs an order from standard input to standard output, and returns the status to end with.

@@ -2,8 +2,8 @@
 
 use super::failing::{FailingReader, Full};
 use super::{refused, same};
+use rtcp_command::arguments::{order, refuse, unreadable};
 use rtcp_command::command::command;
-use rtcp_command::order::{order, refuse, unreadable};
 use rtcp_command::{Order, OrderFault, TextOrder};
 use std::alloc::{AllocError, Global};
 use std::io;

@@ -2,7 +2,7 @@
 
 use super::{refused, same};
 use rtcp_command::Order;
-use rtcp_command::order::order;
+use rtcp_command::arguments::order;
 use std::alloc::{AllocError, Global};
 use std::test::Fail;
 

@@ -2,7 +2,7 @@
 
 use super::{refused, same};
 use rtcp_command::Order;
-use rtcp_command::order::order;
+use rtcp_command::arguments::order;
 use std::test::Fail;
 
 /// The words of a command line that has all that is required.

@@ -2,8 +2,7 @@
 
 use super::same;
 use rtcp_command::RunFault;
-use rtcp_command::ends::end_line;
-use rtcp_command::listen::conclude;
+use rtcp_command::ends::{conclude, end_line};
 use rtcp_engine::ConfigError;
 use rtcp_serve::{Cause, End};
 use std::alloc::AllocError;

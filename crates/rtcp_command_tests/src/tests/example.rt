@@ -1,8 +1,8 @@
 //! The example that rtcp_command opens with.
 
 use rtcp_command::Order;
+use rtcp_command::arguments::order;
 use rtcp_command::command::command;
-use rtcp_command::order::order;
 use std::test::Fail;
 
 #[test]

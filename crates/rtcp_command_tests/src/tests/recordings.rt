@@ -2,7 +2,7 @@
 
 use super::endings::REQUIRED;
 use rtcp_command::Order;
-use rtcp_command::order::order;
+use rtcp_command::arguments::order;
 use std::test::Fail;
 
 /// Only `--force` lets a file be overwritten, before or after `--record`.

@@ -2,7 +2,7 @@
 
 use super::{ranges, with};
 use rtcp_command::Order;
-use rtcp_command::order::order;
+use rtcp_command::arguments::order;
 use std::net::{Ipv4Addr, SocketAddrV4};
 use std::test::Fail;
 

@@ -1,4 +1,4 @@
-//! The command line.
+//! The arguments of the program, and the order that they give.
 
 ghost use Rattle.std.specs.Prelude.{◌≡◌, IfOk};
 ghost use Rattle.rtcp_command.specs.Listening.{HasTurns};
@@ -6,9 +6,10 @@ ghost use Rattle.rtcp_command.specs.Status.{order_status};
 
 mod check;
 mod listen;
-mod options;
 mod replay;
+mod rows;
 
+use crate::options::read_listen;
 use crate::orders::{Order, OrderFault};
 use clap::Command;
 use clap::error::ErrorKind as ClapErrorKind;
@@ -46,7 +47,7 @@ pub fn order<'a>(alloc: Global, words: &'a [&'a str]) -> Result<Order, OrderFaul
         Ok(matches) => match matches.subcommand() {
             Some(("check", matches)) => Ok(Order::Text(check::order(matches)?)),
             Some(("replay", matches)) => Ok(Order::Text(replay::order(matches)?)),
-            Some(("listen", matches)) => listen::order(alloc, matches),
+            Some(("listen", matches)) => read_listen(alloc, matches),
             _ => Err(shown(program.render_help())),
         },
         Err(error) if error.kind() == ClapErrorKind::OutOfMemory => Err(OrderFault::Memory),

@@ -5,7 +5,7 @@ ghost use Rattle.clap.specs.Matches.{found_of};
 ghost use Rattle.rtcp_command.specs.Listening.{is_set as is_set_in};
 ghost use Rattle.rtcp_command.specs.Options.{IsCheckOrder, lines_in, text_found};
 
-use super::options::{Absent, LINES, Row, with_options};
+use super::rows::{Absent, LINES, Row, with_options};
 use crate::options::{given, is_set, read_lines};
 use crate::orders::{OrderFault, TextOrder};
 use clap::{ArgMatches, Command};

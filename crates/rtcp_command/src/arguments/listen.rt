@@ -1,13 +1,7 @@
 //! The subcommand `listen` of the command line.
 
-ghost use Rattle.std.specs.Prelude.{◌≡◌, IfOk};
-ghost use Rattle.clap.specs.Matches.{found_of};
-ghost use Rattle.rtcp_command.specs.Listening.{HasTurns, IsListenOrder, listen_in};
-
-use super::options::{Absent, PARTICIPANT, Row, with_options};
-use crate::options::read_listen;
-use crate::orders::{Order, OrderFault};
-use clap::{ArgMatches, Command};
+use super::rows::{Absent, PARTICIPANT, Row, with_options};
+use clap::Command;
 use std::alloc::{AllocError, Global};
 
 const ABOUT: &str = "Take part in a session over UDP";
@@ -165,17 +159,4 @@ pub(super) fn subcommand<'a>(alloc: Global) -> Result<Command<'a>, AllocError> {
     let command = Command::new(alloc, "listen").about(ABOUT).long_about(LONG);
     let command = with_options(alloc, command, &PARTICIPANT)?;
     with_options(alloc, command, &OWN)
-}
-
-/// What the words after `listen` ask for.
-///
-/// # Errors
-///
-/// - [`OrderFault::Option`] with the first option whose value is refused.
-/// - [`OrderFault::Memory`] where memory is refused.
-pub(super) fn order(alloc: Global, matches: &ArgMatches<'_>) -> Result<Order, OrderFault>
-    ensures read { IsListenOrder result (listen_in (found_of matches.now)) }
-    ensures turns { IfOk result HasTurns }
-{
-    read_listen(alloc, matches)
 }

@@ -3,7 +3,7 @@
 ghost use Rattle.clap.specs.Matches.{found_of};
 ghost use Rattle.rtcp_command.specs.Options.{IsReplayOrder, replay_in};
 
-use super::options::{Absent, LINES, PARTICIPANT, Row, with_options};
+use super::rows::{Absent, LINES, PARTICIPANT, Row, with_options};
 use crate::options::read_replay;
 use crate::orders::{OrderFault, TextOrder};
 use clap::{ArgMatches, Command};
