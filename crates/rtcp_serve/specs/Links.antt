@@ -1,5 +1,8 @@
 -- What is asked of a link, and what it answers. Lists of calls are newest first.
-use Rattle.std.specs.Prelude.{◌≡◌, ◌≤◌, ◌+◌, ℕ, List, ◌++◌, length, filter, take, Option, Some, None, Bool, true, false}
+use Rattle.std.specs.Prelude.{◌≡◌, ◌≤◌, ◌+◌, ◌*◌, ℕ, List, ◌++◌, length, filter, take, Option, Some, None, Bool, true, false}
+use Rattle.std.specs.Net.Addr.{ipv4_bits}
+use Rattle.std.specs.Net.Socket.{v4_ip, v4_port}
+use Rattle.std.specs.declared.net.socket_addr.SocketAddrV4.{SocketAddrV4}
 use Rattle.rtcp_serve.specs.declared.link.Port.{Port}
 use Rattle.rtcp_serve.specs.declared.link.Received.{Received}
 use Rattle.rtcp_serve.specs.declared.link.Received.TheVariants.{Got, Nothing, Failed}
@@ -78,3 +81,9 @@ pub record WereCalled (calls : List Call) (before after : LinkValue) : Type 0 wh
 abbrev pub IsWithin : Received → (buffer : List ℕ) → Type 0
 IsWithin (Got count peer) buffer = count ≤ length buffer
 IsWithin received buffer = Unit {0}
+
+-- ---- Peers
+
+-- the number of an address and a port
+abbrev pub endpoint_number : SocketAddrV4 → ℕ
+endpoint_number endpoint = ipv4_bits (v4_ip endpoint) * 65536 + v4_port endpoint

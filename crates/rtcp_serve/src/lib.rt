@@ -22,6 +22,6 @@ pub mod serve_laws;
 mod serving;
 
 pub use ending::{Ending, Until};
-pub use link::{Link, LinkFault, Port, Received};
+pub use link::{Link, LinkFault, Port, Received, endpoint_number};
 pub use observer::Observer;
 pub use serving::{Cause, End, MOST_TURNS, serve, serve_until};

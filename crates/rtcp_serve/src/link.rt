@@ -1,8 +1,9 @@
 //! What a participant needs of a network and a clock.
 
 ghost use Rattle.std.specs.Prelude.{◌≡◌, ◌<◌, ◌-◌, ◌^◌, [], ◌∷◌, length, is_err};
-ghost use Rattle.rtcp_serve.specs.Links.{LinkValue, WereCalled, IsWithin, clock_read, port_heard, compound_sent, heard_in};
+ghost use Rattle.rtcp_serve.specs.Links.{LinkValue, WereCalled, IsWithin, clock_read, port_heard, compound_sent, endpoint_number, heard_in};
 
+use std::net::SocketAddrV4;
 use thiserror::Error;
 
 /// One of the two ports of a session (RFC 3550, 11).
@@ -56,4 +57,11 @@ pub trait Link {
         requires { (value self.old).failed_sends < 2 ^ 64 - 1 }
         ensures called { WereCalled (compound_sent bytes.now (is_err result) ∷ [])
             (value self.old) (value self.new) };
+}
+
+/// The number of an address and a port, which no other two have: the address times 65,536, plus the port.
+pub fn endpoint_number(endpoint: SocketAddrV4) -> u64
+    ensures { result ≡ endpoint_number endpoint }
+{
+    u64::from(endpoint.ip().to_bits()) * 65_536 + u64::from(endpoint.port())
 }

@@ -58,9 +58,9 @@ pub struct End {
 /// A turn reads the clock, listens to the port of RTCP and then to that of RTP, for 20 milliseconds each, reads the
 /// clock again, draws two words, asks the participant what is due, and sends what it answers. For a datagram that
 /// came it draws a word too, before the participant is told. Where one changes the SSRC (RFC 3550, 8.2), the BYE of
-/// the old one goes out at once, before the turn goes on. The moment is the greatest that the clock gave, and a compound goes to the link
-/// once, whether or not it failed to send it. After the last turn a word is drawn for the leave, at that moment.
-/// Once the participant has left, there is no further call.
+/// the old one goes out at once, before the turn goes on. The moment is the greatest that the clock gave, and a
+/// compound goes to the link once, whether or not it failed to send it. After the last turn a word is drawn for the
+/// leave, at that moment. Once the participant has left, there is no further call.
 ///
 /// It ends early where the 64th receive in a row failed, over both ports, and where the participant met a limit.
 pub fn serve<L: Link, T: MemberTable, R: Rng>(
