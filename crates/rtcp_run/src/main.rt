@@ -31,7 +31,7 @@ pub use rtcp_serve::{
     Cause, End, Ending, Link, LinkFault, MOST_TURNS, Observer, Port, Received, Until, serve,
     serve_laws, serve_until,
 };
-use rtcp_show::{Watcher, Wording, push_header};
+use rtcp_show::{Printer, Watcher, Wording, push_header};
 use rtcp_text::record::Recorder;
 pub use rtcp_text::{Counted, LineFault, ReplayFault, TextFault, check, replay};
 use rtcp_udp::{BindFault, UdpLink};
@@ -121,8 +121,8 @@ fn run_listen(rt: &HostRuntime, order: ListenOrder) -> Result<End, RunFault>
     let closing = closing(rt, &order, word)?;
     let watcher = if order.show {
         write_header(rt, &order, link.endpoints())?;
-        let watcher = Watcher::new(alloc, order.config.ntp_base, order.peer, rt.stderr());
-        Some(watcher.with_wording(wording(&order)))
+        let printer = Printer::new(alloc, order.config.ntp_base, order.peer, rt.stderr());
+        Some(Watcher::new(printer.with_wording(wording(&order))))
     } else {
         None
     };

@@ -1,12 +1,13 @@
 -- What is kept of sources while a listing is gone through: what the sources that are left bring it to.
-use Rattle.std.proofs.Common.{◌≡◌, ℕ, Bool, true, false, List, if◌then◌else◌, nat_eq, is_some, Option, Some, None, refl, sym, ap, ◌∙◌}
+use Rattle.std.proofs.Common.{◌≡◌, ℕ, Bool, true, false, List, if◌then◌else◌, nat_eq, is_some, unwrap_or, Option, Some, None, refl, sym, ap, ◌∙◌}
 use Rattle.std.specs.Option.{option_map_or, option_or}
 use Rattle.rtcp_members.specs.Told.{StateValue}
+use Rattle.rtcp_serve.specs.declared.link.Port.TheVariants.{Rtcp, Rtp}
 use Rattle.rtcp_show.specs.declared.flows.Flow.{Flow}
 use Rattle.rtcp_show.specs.declared.notes.Note.{Note}
 use Rattle.rtcp_wire.specs.Values.{RtcpPacket}
 use Rattle.rtcp_show.specs.Listings.{if_listed}
-use Rattle.rtcp_show.specs.Flows.{flow_looked, heard_after, looked_at, no_flow, reporter_of, with_rtcp, with_rtp}
+use Rattle.rtcp_show.specs.Flows.{flow_looked, heard_after, heard_at, looked_at, no_flow, reporter_of}
 use Rattle.rtcp_show.specs.Notes.{kept_if, note_value, nothing}
 use Rattle.rtcp_show.proofs.ListingLemmas.{by_same}
 
@@ -26,24 +27,32 @@ note_to_come true left kept = option_or left kept
 
 -- ---- Where packets come from
 
+either : {A : Type 0} {x y : A} (b : Bool) → x ≡ y → x ≡ (if b then y else x)
+either true same = same
+either false same = refl
+
 pub listed_peer :
     (listed : ℕ → Bool) (set : Flow → Flow) (source : ℕ) (flows : ℕ → Flow) → listed source ≡ true → (ssrc : ℕ)
     → (if nat_eq source ssrc then set (flows source) else flows ssrc)
     ≡ (if listed ssrc then (if nat_eq source ssrc then set (flows ssrc) else flows ssrc) else flows ssrc)
 listed_peer listed set source flows holds ssrc = by_same source ssrc
     (λ test same. rw (test, sym (ap listed same), holds) (ap (λ s. set (flows s)) same))
-    (λ test. rw test (elim (listed ssrc) as (λ t. flows ssrc ≡ (if t then flows ssrc else flows ssrc)) [
-      | true ↦ refl
-      | false ↦ refl
-    ]))
+    (λ test. rw test (either (listed ssrc) refl))
+
+-- What is put is what is kept then.
+pub flow_put :
+    (b : Bool) (flow : Flow) (after before : Option Flow) → after ≡ (if b then Some flow else before)
+    → unwrap_or after no_flow ≡ (if b then flow else unwrap_or before no_flow)
+flow_put true flow after before is = rw is refl
+flow_put false flow after before is = rw is refl
 
 pub heard_both :
     (listed : Bool) (peer : ℕ) (packets : List RtcpPacket) (media : Option ℕ) (ssrc : ℕ) (before between after : Flow)
-    → between ≡ (if listed then with_rtp media peer ssrc before else before)
-    → after ≡ (if listed then with_rtcp (reporter_of packets) peer ssrc between else between)
+    → between ≡ if_listed listed (heard_at Rtp media peer ssrc) before
+    → after ≡ if_listed listed (heard_at Rtcp (reporter_of packets) peer ssrc) between
     → after ≡ if_listed listed (heard_after peer packets media ssrc) before
 heard_both true peer packets media ssrc before between after first second =
-    second ∙ ap (with_rtcp (reporter_of packets) peer ssrc) first
+    second ∙ ap (heard_at Rtcp (reporter_of packets) peer ssrc) first
 heard_both false peer packets media ssrc before between after first second = second ∙ first
 
 -- ---- In the end

@@ -14,16 +14,6 @@ passed before middle after head P first given = (
       ∙ append_assoc before head given.0,
 )
 
--- A moment, a space and the rows are written one after the other, into a buffer that is empty.
-pub said :
-    (whole pushed timed cleared moment given rows emptied those : List ℕ)
-    → cleared ≡ [] → timed ≡ cleared ++ moment → pushed ≡ timed ++ 32 ∷ [] → whole ≡ pushed ++ given
-    → given ≡ rows → emptied ≡ [] → rows ≡ emptied ++ those → whole ≡ moment ++ 32 ∷ those
-said whole pushed timed cleared moment given rows emptied those empty time space end same none listed =
-    end ∙ ap (λ xs. pushed ++ xs) (same ∙ listed ∙ ap (λ xs. xs ++ those) none)
-    ∙ ap (λ xs. xs ++ those) (space ∙ ap (λ xs. xs ++ 32 ∷ []) (time ∙ ap (λ xs. xs ++ moment) empty))
-    ∙ append_assoc moment (32 ∷ []) those
-
 -- Four parts are written one after the other.
 pub four_parts :
     (o0 o1 o2 o3 o4 a b c d : List ℕ)

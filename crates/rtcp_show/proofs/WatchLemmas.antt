@@ -10,16 +10,14 @@ use Rattle.rtcp_engine.specs.Steps.{AnswerValue}
 use Rattle.rtcp_wire.specs.Values.{RtcpPacket}
 use Rattle.rtcp_show.specs.declared.board.Board.{Board}
 use Rattle.rtcp_show.specs.declared.page.Page.{Page}
-use Rattle.rtcp_show.specs.declared.watcher.Watcher.{Watcher}
+use Rattle.rtcp_show.specs.declared.printer.Printer.{Printer}
 use Rattle.rtcp_show.specs.Changes.{KeepsListing, ShowsChanges, lists_anew, tells_of_others}
 use Rattle.rtcp_show.specs.Flows.{IsMediaOf, elapsed_since, flow_in, flow_looked, heard_after, peer_of_event}
 use Rattle.rtcp_show.specs.Lines.{HasPackets, ShowsBothBy, moment_of_event}
 use Rattle.rtcp_show.specs.Listings.{if_listed, lists, told_of}
 use Rattle.rtcp_show.specs.Notes.{kept_if, noted_after, noted_in}
 use Rattle.rtcp_show.specs.Watchers.{KeepsRows, LooksIf, Watches, arrival_at, held_on, is_due, listed_in, news_text, second_after, terms_of}
-use Rattle.rtcp_show.specs.Observations.{Knows, Observation}
 use Rattle.rtcp_show.specs.Wordings.{shown_in}
-use Rattle.rtcp_text.specs.declared.fault.TextFault.{TextFault}
 
 -- ---- Results
 
@@ -60,7 +58,7 @@ pub record Notes
       IsMediaOf event answer media → (ssrc : ℕ) →
       flow_in after.flows ssrc ≡ if_listed (lists history ssrc) (heard_after (peer_of_event event) packets media ssrc)
       (flow_in before.flows ssrc)
-  pub looked : after.flows.looked ≡ before.flows.looked
+  pub looked : after.looked ≡ before.looked
   pub rows : after.rows ≡ before.rows
   pub second : after.second ≡ before.second
 
@@ -76,7 +74,7 @@ looked_flows :
     (due : Bool) (now : ℕ) (history : History) (before after : Board) → LooksIf due now history before after →
     (ssrc : ℕ)
     → flow_in after.flows ssrc
-    ≡ (if due then flow_looked (elapsed_since before.flows.looked now) (told_of history ssrc)
+    ≡ (if due then flow_looked (elapsed_since before.looked now) (told_of history ssrc)
     (flow_in before.flows ssrc)
     else flow_in before.flows ssrc)
 looked_flows true now history before after looks ssrc = looks.flows ssrc
@@ -84,7 +82,7 @@ looked_flows false now history before after stays ssrc = stays.flows ssrc
 
 looked_then :
     (due : Bool) (now : ℕ) (history : History) (before after : Board) → LooksIf due now history before after
-    → after.flows.looked ≡ (if due then now else before.flows.looked)
+    → after.looked ≡ (if due then now else before.looked)
 looked_then true now history before after looks = looks.looked
 looked_then false now history before after stays = stays.looked
 
@@ -92,7 +90,8 @@ looked_then false now history before after stays = stays.looked
 
 pub watched :
     {W : Type 0} {contents : W → Option (List ℕ)} (event : EventValue) (answer : AnswerValue) (history : History)
-    (before after : Watcher W) (lined told : Page W) (noted : Board)
+    (before after : Printer W) (lined told : Page W) (noted : Board)
+    → terms_of after ≡ terms_of before
     → (lines : List ℕ) × ShowsBothBy (shown_in (terms_of before).wording) (terms_of before).to event answer lines
     × Appends (held_on contents before.page) (held_on contents lined) lines
     → Notes event answer history (arrival_at (terms_of before).ntp_base (moment_of_event event)) before.board noted
@@ -107,14 +106,15 @@ pub watched :
     → LooksIf (is_due noted.second (moment_of_event event)) (moment_of_event event) history noted after.board
     → after.board.second ≡ second_after noted.second (moment_of_event event)
     → Watches contents event answer history before after
-watched {contents = contents} event answer history before after lined told noted shown notes changed listed written
-    rows looks second =
+watched {contents = contents} event answer history before after lined told noted same shown notes changed listed
+    written rows looks second =
     let moment = moment_of_event event in
     let news = news_text (is_due noted.second moment) moment noted.rows.items after.board.rows.items in
     let items = ap (λ rows. rows.items) notes.rows in
     record {
       lines = shown.0;
       changes = changed.0;
+      terms = same;
       shows = shown.1;
       tells = changed.1;
       writes = rw (sym notes.second, sym items)
@@ -133,28 +133,3 @@ watched {contents = contents} event answer history before after lined told noted
           rw (sym notes.second, sym notes.looked, sym (notes.flowing packets media says comes ssrc))
           (looked_flows (is_due noted.second moment) moment history noted after.board looks ssrc);
     }
-
--- What an observer keeps beside that changes nothing of it.
-pub watched_by :
-    {W : Type 0} {contents : W → Option (List ℕ)} {event : EventValue} {answer : AnswerValue} {history : History}
-    {before : Watcher W} (middle : Watcher W) (moment : ℕ) (fault : Option TextFault)
-    → Watches contents event answer history before middle
-    → Watches contents event answer history before (record middle { moment = moment; fault = fault })
-watched_by middle moment fault w = record {
-  lines = w.lines;
-  changes = w.changes;
-  shows = w.shows;
-  tells = w.tells;
-  writes = w.writes;
-  listing = w.listing;
-  rows = w.rows;
-  second = w.second;
-  looked = w.looked;
-  notes = w.notes;
-  flows = w.flows;
-}
-
-pub known_by :
-    {W : Type 0} {all : List Observation} (middle : Watcher W) (moment : ℕ) (fault : Option TextFault)
-    → Knows middle all → Knows (record middle { moment = moment; fault = fault }) all
-known_by middle moment fault k = record { second = k.second; looked = k.looked; notes = k.notes; flows = k.flows }

@@ -1,24 +1,24 @@
 -- What is kept of the packets of sources beside their table: where they come from, and how many a second.
-use Rattle.std.specs.Prelude.{◌≡◌, ℕ, ℤ, pos, negsuc, ◌+◌, ◌-◌, ◌*◌, ◌/◌, ◌^◌, Bool, false, List, [], ◌∷◌, max, min, if◌then◌else◌, nat_eq, nat_le, is_some, Option, Some, None, Ok, Err, option_map}
-use Rattle.std.specs.BTreeMap as stored
-use Rattle.std.specs.Option.{option_map_or}
-use Rattle.std.specs.Ordering.{nat_cmp}
+use Rattle.std.specs.Prelude.{◌≡◌, ℕ, ℤ, pos, negsuc, ◌+◌, ◌-◌, ◌*◌, ◌/◌, ◌^◌, Bool, false, List, [], ◌∷◌, max, min, if◌then◌else◌, nat_eq, nat_le, is_some, Option, Some, None, Ok, Err, option_map, unwrap_or}
 use Rattle.rtcp_engine.specs.Acts.{EventValue, rtcp_arrived, rtp_arrived}
 use Rattle.rtcp_engine.specs.Steps.{AnswerValue}
 use Rattle.rtcp_members.specs.Told.{StateValue}
 use Rattle.rtcp_source.specs.Receptions.{ReceptionValue}
 use Rattle.rtcp_wire.specs.RtpHeads.{RtpValue, IsRtpHead}
 use Rattle.rtcp_wire.specs.Values.{RtcpPacket, sr, rr}
+use Rattle.rtcp_serve.specs.declared.link.Port.{Port}
+use Rattle.rtcp_serve.specs.declared.link.Port.TheVariants.{Rtcp, Rtp}
+use Rattle.rtcp_show.specs.Kept.{kept_of}
 use Rattle.rtcp_show.specs.Listings.{if_listed}
+use Rattle.rtcp_show.specs.declared.by_source.BySource.{BySource}
 use Rattle.rtcp_show.specs.declared.flows.Flow.{Flow}
-use Rattle.rtcp_show.specs.declared.flows.Flows.{Flows}
 
 abbrev pub no_flow : Flow
 no_flow = record { rtp_peer = None; rtcp_peer = None; counted = None; loss = None; pace = None }
 
 -- what is kept of a source
-abbrev pub flow_in : Flows → (ssrc : ℕ) → Flow
-flow_in flows ssrc = option_map_or (λ flow. flow) (stored.get nat_cmp flows.by_ssrc ssrc) no_flow
+abbrev pub flow_in : BySource Flow → (ssrc : ℕ) → Flow
+flow_in flows ssrc = unwrap_or (kept_of flows ssrc) no_flow
 
 -- ---- Where packets come from
 
@@ -48,17 +48,23 @@ abbrev pub is_source : Option ℕ → (ssrc : ℕ) → Bool
 is_source None ssrc = false
 is_source (Some source) ssrc = nat_eq source ssrc
 
--- An RTP packet of this source came from the peer.
-abbrev pub with_rtp : (source : Option ℕ) → (peer ssrc : ℕ) → Flow → Flow
-with_rtp source peer ssrc flow = if is_source source ssrc then record flow { rtp_peer = Some peer } else flow
+-- where the packets of a source at a port came from last
+abbrev pub peer_at : Port → Flow → Option ℕ
+peer_at Rtp flow = flow.rtp_peer
+peer_at Rtcp flow = flow.rtcp_peer
 
--- A compound that begins with the report of this source came from the peer.
-abbrev pub with_rtcp : (source : Option ℕ) → (peer ssrc : ℕ) → Flow → Flow
-with_rtcp source peer ssrc flow = if is_source source ssrc then record flow { rtcp_peer = Some peer } else flow
+abbrev pub with_peer : Port → (peer : ℕ) → Flow → Flow
+with_peer Rtp peer flow = record flow { rtp_peer = Some peer }
+with_peer Rtcp peer flow = record flow { rtcp_peer = Some peer }
+
+-- At a port came from the peer an RTP packet of this source, or a compound that begins with its report.
+abbrev pub heard_at : Port → (source : Option ℕ) → (peer ssrc : ℕ) → Flow → Flow
+heard_at port source peer ssrc flow = if is_source source ssrc then with_peer port peer flow else flow
 
 -- What is kept of a source after a datagram from a peer: a compound, or the RTP packet of a source.
 abbrev pub heard_after : (peer : ℕ) → List RtcpPacket → (media : Option ℕ) → (ssrc : ℕ) → Flow → Flow
-heard_after peer packets media ssrc flow = with_rtcp (reporter_of packets) peer ssrc (with_rtp media peer ssrc flow)
+heard_after peer packets media ssrc flow =
+    heard_at Rtcp (reporter_of packets) peer ssrc (heard_at Rtp media peer ssrc flow)
 
 -- ---- How packets come, when the rows are due
 

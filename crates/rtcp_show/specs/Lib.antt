@@ -4,6 +4,7 @@ pub mod Headers
 pub mod Lines
 pub mod Changes
 pub mod Listings
+pub mod Kept
 pub mod Notes
 pub mod Flows
 pub mod Rows

@@ -1,15 +1,14 @@
 -- What is kept of sources beside their table: their CNAMEs, and the round trips by their blocks.
 use Rattle.std.specs.Prelude.{ℕ, not, Bool, List, [], ◌∷◌, map, filter, flat_map, if◌then◌else◌, nat_eq, Option, Some, None, option_map}
-use Rattle.std.specs.BTreeMap as stored
 use Rattle.std.specs.Option.{option_map_or}
-use Rattle.std.specs.Ordering.{nat_cmp}
 use Rattle.rtcp_clock.specs.Moments.{time_of_trip}
 use Rattle.rtcp_wire.specs.About.{blocks_about}
 use Rattle.rtcp_wire.specs.Facts.{is_cname}
 use Rattle.rtcp_wire.specs.Values.{ChunkValue, ItemValue, ReportBlock, RtcpPacket, sdes}
+use Rattle.rtcp_show.specs.Kept.{kept_of}
 use Rattle.rtcp_show.specs.Listings.{if_listed}
+use Rattle.rtcp_show.specs.declared.by_source.BySource.{BySource}
 use Rattle.rtcp_show.specs.declared.notes.Note.{Note}
-use Rattle.rtcp_show.specs.declared.notes.Notes.{Notes}
 
 -- The CNAME of a source, and the round trip by its last block about the participant, in 1/65,536 of a second.
 pub record NoteValue : Type 0 where
@@ -22,12 +21,9 @@ note_value note = record { cname = option_map (λ cname. cname.items) note.cname
 abbrev pub nothing : NoteValue
 nothing = record { cname = None; trip = None }
 
-abbrev pub stored_in : Notes → (ssrc : ℕ) → Option Note
-stored_in notes ssrc = stored.get nat_cmp notes.by_ssrc ssrc
-
 -- what is noted of a source
-abbrev pub noted_in : Notes → (ssrc : ℕ) → NoteValue
-noted_in notes ssrc = option_map_or note_value (stored_in notes ssrc) nothing
+abbrev pub noted_in : BySource Note → (ssrc : ℕ) → NoteValue
+noted_in notes ssrc = option_map_or note_value (kept_of notes ssrc) nothing
 
 -- ---- What a compound says
 

@@ -1,18 +1,19 @@
--- What a watcher knows of sources by all that it was told.
-use Rattle.std.specs.Prelude.{◌≡◌, ℕ, Bool, List, [], ◌∷◌, if◌then◌else◌, Option}
+-- What a printer knows of sources by all that it was told.
+use Rattle.std.specs.Prelude.{◌≡◌, ℕ, Bool, List, [], ◌∷◌, ◌++◌, if◌then◌else◌, Option, None}
 use Rattle.rtcp_engine.specs.Acts.{EventValue}
 use Rattle.rtcp_engine.specs.Histories.{History, setup_at}
 use Rattle.rtcp_engine.specs.Steps.{AnswerValue}
+use Rattle.rtcp_wire.specs.About.{blocks_about}
 use Rattle.rtcp_wire.specs.Values.{RtcpPacket}
 use Rattle.rtcp_show.specs.declared.flows.Flow.{Flow}
-use Rattle.rtcp_show.specs.declared.watcher.Watcher.{Watcher}
+use Rattle.rtcp_show.specs.declared.printer.Printer.{Printer}
 use Rattle.rtcp_show.specs.Flows.{IsMediaOf, elapsed_since, flow_told, no_flow, peer_of_event}
 use Rattle.rtcp_show.specs.Lines.{HasPackets, moment_of_event}
 use Rattle.rtcp_show.specs.Listings.{lists, told_of}
-use Rattle.rtcp_show.specs.Notes.{NoteValue, note_told, nothing}
+use Rattle.rtcp_show.specs.Notes.{NoteValue, cnames_of, newest_of, note_told, nothing, trips_of}
 use Rattle.rtcp_show.specs.Watchers.{arrival_at, flow_by, is_due, looked_of, noted_by, second_after, second_of, terms_of}
 
--- What a watcher is told at once: an event, its answer, and the participant after it, by its history. With it come the
+-- What a printer is told at once: an event, its answer, and the participant after it, by its history. With it come the
 -- packets of the datagram that was taken, or whose RTP packet was, if one was.
 pub record Observation : Type 0 where
   pub event : EventValue
@@ -52,6 +53,32 @@ note_of ntp_base (seen ∷ earlier) ssrc =
     note_told (are_due seen earlier) (lists seen.history ssrc) (arrival_at ntp_base (moment_in seen))
     (setup_at seen.history).ssrc seen.packets ssrc (note_of ntp_base earlier ssrc)
 
+-- What came while a source was listed, since the rows were due last without it: newest first.
+abbrev pub heard_of : List Observation → (ssrc : ℕ) → List Observation
+heard_of [] ssrc = []
+heard_of (seen ∷ earlier) ssrc =
+    let heard = heard_of earlier ssrc in
+    if lists seen.history ssrc then seen ∷ heard else (if are_due seen earlier then [] else heard)
+
+-- the CNAMEs that came, oldest first
+abbrev pub cnames_heard : List Observation → List (ℕ × List ℕ)
+cnames_heard [] = []
+cnames_heard (seen ∷ earlier) = cnames_heard earlier ++ cnames_of seen.packets
+
+-- the round trips by the blocks about the participant that came, oldest first
+abbrev pub trips_heard : (ntp_base : ℕ) → List Observation → List (ℕ × ℕ)
+trips_heard ntp_base [] = []
+trips_heard ntp_base (seen ∷ earlier) =
+    trips_heard ntp_base earlier
+    ++ trips_of (arrival_at ntp_base (moment_in seen)) (blocks_about (setup_at seen.history).ssrc seen.packets)
+
+-- A note of a source by what came: its newest CNAME, and its newest round trip.
+abbrev pub newest_note : (ntp_base : ℕ) → List Observation → (ssrc : ℕ) → NoteValue
+newest_note ntp_base heard ssrc = record {
+  cname = newest_of ssrc (cnames_heard heard) None;
+  trip = newest_of ssrc (trips_heard ntp_base heard) None;
+}
+
 -- how its packets come, and from where
 abbrev pub flow_of : List Observation → (ssrc : ℕ) → Flow
 flow_of [] ssrc = no_flow
@@ -60,11 +87,11 @@ flow_of (seen ∷ earlier) ssrc =
     (told_of seen.history ssrc) (peer_of_event seen.event) seen.packets seen.media ssrc
     (flow_of earlier ssrc)
 
--- ---- Of a watcher
+-- ---- Of a printer
 
--- A watcher knows what follows from these observations.
-pub record Knows {W : Type 0} (watcher : Watcher W) (all : List Observation) : Type 0 where
-  pub second : second_of watcher ≡ last_second all
-  pub looked : looked_of watcher ≡ last_look all
-  pub notes : (ssrc : ℕ) → noted_by watcher ssrc ≡ note_of (terms_of watcher).ntp_base all ssrc
-  pub flows : (ssrc : ℕ) → flow_by watcher ssrc ≡ flow_of all ssrc
+-- A printer knows what follows from these observations.
+pub record Knows {W : Type 0} (printer : Printer W) (all : List Observation) : Type 0 where
+  pub second : second_of printer ≡ last_second all
+  pub looked : looked_of printer ≡ last_look all
+  pub notes : (ssrc : ℕ) → noted_by printer ssrc ≡ note_of (terms_of printer).ntp_base all ssrc
+  pub flows : (ssrc : ℕ) → flow_by printer ssrc ≡ flow_of all ssrc

@@ -1,4 +1,4 @@
--- What a watcher keeps of a session, and what it writes of an event.
+-- What a watcher and its printer keep of a session, and what they write of an event.
 use Rattle.std.specs.Prelude.{◌≡◌, ◌⊎◌, ℕ, ◌/◌, ◌%◌, ◌^◌, Bool, true, false, List, [], ◌∷◌, ◌++◌, if◌then◌else◌, nat_lt, map, Option}
 use Rattle.std.specs.Io.KnownBytes.{Appends}
 use Rattle.std.specs.Str.{bytes_eq}
@@ -17,7 +17,8 @@ use Rattle.rtcp_show.specs.declared.board.Board.{Board}
 use Rattle.rtcp_show.specs.declared.changes.Roles.{Roles}
 use Rattle.rtcp_show.specs.declared.flows.Flow.{Flow}
 use Rattle.rtcp_show.specs.declared.page.Page.{Page}
-use Rattle.rtcp_show.specs.declared.watcher.Terms.{Terms}
+use Rattle.rtcp_show.specs.declared.printer.Printer.{Printer}
+use Rattle.rtcp_show.specs.declared.printer.Terms.{Terms}
 use Rattle.rtcp_show.specs.declared.watcher.Watcher.{Watcher}
 use Rattle.rtcp_show.specs.Changes.{KeepsListing, ShowsChanges, lists_anew, tells_of_others}
 use Rattle.rtcp_show.specs.Flows.{IsMediaOf, elapsed_since, flow_in, flow_looked, flow_told, peer_of_event}
@@ -75,76 +76,69 @@ news_text true moment before after = if bytes_eq after before then [] else momen
 pub record LooksAt (now : ℕ) (history : History) (before after : Board) : Type 0 where
   pub notes : (ssrc : ℕ) → noted_in after.notes ssrc ≡ kept_if (lists history ssrc) (noted_in before.notes ssrc)
   pub flows : (ssrc : ℕ) → flow_in after.flows ssrc
-      ≡ flow_looked (elapsed_since before.flows.looked now) (told_of history ssrc) (flow_in before.flows ssrc)
-  pub looked : after.flows.looked ≡ now
+      ≡ flow_looked (elapsed_since before.looked now) (told_of history ssrc) (flow_in before.flows ssrc)
+  pub looked : after.looked ≡ now
 
 -- Where they are not, all is as it was.
 pub record Stays (before after : Board) : Type 0 where
   pub notes : (ssrc : ℕ) → noted_in after.notes ssrc ≡ noted_in before.notes ssrc
   pub flows : (ssrc : ℕ) → flow_in after.flows ssrc ≡ flow_in before.flows ssrc
-  pub looked : after.flows.looked ≡ before.flows.looked
+  pub looked : after.looked ≡ before.looked
 
 abbrev pub LooksIf : (due : Bool) → (now : ℕ) → History → (before after : Board) → Type 0
 LooksIf false now history before after = Stays before after
 LooksIf true now history before after = LooksAt now history before after
 
--- ---- Of a watcher
+-- ---- Of a printer
 
 -- a moment as the middle 32 bits of its NTP timestamp (RFC 3550, 4)
 abbrev pub arrival_at : (ntp_base moment : ℕ) → ℕ
 arrival_at ntp_base moment = ntp_moment ntp_base moment / 65536 % 2 ^ 32
 
--- what a watcher knows of the session from its start
-abbrev pub terms_of : {W : Type 0} → Watcher W → Terms
-terms_of watcher = watcher.terms
+-- what a printer knows of the session from its start
+abbrev pub terms_of : {W : Type 0} → Printer W → Terms
+terms_of printer = printer.terms
 
-abbrev pub writer_of : {W : Type 0} → Watcher W → W
-writer_of watcher = watcher.page.writer
+abbrev pub writer_of : {W : Type 0} → Printer W → W
+writer_of printer = printer.page.writer
 
 -- what the writer holds, where that is known
-abbrev pub held_by : {W : Type 0} → (W → Option (List ℕ)) → Watcher W → Option (List ℕ)
-held_by contents watcher = contents (writer_of watcher)
+abbrev pub held_by : {W : Type 0} → (W → Option (List ℕ)) → Printer W → Option (List ℕ)
+held_by contents printer = contents (writer_of printer)
 
-abbrev pub listing_of : {W : Type 0} → Watcher W → List ListedValue
-listing_of watcher = listed_in watcher.roles
+abbrev pub listing_of : {W : Type 0} → Printer W → List ListedValue
+listing_of printer = listed_in printer.roles
 
 -- the counts and rows that were written last
-abbrev pub rows_of : {W : Type 0} → Watcher W → List ℕ
-rows_of watcher = watcher.board.rows.items
+abbrev pub rows_of : {W : Type 0} → Printer W → List ℕ
+rows_of printer = printer.board.rows.items
 
 -- the last second in which they were due
-abbrev pub second_of : {W : Type 0} → Watcher W → ℕ
-second_of watcher = watcher.board.second
+abbrev pub second_of : {W : Type 0} → Printer W → ℕ
+second_of printer = printer.board.second
 
 -- the moment at which they were due last
-abbrev pub looked_of : {W : Type 0} → Watcher W → ℕ
-looked_of watcher = watcher.board.flows.looked
+abbrev pub looked_of : {W : Type 0} → Printer W → ℕ
+looked_of printer = printer.board.looked
 
 -- what is noted of a source, and how its packets come
-abbrev pub noted_by : {W : Type 0} → Watcher W → (ssrc : ℕ) → NoteValue
-noted_by watcher ssrc = noted_in watcher.board.notes ssrc
+abbrev pub noted_by : {W : Type 0} → Printer W → (ssrc : ℕ) → NoteValue
+noted_by printer ssrc = noted_in printer.board.notes ssrc
 
-abbrev pub flow_by : {W : Type 0} → Watcher W → (ssrc : ℕ) → Flow
-flow_by watcher ssrc = flow_in watcher.board.flows ssrc
-
--- the moment of the last event that it was told as an observer
-abbrev pub moment_told : {W : Type 0} → Watcher W → ℕ
-moment_told watcher = watcher.moment
-
--- the first fault of what it was told as an observer
-abbrev pub fault_of : {W : Type 0} → Watcher W → Option TextFault
-fault_of watcher = watcher.fault
+abbrev pub flow_by : {W : Type 0} → Printer W → (ssrc : ℕ) → Flow
+flow_by printer ssrc = flow_in printer.board.flows ssrc
 
 -- The rows of an event are due.
-abbrev pub is_due_at : {W : Type 0} → Watcher W → EventValue → Bool
-is_due_at watcher event = is_due (second_of watcher) (moment_of_event event)
+abbrev pub is_due_at : {W : Type 0} → Printer W → EventValue → Bool
+is_due_at printer event = is_due (second_of printer) (moment_of_event event)
 
--- What a watcher writes of an event and its answer, and what it keeps, by the participant's history after it: the lines
+-- What a printer writes of an event and its answer, and what it keeps, by the participant's history after it: the lines
 -- of both, then those of sources whose roles changed, and then who is there.
 pub record Watches {W : Type 0} (contents : W → Option (List ℕ)) (event : EventValue) (answer : AnswerValue)
-    (history : History) (before after : Watcher W) : Type 0 where
+    (history : History) (before after : Printer W) : Type 0 where
   pub lines : List ℕ
   pub changes : List ℕ
+  pub terms : terms_of after ≡ terms_of before
   pub shows : ShowsBothBy (shown_in (terms_of before).wording) (terms_of before).to event answer lines
   pub tells : ShowsChanges (tells_of_others event answer) (moment_of_event event) history (listing_of before) changes
   pub writes : Appends (held_by contents before) (held_by contents after) (lines ++ (changes
@@ -162,3 +156,16 @@ pub record Watches {W : Type 0} (contents : W → Option (List ℕ)) (event : Ev
       flow_by after ssrc ≡ flow_told (is_due_at before event)
       (elapsed_since (looked_of before) (moment_of_event event)) (told_of history ssrc) (peer_of_event event) packets
       media ssrc (flow_by before ssrc)
+
+-- ---- Of a watcher
+
+abbrev pub printer_of : {W : Type 0} → Watcher W → Printer W
+printer_of watcher = watcher.printer
+
+-- the moment of the last event that it was told as an observer
+abbrev pub moment_told : {W : Type 0} → Watcher W → ℕ
+moment_told watcher = watcher.moment
+
+-- the first fault of what it was told as an observer
+abbrev pub fault_of : {W : Type 0} → Watcher W → Option TextFault
+fault_of watcher = watcher.fault

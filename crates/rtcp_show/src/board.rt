@@ -9,8 +9,9 @@ ghost use Rattle.rtcp_show.specs.Listings.{if_listed, lists};
 ghost use Rattle.rtcp_show.specs.Notes.{noted_after, noted_in, nothing};
 ghost use Rattle.rtcp_show.specs.Watchers.{news_text};
 
-use crate::flows::Flows;
-use crate::notes::Notes;
+use crate::by_source::BySource;
+use crate::flows::{Flow, looked_at};
+use crate::notes::Note;
 use crate::numbers::push_moment;
 use crate::rows::push_sources;
 use rtcp_engine::{Answer, Event, Participant};
@@ -25,8 +26,11 @@ const SECOND: u64 = 1_000_000;
 /// What is kept of the sources beside their table, and the rows that were written last.
 #[derive(Drop)]
 pub(crate) struct Board {
-    notes: Notes,
-    flows: Flows,
+    alloc: Global,
+    notes: BySource<Note>,
+    flows: BySource<Flow>,
+    /// The moment at which the sources were looked at last.
+    looked: u64,
     /// The counts and the rows that were written last.
     rows: Vec<u8>,
     /// Room for the next ones.
@@ -36,19 +40,21 @@ pub(crate) struct Board {
 }
 
 impl Board {
-    ghost use Rattle.rtcp_show.specs.Watchers.{KeepsRows, LooksIf, is_due, second_after};
+    ghost use Rattle.rtcp_show.specs.Watchers.{KeepsRows, LooksAt, LooksIf, is_due, second_after};
 
     /// Nothing is kept yet.
     pub(crate) fn new(alloc: Global) -> Board
         ensures rows { result.rows.items ≡ [] }
         ensures second { result.second ≡ 0 }
-        ensures looked { result.flows.looked ≡ 0 }
+        ensures looked { result.looked ≡ 0 }
         ensures noted { (ssrc : ℕ) → noted_in result.notes ssrc ≡ nothing }
         ensures flowing { (ssrc : ℕ) → flow_in result.flows ssrc ≡ no_flow }
     {
         Board {
-            notes: Notes::new(alloc),
-            flows: Flows::new(alloc),
+            alloc,
+            notes: BySource::new(alloc),
+            flows: BySource::new(alloc),
+            looked: 0,
             rows: Vec::new(alloc),
             next_rows: Vec::new(alloc),
             second: 0,
@@ -74,12 +80,12 @@ impl Board {
             OnOk result ((ssrc : ℕ) → flow_in self.new.flows ssrc ≡ if_listed (lists history ssrc)
             (heard_after (peer_of_event (event_value event.now)) (unwrap_or compound.now []) media ssrc)
             (flow_in self.old.flows ssrc)) }
-        ensures looked { self.new.flows.looked ≡ self.old.flows.looked }
+        ensures looked { self.new.looked ≡ self.old.looked }
         ensures rows { self.new.rows ≡ self.old.rows }
         ensures second { self.new.second ≡ self.old.second }
     {
-        let noted = self.notes.note(arrived, compound, participant);
-        let flowing = self.flows.note(event, answer, compound, participant);
+        let noted = self.notes.note_compound(arrived, compound, participant);
+        let flowing = self.flows.note_peers(event, answer, compound, participant);
         noted.and(flowing)
     }
 
@@ -119,12 +125,22 @@ impl Board {
         participant: &Participant<T>,
     ) -> Result<(), AllocError>
         ensures looks { (history : History) → StandsAt participant.now history →
-            OnOk result (LooksIf true now history self.old self.new) }
+            OnOk result (LooksAt now history self.old self.new) }
         ensures rows { self.new.rows ≡ self.old.rows }
         ensures second { self.new.second ≡ self.old.second }
     {
-        self.notes.keep_listed(participant)?;
-        self.flows.look(now, participant)
+        let elapsed = now.saturating_sub(self.looked).max(1);
+        self.looked = now;
+        let mut notes = BySource::new(self.alloc);
+        let mut flows = BySource::new(self.alloc);
+        for state in participant.sources() {
+            self.notes.hand_to(&mut notes, state.ssrc)?;
+            let flow = looked_at(self.flows.flow(state.ssrc), &state, elapsed);
+            flows.put(state.ssrc, flow)?;
+        }
+        self.notes = notes;
+        self.flows = flows;
+        Ok(())
     }
 }
 

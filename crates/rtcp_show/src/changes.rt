@@ -191,7 +191,7 @@ pub fn push_change(out: &mut Vec<u8>, moment: u64, change: &Change) -> Result<()
         ssrc,
     )?;
     push_where(out, change.left(), moment, b" bye=", ssrc)?;
-    push_where(out, change.timed_out(), moment, b" timed-out=", ssrc)?;
+    push_where(out, change.went_without_bye(), moment, b" timed-out=", ssrc)?;
     Ok(())
 }
 

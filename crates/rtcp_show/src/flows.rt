@@ -1,21 +1,22 @@
 //! What is kept of the packets of sources beside their table.
 
-ghost use Rattle.std.specs.Prelude.{◌≡◌, ◌<◌, [], ℕ, Option, OnOk, if◌then◌else◌, nat_eq, option_map, unwrap_or};
+ghost use Rattle.std.specs.Prelude.{◌≡◌, ◌<◌, [], ℕ, Option, OnOk, option_map, unwrap_or};
 ghost use Rattle.rtcp_engine.specs.Histories.{History};
 ghost use Rattle.rtcp_engine.specs.States.{StandsAt};
 ghost use Rattle.rtcp_engine.specs.Views.{answer_value, event_value};
 ghost use Rattle.rtcp_members.specs.ListViews.{state_value};
 ghost use Rattle.rtcp_source.specs.Views.{reception_value};
-ghost use Rattle.rtcp_show.specs.Flows.{IsMedia, IsMediaOf, counted_in, elapsed_since, flow_in, flow_looked, heard_after, looked_at, loss_of, lost_packets, no_flow, pace_between, peer_of_event, reporter_of, with_rtcp, with_rtp};
-ghost use Rattle.rtcp_show.specs.Listings.{if_listed, lists, told_of};
+ghost use Rattle.rtcp_show.specs.Flows.{IsMedia, IsMediaOf, counted_in, flow_in, heard_after, heard_at, looked_at, loss_of, lost_packets, no_flow, pace_between, peer_at, peer_of_event, reporter_of, with_peer};
+ghost use Rattle.rtcp_show.specs.Listings.{if_listed, lists};
 
+use crate::by_source::BySource;
 use crate::notes::is_listed;
 use rtcp_engine::{Answer, Event, Participant};
 use rtcp_members::{MemberTable, SourceState};
+use rtcp_serve::Port;
 use rtcp_source::Reception;
 use rtcp_wire::{Compound, PacketView, RtpHead};
-use std::alloc::{AllocError, Global};
-use std::collections::BTreeMap;
+use std::alloc::AllocError;
 
 /// How the packets of a source come, as its table does not keep it.
 #[derive(Clone, Copy, Debug, PartialEq, Eq)]
@@ -45,35 +46,41 @@ impl Flow {
             pace: None,
         }
     }
-}
 
-/// The flows of the sources of a session.
-#[derive(Drop)]
-pub(crate) struct Flows {
-    alloc: Global,
-    by_ssrc: BTreeMap<u32, Flow>,
-    /// The moment at which the sources were looked at last.
-    looked: u64,
-}
-
-impl Flows {
-    /// None yet.
-    pub(crate) fn new(alloc: Global) -> Flows
-        ensures none { (ssrc : ℕ) → flow_in result ssrc ≡ no_flow }
-        ensures looked { result.looked ≡ 0 }
+    /// The peer that its last packet at a port came from.
+    fn peer_at(&self, port: Port) -> Option<u64>
+        ensures { result ≡ peer_at port self.now }
     {
-        Flows {
-            alloc,
-            by_ssrc: BTreeMap::new(alloc),
-            looked: 0,
+        match port {
+            Port::Rtp => self.rtp_peer,
+            Port::Rtcp => self.rtcp_peer,
         }
     }
 
+    /// The same, with the peer that a packet at a port came from.
+    fn with_peer(self, port: Port, peer: u64) -> Flow
+        ensures { result ≡ with_peer port peer self }
+    {
+        let peer = Some(peer);
+        match port {
+            Port::Rtp => Flow {
+                rtp_peer: peer,
+                ..self
+            },
+            Port::Rtcp => Flow {
+                rtcp_peer: peer,
+                ..self
+            },
+        }
+    }
+}
+
+impl BySource<Flow> {
     /// The flow of a source.
-    pub(crate) fn get(&self, ssrc: u32) -> Flow
+    pub(crate) fn flow(&self, ssrc: u32) -> Flow
         ensures { result ≡ flow_in self.now ssrc }
     {
-        match self.by_ssrc.get(&ssrc) {
+        match self.get(ssrc) {
             Some(flow) => *flow,
             None => Flow::new(),
         }
@@ -84,115 +91,47 @@ impl Flows {
     /// # Errors
     ///
     /// `AllocError` where memory is refused. Then it is not kept.
-    pub(crate) fn note<T: MemberTable>(
+    pub(crate) fn note_peers<T: MemberTable>(
         &mut self,
         event: &Event<'_>,
         answer: &Answer,
         compound: &Option<Compound<'_>>,
         participant: &Participant<T>,
     ) -> Result<(), AllocError>
-        ensures noted { (history : History) (media : Option ℕ) → StandsAt participant.now history →
+        ensures { (history : History) (media : Option ℕ) → StandsAt participant.now history →
             IsMediaOf (event_value event.now) (answer_value answer.now) media →
             OnOk result ((ssrc : ℕ) → flow_in self.new ssrc ≡ if_listed (lists history ssrc)
             (heard_after (peer_of_event (event_value event.now)) (unwrap_or compound.now []) media ssrc)
             (flow_in self.old ssrc)) }
-        ensures looked { self.new.looked ≡ self.old.looked }
     {
         let peer = peer_of(event);
-        self.note_rtp(media_of(event, answer), peer, participant)?;
-        self.note_rtcp(reporter(compound), peer, participant)
+        self.note_peer(Port::Rtp, media_of(event, answer), peer, participant)?;
+        self.note_peer(Port::Rtcp, reporter(compound), peer, participant)
     }
 
-    /// Keeps where an RTP packet came from, if one did and the participant tells of its source.
-    fn note_rtp<T: MemberTable>(
+    /// Keeps where a packet came from that came to a port, if one did and the participant tells of its source.
+    fn note_peer<T: MemberTable>(
         &mut self,
+        port: Port,
         source: Option<u32>,
         peer: u64,
         participant: &Participant<T>,
     ) -> Result<(), AllocError>
-        ensures noted { (history : History) → StandsAt participant.now history → OnOk result ((ssrc : ℕ) →
-            flow_in self.new ssrc ≡ if_listed (lists history ssrc) (with_rtp source peer ssrc)
+        ensures { (history : History) → StandsAt participant.now history → OnOk result ((ssrc : ℕ) →
+            flow_in self.new ssrc ≡ if_listed (lists history ssrc) (heard_at port source peer ssrc)
             (flow_in self.old ssrc)) }
-        ensures looked { self.new.looked ≡ self.old.looked }
     {
         let Some(ssrc) = source else {
             return Ok(());
         };
-        let flow = self.get(ssrc);
-        if flow.rtp_peer == Some(peer) {
+        let flow = self.flow(ssrc);
+        if flow.peer_at(port) == Some(peer) {
             return Ok(());
         }
         if !is_listed(ssrc, participant) {
             return Ok(());
         }
-        let rtp_peer = Some(peer);
-        self.put(ssrc, Flow { rtp_peer, ..flow })
-    }
-
-    /// Keeps where a report came from, if one did and the participant tells of its source.
-    fn note_rtcp<T: MemberTable>(
-        &mut self,
-        source: Option<u32>,
-        peer: u64,
-        participant: &Participant<T>,
-    ) -> Result<(), AllocError>
-        ensures noted { (history : History) → StandsAt participant.now history → OnOk result ((ssrc : ℕ) →
-            flow_in self.new ssrc ≡ if_listed (lists history ssrc) (with_rtcp source peer ssrc)
-            (flow_in self.old ssrc)) }
-        ensures looked { self.new.looked ≡ self.old.looked }
-    {
-        let Some(ssrc) = source else {
-            return Ok(());
-        };
-        let flow = self.get(ssrc);
-        if flow.rtcp_peer == Some(peer) {
-            return Ok(());
-        }
-        if !is_listed(ssrc, participant) {
-            return Ok(());
-        }
-        let rtcp_peer = Some(peer);
-        self.put(ssrc, Flow { rtcp_peer, ..flow })
-    }
-
-    /// Keeps the flow of a source.
-    fn put(&mut self, ssrc: u32, flow: Flow) -> Result<(), AllocError>
-        ensures kept { OnOk result ((other : ℕ) → flow_in self.new other
-            ≡ (if nat_eq ssrc other then flow else flow_in self.old other)) }
-        ensures looked { self.new.looked ≡ self.old.looked }
-    {
-        match self.by_ssrc.insert(ssrc, flow) {
-            Ok(_) => Ok(()),
-            Err(_) => Err(AllocError),
-        }
-    }
-
-    /// Looks at the sources, and forgets what is kept of others.
-    ///
-    /// # Errors
-    ///
-    /// `AllocError` where memory is refused. Then the flows are those of before.
-    pub(crate) fn look<T: MemberTable>(
-        &mut self,
-        now: u64,
-        participant: &Participant<T>,
-    ) -> Result<(), AllocError>
-        ensures kept { (history : History) → StandsAt participant.now history →
-            OnOk result ((ssrc : ℕ) → flow_in self.new ssrc
-            ≡ flow_looked (elapsed_since self.old.looked now) (told_of history ssrc) (flow_in self.old ssrc)) }
-        ensures looked { self.new.looked ≡ now }
-    {
-        let elapsed = now.saturating_sub(self.looked).max(1);
-        self.looked = now;
-        let mut kept = Flows {
-            looked: now,
-            ..Flows::new(self.alloc)
-        };
-        for state in participant.sources() {
-            kept.put(state.ssrc, looked_at(self.get(state.ssrc), &state, elapsed))?;
-        }
-        *self = kept;
-        Ok(())
+        self.put(ssrc, flow.with_peer(port, peer))
     }
 }
 
@@ -231,7 +170,7 @@ fn media_in(bytes: &[u8], answer: &Answer) -> Option<u32>
 }
 
 /// The flow of a source that is looked at, so many microseconds after the look before.
-fn looked_at(flow: Flow, state: &SourceState, elapsed: u64) -> Flow
+pub(crate) fn looked_at(flow: Flow, state: &SourceState, elapsed: u64) -> Flow
     requires { 0 < elapsed }
     ensures { result ≡ looked_at elapsed (state_value state.now) flow }
 {

@@ -1,11 +1,13 @@
 //! The line before those of a session.
 
 ghost use Rattle.std.specs.Prelude.{◌≡◌, ◌++◌, OnOk};
+ghost use Rattle.rtcp_serve.specs.Links.{endpoint_number};
 ghost use Rattle.rtcp_show.specs.Headers.{header_text, name_text};
-ghost use Rattle.rtcp_show.specs.Numbers.{number_of_endpoint, peer_text};
+ghost use Rattle.rtcp_show.specs.Numbers.{peer_text};
 
-use crate::numbers::{number_of_endpoint, push_peer};
+use crate::numbers::push_peer;
 use rtcp_plain::numbers::push_quoted;
+use rtcp_serve::endpoint_number;
 use rtcp_text::text::digits::push_word;
 use std::alloc::AllocError;
 use std::net::SocketAddrV4;
@@ -28,8 +30,8 @@ pub fn push_header(
     rtcp: SocketAddrV4,
     to: SocketAddrV4,
 ) -> Result<(), AllocError>
-    ensures { OnOk result (out.new.items ≡ out.old.items ++ header_text ssrc cname.now (number_of_endpoint rtp)
-        (number_of_endpoint rtcp) (number_of_endpoint to)) }
+    ensures { OnOk result (out.new.items ≡ out.old.items ++ header_text ssrc cname.now (endpoint_number rtp)
+        (endpoint_number rtcp) (endpoint_number to)) }
 {
     push_name(out, ssrc, cname)?;
     push_endpoint(out, b" rtp=", rtp)?;
@@ -52,8 +54,8 @@ fn push_name(out: &mut Vec<u8>, ssrc: u32, cname: &[u8]) -> Result<(), AllocErro
 
 /// Appends a word, and an address and a port.
 fn push_endpoint(out: &mut Vec<u8>, word: &[u8], endpoint: SocketAddrV4) -> Result<(), AllocError>
-    ensures { OnOk result (out.new.items ≡ out.old.items ++ word.now ++ peer_text (number_of_endpoint endpoint)) }
+    ensures { OnOk result (out.new.items ≡ out.old.items ++ word.now ++ peer_text (endpoint_number endpoint)) }
 {
     out.extend_from_slice(word)?;
-    push_peer(out, number_of_endpoint(endpoint))
+    push_peer(out, endpoint_number(endpoint))
 }

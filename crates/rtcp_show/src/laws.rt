@@ -1,11 +1,16 @@
-//! Laws of what a watcher tells. Each is an empty function whose postcondition is the law.
+//! Laws of what a printer tells and knows. Each is an empty function whose postcondition is the law.
 
-ghost use Rattle.std.specs.Prelude.{◌≡◌, ℕ, None, Ok, true};
+ghost use Rattle.std.specs.Prelude.{◌≡◌, ◌∷◌, ℕ, List, None, Ok, true};
 ghost use Rattle.rtcp_engine.specs.Acts.{Act, EventValue, IsActOfEvent, left};
 ghost use Rattle.rtcp_engine.specs.Answers.{step_by};
 ghost use Rattle.rtcp_engine.specs.Histories.{History, life_at, with_act};
 ghost use Rattle.rtcp_show.specs.Changes.{lists_anew};
 ghost use Rattle.rtcp_show.specs.Listings.{takes_part, told_of};
+ghost use Rattle.rtcp_show.specs.Observations.{IsRead, Knows, Observation, heard_of, newest_note, note_of};
+ghost use Rattle.rtcp_show.specs.Watchers.{Watches};
+ghost use Rattle.rtcp_show.specs.declared.printer.Printer.{Printer};
+
+use std::io::Write;
 
 /// Where the sources are listed anew after an event, by its answer, the participant still takes part: so the lines of
 /// who changed compare with nobody's empty listing.
@@ -18,4 +23,19 @@ pub fn listings_are_of_participants()
 pub fn leavers_list_nobody()
     ensures { (history : History) (moment word ssrc : ℕ) →
         told_of (with_act history (left moment word)) ssrc ≡ None }
+{}
+
+/// A printer that knew what follows from all that it saw, and that writes and keeps what it should of one more, knows
+/// what follows from all.
+pub fn printers_know_what_they_saw<W: Write>()
+    ensures { (seen : Observation) (earlier : List Observation) (before after : Printer W) → IsRead seen →
+        Knows before earlier → Watches W.contents seen.event seen.answer seen.history before after →
+        Knows after (seen ∷ earlier) }
+{}
+
+/// A note holds, of what came while its source was listed and since it was forgotten last, the newest CNAME of the
+/// source, and the round trip by its newest block about the participant that has an LSR.
+pub fn notes_hold_the_newest()
+    ensures { (ntp_base ssrc : ℕ) (all : List Observation) →
+        note_of ntp_base all ssrc ≡ newest_note ntp_base (heard_of all ssrc) ssrc }
 {}

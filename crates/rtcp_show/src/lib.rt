@@ -1,5 +1,5 @@
-//! A session, shown while it runs: a [`Watcher`] observes one, and writes a line for each RTCP datagram that comes in
-//! and each compound that goes out. Once a second it writes who is there and how their packets come, as
+//! A session, shown while it runs: a [`Watcher`] observes one, and its [`Printer`] writes a line for each RTCP datagram
+//! that comes in and each compound that goes out. Once a second it writes who is there and how their packets come, as
 //! `rtcp listen --show` does.
 //!
 //! ```
@@ -12,6 +12,7 @@
 #![tactic(auto)]
 
 mod board;
+mod by_source;
 mod changes;
 mod flows;
 mod header;
@@ -20,6 +21,7 @@ mod lines;
 mod notes;
 mod numbers;
 mod page;
+mod printer;
 mod rows;
 mod watcher;
 mod wording;
@@ -29,6 +31,7 @@ pub use flows::Flow;
 pub use header::push_header;
 pub use lines::push_lines;
 pub use notes::Note;
+pub use printer::Printer;
 pub use rows::{push_flow, push_row};
 pub use watcher::Watcher;
 pub use wording::Wording;

@@ -1,25 +1,23 @@
 //! What is kept of sources beside their table.
 
-ghost use Rattle.std.specs.Prelude.{◌≡◌, ◌≤◌, [], ◌∷◌, ℕ, OnOk, None, Some, false, true, flat_map, if◌then◌else◌, nat_eq, unwrap_or};
-ghost use Rattle.std.specs.Borrow.{Bor};
-ghost use Rattle.std.specs.Option.{option_map_or, option_or};
+ghost use Rattle.std.specs.Prelude.{◌≡◌, ◌≤◌, [], ◌∷◌, ℕ, OnOk, Some, false, true, flat_map, if◌then◌else◌, nat_eq, unwrap_or};
 ghost use Rattle.rtcp_engine.specs.Histories.{History, setup_at};
 ghost use Rattle.rtcp_engine.specs.States.{StandsAt};
 ghost use Rattle.rtcp_members.specs.Pending.{is_after};
 ghost use Rattle.rtcp_wire.specs.About.{blocks_about};
 ghost use Rattle.rtcp_wire.specs.Views.{block_value, packet_value};
 ghost use Rattle.rtcp_wire.specs.WriterViews.{item_ref_of};
+ghost use Rattle.rtcp_show.specs.Kept.{kept_of};
 ghost use Rattle.rtcp_show.specs.Listings.{if_listed, lists};
-ghost use Rattle.rtcp_show.specs.Notes.{cnames_by, cnames_of, cnames_of_chunk, cnames_of_packet, kept_if, names_report, note_value, noted_after, noted_in, nothing, stored_in, with_cnames, with_trips};
-ghost use Rattle.rtcp_show.specs.declared.notes.Note.{Note as Noted};
+ghost use Rattle.rtcp_show.specs.Notes.{cnames_by, cnames_of, cnames_of_chunk, cnames_of_packet, names_report, note_value, noted_after, noted_in, nothing, with_cnames, with_trips};
 
+use crate::by_source::BySource;
 use arrayvec::ArrayVec;
 use rtcp_clock::round_trip;
 use rtcp_engine::Participant;
 use rtcp_members::MemberTable;
 use rtcp_wire::{Block, CNAME, Chunk, Compound, ItemRef, PacketView, SourceDescription};
-use std::alloc::{AllocError, Global};
-use std::collections::BTreeMap;
+use std::alloc::AllocError;
 
 /// What came from a source and its table does not keep.
 #[derive(Debug, Drop)]
@@ -43,38 +41,14 @@ impl Note {
     }
 }
 
-/// The notes of the sources of a session.
-#[derive(Drop)]
-pub(crate) struct Notes {
-    alloc: Global,
-    by_ssrc: BTreeMap<u32, Note>,
-}
-
-impl Notes {
-    /// None yet.
-    pub(crate) fn new(alloc: Global) -> Notes
-        ensures { (ssrc : ℕ) → stored_in result ssrc ≡ None }
-    {
-        Notes {
-            alloc,
-            by_ssrc: BTreeMap::new(alloc),
-        }
-    }
-
-    /// The note of a source, if there is one.
-    pub(crate) fn get(&self, ssrc: u32) -> Option<&Note>
-        ensures { option_map_or (λ (note : Bor Noted). note_value note.now) result nothing ≡ noted_in self.now ssrc }
-    {
-        self.by_ssrc.get(&ssrc)
-    }
-
+impl BySource<Note> {
     /// Keeps what a compound says of sources that the participant tells of: so what is kept is bounded as its table is.
     /// It arrived at this moment, by the middle 32 bits of an NTP timestamp.
     ///
     /// # Errors
     ///
     /// `AllocError` where memory is refused. Then what was noted of a source is lost.
-    pub(crate) fn note<T: MemberTable>(
+    pub(crate) fn note_compound<T: MemberTable>(
         &mut self,
         arrived: u32,
         compound: &Option<Compound<'_>>,
@@ -235,7 +209,7 @@ impl Notes {
         if cname.try_extend_from_slice(text).is_err() {
             return Err(AllocError);
         }
-        let note = self.take(ssrc);
+        let note = self.take_note(ssrc);
         self.put(
             ssrc,
             Note {
@@ -255,7 +229,7 @@ impl Notes {
             ≡ (if nat_eq ssrc other then record (noted_in self.old other) { trip = Some trip }
             else noted_in self.old other)) }
     {
-        let note = self.take(ssrc);
+        let note = self.take_note(ssrc);
         self.put(
             ssrc,
             Note {
@@ -266,59 +240,13 @@ impl Notes {
     }
 
     /// Takes the note of a source out, or a new one.
-    fn take(&mut self, ssrc: u32) -> Note
+    fn take_note(&mut self, ssrc: u32) -> Note
         ensures taken { note_value result ≡ noted_in self.old ssrc }
-        ensures others { (other : ℕ) → nat_eq ssrc other ≡ false → stored_in self.new other ≡ stored_in self.old other }
+        ensures others { (other : ℕ) → nat_eq ssrc other ≡ false → kept_of self.new other ≡ kept_of self.old other }
     {
-        match self.by_ssrc.remove(&ssrc) {
+        match self.take(ssrc) {
             Some(note) => note,
             None => Note::new(),
-        }
-    }
-
-    /// Keeps the note of a source.
-    fn put(&mut self, ssrc: u32, note: Note) -> Result<(), AllocError>
-        ensures { OnOk result ((other : ℕ) → stored_in self.new other
-            ≡ (if nat_eq ssrc other then Some note else stored_in self.old other)) }
-    {
-        match self.by_ssrc.insert(ssrc, note) {
-            Ok(_) => Ok(()),
-            Err(_) => Err(AllocError),
-        }
-    }
-
-    /// Forgets the notes of sources that are not there any more.
-    ///
-    /// # Errors
-    ///
-    /// `AllocError` where memory is refused. Then some of the others are forgotten too.
-    pub(crate) fn keep_listed<T: MemberTable>(
-        &mut self,
-        participant: &Participant<T>,
-    ) -> Result<(), AllocError>
-        ensures { (history : History) → StandsAt participant.now history →
-            OnOk result ((ssrc : ℕ) →
-            noted_in self.new ssrc ≡ kept_if (lists history ssrc) (noted_in self.old ssrc)) }
-    {
-        let mut kept = Notes::new(self.alloc);
-        for state in participant.sources() {
-            self.hand_to(&mut kept, state.ssrc)?;
-        }
-        *self = kept;
-        Ok(())
-    }
-
-    /// Hands the note of a source to other notes, if there is one.
-    fn hand_to(&mut self, kept: &mut Notes, ssrc: u32) -> Result<(), AllocError>
-        ensures taken { (other : ℕ) → stored_in self.new other
-            ≡ (if nat_eq ssrc other then None else stored_in self.old other) }
-        ensures given { OnOk result ((other : ℕ) → stored_in kept.new other
-            ≡ (if nat_eq ssrc other then option_or (stored_in self.old other) (stored_in kept.old other)
-            else stored_in kept.old other)) }
-    {
-        match self.by_ssrc.remove(&ssrc) {
-            Some(note) => kept.put(ssrc, note),
-            None => Ok(()),
         }
     }
 }

@@ -2,25 +2,17 @@
 
 ghost use Rattle.std.specs.Prelude.{◌≡◌, ◌++◌, ◌∷◌, [], OnOk};
 ghost use Rattle.std.specs.Fmt.{decimal};
-ghost use Rattle.rtcp_show.specs.Numbers.{moment_text, number_of_endpoint, peer_text};
+ghost use Rattle.rtcp_show.specs.Numbers.{moment_text, peer_text};
 
 use rtcp_plain::numbers::push_fixed;
 use rtcp_text::text::digits::push_decimal;
 use std::alloc::AllocError;
-use std::net::SocketAddrV4;
 
 /// Appends a moment of so many microseconds, in seconds.
 pub(crate) fn push_moment(out: &mut Vec<u8>, moment: u64) -> Result<(), AllocError>
     ensures { OnOk result (out.new.items ≡ out.old.items ++ moment_text moment) }
 {
     push_fixed(out, moment, 1_000_000)
-}
-
-/// The number of an address and a port.
-pub(crate) fn number_of_endpoint(endpoint: SocketAddrV4) -> u64
-    ensures { result ≡ number_of_endpoint endpoint }
-{
-    u64::from(endpoint.ip().to_bits()) * 65_536 + u64::from(endpoint.port())
 }
 
 /// Appends the address and the port of a peer, by the number of it.

@@ -13,8 +13,9 @@ ghost use Rattle.rtcp_show.specs.Flows.{flow_in};
 ghost use Rattle.rtcp_show.specs.Notes.{note_value, noted_in};
 ghost use Rattle.rtcp_show.specs.Rows.{cname_text, counts_text, facts_text, flow_text, full_row_text, interval_text, origin_text, tenths_text, sources_text, left_text, reception_text, row_text, standing_text, trip_text};
 
-use crate::flows::{Flow, Flows};
-use crate::notes::{Note, Notes};
+use crate::by_source::BySource;
+use crate::flows::Flow;
+use crate::notes::Note;
 use crate::numbers::{push_moment, push_peer};
 use arrayvec::ArrayVec;
 use rtcp_engine::Participant;
@@ -28,8 +29,8 @@ use std::alloc::AllocError;
 pub(crate) fn push_sources<T: MemberTable>(
     out: &mut Vec<u8>,
     participant: &Participant<T>,
-    notes: &Notes,
-    flows: &Flows,
+    notes: &BySource<Note>,
+    flows: &BySource<Flow>,
 ) -> Result<(), AllocError>
     ensures { (history : History) → StandsAt participant.now history →
         OnOk result ((states : List StateValue) × WalksInLife (setup_at history) (life_at history) states
@@ -61,20 +62,24 @@ fn push_counts(out: &mut Vec<u8>, members: u32, senders: u32) -> Result<(), Allo
 fn push_noted_row(
     out: &mut Vec<u8>,
     state: &SourceState,
-    notes: &Notes,
-    flows: &Flows,
+    notes: &BySource<Note>,
+    flows: &BySource<Flow>,
 ) -> Result<(), AllocError>
     ensures { OnOk result (out.new.items ≡ out.old.items ++ full_row_text (state_value state.now)
         (noted_in notes.now state.now.ssrc) (flow_in flows.now state.now.ssrc)) }
 {
     push_noted_facts(out, state, notes)?;
-    push_flow(out, state, flows.get(state.ssrc))?;
+    push_flow(out, state, flows.flow(state.ssrc))?;
     out.push(b'\n')?;
     Ok(())
 }
 
 /// Appends what is told and noted of a source.
-fn push_noted_facts(out: &mut Vec<u8>, state: &SourceState, notes: &Notes) -> Result<(), AllocError>
+fn push_noted_facts(
+    out: &mut Vec<u8>,
+    state: &SourceState,
+    notes: &BySource<Note>,
+) -> Result<(), AllocError>
     ensures { OnOk result (out.new.items
         ≡ out.old.items ++ facts_text (state_value state.now) (noted_in notes.now state.now.ssrc)) }
 {

@@ -1,185 +1,65 @@
 //! What observes a session and writes what it sees.
 
-ghost use Rattle.std.specs.Prelude.{◌≡◌, ◌+◌, ◌*◌, ◌∷◌, [], List, IfErr, IsOk, is_ok, None, OnOk, Some, false, true};
+ghost use Rattle.std.specs.Prelude.{◌≡◌, IsOk, None, Some, false, true};
 ghost use Rattle.std.specs.Io.KnownBytes.{Appends};
-ghost use Rattle.std.specs.Net.Addr.{ipv4_bits};
-ghost use Rattle.std.specs.Net.Socket.{v4_ip, v4_port};
 ghost use Rattle.rtcp_engine.specs.Histories.{History};
 ghost use Rattle.rtcp_engine.specs.States.{StandsAt};
 ghost use Rattle.rtcp_engine.specs.Views.{answer_value, event_value};
 ghost use Rattle.rtcp_text.specs.declared.fault.TextFault.{TextFault as Fault};
-ghost use Rattle.rtcp_show.specs.Watchers.{IsOutFault, arrival_at};
 ghost use Rattle.rtcp_show.specs.Lines.{moment_of_event as moment_in, unsent_text};
-ghost use Rattle.rtcp_show.specs.declared.wording.Wording.TheVariants.{Brief};
 
-use crate::board::Board;
-use crate::changes::Roles;
-use crate::lines::{compound_of, moment_of};
-use crate::numbers::number_of_endpoint;
-use crate::page::Page;
-use crate::wording::Wording;
-use rtcp_clock::ntp_of;
+use crate::lines::moment_of;
+use crate::printer::Printer;
 use rtcp_engine::{Answer, Event, Participant};
 use rtcp_members::MemberTable;
 use rtcp_serve::Observer;
 use rtcp_text::TextFault;
-use std::alloc::{AllocError, Global};
 use std::io::Write;
-use std::net::SocketAddrV4;
 
-/// What a watcher knows of a session from its start.
-#[derive(Clone, Copy, Debug)]
-pub(crate) struct Terms {
-    /// The NTP timestamp of moment 0.
-    ntp_base: u64,
-    /// The number of the peer to which compounds go.
-    to: u64,
-    /// How the packets of datagrams are shown.
-    wording: Wording,
-}
-
-/// Observes a session, and writes its lines to `writer`: those of each event and its answer
-/// ([`push_lines`](crate::push_lines)), and once a second the members, the senders and a row for each source
-/// ([`push_row`](crate::push_row)), unless they are the last ones again. Each part is flushed.
+/// Observes a session, and has a [`Printer`] write its lines. What cannot be written is lost, and its fault is kept.
 #[derive(Drop)]
 pub struct Watcher<W> {
-    terms: Terms,
-    page: Page<W>,
-    roles: Roles,
-    board: Board,
-    /// The moment of the last event that it was told as an observer.
+    printer: Printer<W>,
+    /// The moment of the last event that it was told.
     moment: u64,
-    /// The first fault of what it was told as an observer.
+    /// The first fault of the printer.
     fault: Option<TextFault>,
 }
 
 impl<W: Drop> Watcher<W> {
-    ghost use Rattle.rtcp_show.specs.Observations.{Knows};
-    ghost use Rattle.rtcp_show.specs.Watchers.{fault_of, listing_of, rows_of, terms_of, writer_of};
+    ghost use Rattle.rtcp_show.specs.Watchers.{fault_of, printer_of};
 
-    /// A watcher of a session that begins now, whose moment 0 has this NTP timestamp. Compounds go to `to`.
-    pub fn new(alloc: Global, ntp_base: u64, to: SocketAddrV4, writer: W) -> Watcher<W>
-        ensures terms { terms_of result ≡ record {
-          ntp_base = ntp_base;
-          to = ipv4_bits (v4_ip to) * 65536 + v4_port to;
-          wording = Brief;
-        } }
-        ensures writer { writer_of result ≡ writer }
-        ensures listing { listing_of result ≡ [] }
-        ensures rows { rows_of result ≡ [] }
-        ensures knows { Knows result [] }
+    /// A watcher whose lines this printer writes.
+    pub fn new(printer: Printer<W>) -> Watcher<W>
+        ensures printer { printer_of result ≡ printer }
         ensures fault { fault_of result ≡ None }
     {
         Watcher {
-            terms: Terms {
-                ntp_base,
-                to: number_of_endpoint(to),
-                wording: Wording::Brief,
-            },
-            page: Page::new(alloc, writer),
-            roles: Roles::new(alloc),
-            board: Board::new(alloc),
+            printer,
             moment: 0,
             fault: None,
         }
     }
 
-    /// The same watcher, which shows the packets of datagrams in this wording.
-    pub fn with_wording(self, wording: Wording) -> Watcher<W>
-        ensures { result ≡ record self { terms = record (terms_of self) { wording = wording } } }
-    {
-        let terms = Terms {
-            wording,
-            ..self.terms
-        };
-        Watcher { terms, ..self }
-    }
-
-    /// The first fault of what the watcher was told as an observer: `None` where all was written.
+    /// The first fault of what the watcher was told: `None` where all was written.
     pub fn fault(&self) -> Option<TextFault>
         ensures { result ≡ fault_of self.now }
     {
         self.fault
     }
-}
 
-impl<W: Write> Watcher<W> {
-    ghost use Rattle.rtcp_show.specs.Observations.{IsRead, Knows, Observation};
-    ghost use Rattle.rtcp_show.specs.Watchers.{Watches, fault_of, held_by, moment_told, terms_of, writer_of};
-
-    /// The writer.
-    pub fn into_inner(self) -> W
-        ensures { result ≡ writer_of self }
+    /// The printer.
+    pub fn into_printer(self) -> Printer<W>
+        ensures { result ≡ printer_of self }
     {
-        self.page.writer
-    }
-
-    /// Writes the lines of an event of the session and its answer, a line for each source whose role changed
-    /// ([`push_change`](crate::push_change)), and who is there where another second has begun.
-    /// `participant` is that of the session, after the event. It lists nobody from its leave on: then no role has
-    /// changed, and of a source that the host dismissed no line says so.
-    ///
-    /// # Errors
-    ///
-    /// The first of these. What comes after it is written all the same, if it can be.
-    ///
-    /// - [`TextFault::Write`] where a call of the writer fails.
-    /// - [`TextFault::Memory`] where memory is refused.
-    pub fn watch<T: MemberTable>(
-        &mut self,
-        event: &Event<'_>,
-        answer: &Answer,
-        participant: &Participant<T>,
-    ) -> Result<(), TextFault>
-        ensures watches { (history : History) → StandsAt participant.now history →
-            OnOk result (Watches W.contents (event_value event.now) (answer_value answer.now) history self.old
-            self.new) }
-        ensures knows { (seen : Observation) (earlier : List Observation) → StandsAt participant.now seen.history →
-            seen.event ≡ event_value event.now → seen.answer ≡ answer_value answer.now → IsRead seen →
-            Knows self.old earlier → OnOk result (Knows self.new (seen ∷ earlier)) }
-        ensures fault { IfErr result IsOutFault }
-        ensures terms { terms_of self.new ≡ terms_of self.old }
-        ensures told { fault_of self.new ≡ fault_of self.old }
-    {
-        let now = moment_of(event);
-        let compound = compound_of(event, answer);
-        let terms = self.terms;
-        let shown = self
-            .page
-            .show_event(terms.wording, terms.to, event, answer, &compound);
-        let arrived = arrival(terms.ntp_base, now);
-        let noted = self
-            .board
-            .note(arrived, event, answer, &compound, participant);
-        let changed = self
-            .page
-            .show_changes(&mut self.roles, event, answer, participant);
-        let listed = self.page.show_sources(&mut self.board, now, participant);
-        shown.and(or_memory(noted)).and(changed).and(listed)
-    }
-
-    /// Writes that the compound of the event before was not handed to the network, at this moment.
-    ///
-    /// # Errors
-    ///
-    /// - [`TextFault::Write`] where a call of the writer fails.
-    /// - [`TextFault::Memory`] where memory is refused.
-    pub fn watch_unsent(&mut self, moment: u64) -> Result<(), TextFault>
-        ensures written { OnOk result (Appends (held_by W.contents self.old) (held_by W.contents self.new)
-            (unsent_text moment (terms_of self.old).to)) }
-        ensures fault { IfErr result IsOutFault }
-        ensures terms { terms_of self.new ≡ terms_of self.old }
-        ensures told { fault_of self.new ≡ fault_of self.old }
-    {
-        self.page.show_unsent(moment, self.terms.to)
+        self.printer
     }
 }
 
 impl<W: Write> Observer for Watcher<W> {
-    ghost use Rattle.rtcp_show.specs.Observations.{IsRead, Knows, Observation};
-    ghost use Rattle.rtcp_show.specs.Watchers.{Watches, fault_of, held_by, moment_told, terms_of};
+    ghost use Rattle.rtcp_show.specs.Watchers.{Watches, fault_of, held_by, moment_told, printer_of, terms_of};
 
-    /// Writes what is to be shown, of refused events too. What cannot be written is lost, and its fault is kept.
+    /// Writes what is to be shown, of refused events too.
     fn told<T: MemberTable>(
         &mut self,
         event: &Event<'_>,
@@ -187,51 +67,30 @@ impl<W: Write> Observer for Watcher<W> {
         participant: &Participant<T>,
     )
         ensures watches { (history : History) → StandsAt participant.now history → fault_of self.new ≡ None →
-            Watches W.contents (event_value event.now) (answer_value answer.now) history self.old self.new }
-        ensures knows { (seen : Observation) (earlier : List Observation) → StandsAt participant.now seen.history →
-            seen.event ≡ event_value event.now → seen.answer ≡ answer_value answer.now → IsRead seen →
-            Knows self.old earlier → fault_of self.new ≡ None → Knows self.new (seen ∷ earlier) }
+            Watches W.contents (event_value event.now) (answer_value answer.now) history (printer_of self.old)
+            (printer_of self.new) }
         ensures moment { moment_told self.new ≡ moment_in (event_value event.now) }
-        ensures terms { terms_of self.new ≡ terms_of self.old }
+        ensures terms { terms_of (printer_of self.new) ≡ terms_of (printer_of self.old) }
         ensures lasting { (fault : Fault) → fault_of self.old ≡ Some fault → fault_of self.new ≡ Some fault }
     {
-        let shown = self.watch(event, answer, participant);
+        let shown = self.printer.print(event, answer, participant);
         self.moment = moment_of(event);
         self.fault = first_fault(self.fault, shown);
     }
 
-    /// Writes that a send failed, at the moment of the event before. What cannot be written is lost, and its fault is
-    /// kept.
+    /// Writes that a send failed, at the moment of the event before.
     fn sent(&mut self, failed: bool)
         ensures told { failed ≡ true → fault_of self.new ≡ None →
-            Appends (held_by W.contents self.old) (held_by W.contents self.new)
-            (unsent_text (moment_told self.old) (terms_of self.old).to) }
+            Appends (held_by W.contents (printer_of self.old)) (held_by W.contents (printer_of self.new))
+            (unsent_text (moment_told self.old) (terms_of (printer_of self.old)).to) }
         ensures untold { failed ≡ false → self.new ≡ self.old }
-        ensures terms { terms_of self.new ≡ terms_of self.old }
+        ensures terms { terms_of (printer_of self.new) ≡ terms_of (printer_of self.old) }
         ensures lasting { (fault : Fault) → fault_of self.old ≡ Some fault → fault_of self.new ≡ Some fault }
     {
         if failed {
-            let shown = self.watch_unsent(self.moment);
+            let shown = self.printer.print_unsent(self.moment);
             self.fault = first_fault(self.fault, shown);
         }
-    }
-}
-
-/// When an event came, by the middle 32 bits of its NTP timestamp.
-fn arrival(ntp_base: u64, now: u64) -> u32
-    ensures { result ≡ arrival_at ntp_base now }
-{
-    (ntp_of(ntp_base, now) / 65_536 % (1 << 32)) as u32
-}
-
-/// The same, where memory may have been refused.
-fn or_memory(noted: Result<(), AllocError>) -> Result<(), TextFault>
-    ensures ok { is_ok result ≡ is_ok noted }
-    ensures fault { IfErr result IsOutFault }
-{
-    match noted {
-        Ok(()) => Ok(()),
-        Err(AllocError) => Err(TextFault::Memory),
     }
 }
 

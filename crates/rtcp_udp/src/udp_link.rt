@@ -7,7 +7,7 @@ ghost use Rattle.rtcp_serve.specs.Links.{IsWithin, WereCalled, clock_read};
 
 use mio::net::UdpSocket;
 use mio::{Events, Interest, Poll, Token};
-use rtcp_serve::{Link, LinkFault, Port, Received};
+use rtcp_serve::{Link, LinkFault, Port, Received, endpoint_number};
 use std::alloc::Global;
 use std::io::{self, ErrorKind};
 use std::net::{Net, SocketAddr, SocketAddrV4};
@@ -195,12 +195,12 @@ fn take_queued(socket: &UdpSocket, buf: &mut [u8]) -> Option<Received>
     }
 }
 
-/// A number for where a datagram came from: the IPv4 address times 65,536, plus the port.
+/// A number for where a datagram came from.
 fn peer_number(from: SocketAddr) -> u64
     ensures { result ≡ sender_number from }
 {
     match from {
-        SocketAddr::V4(from) => u64::from(from.ip().to_bits()) * 65_536 + u64::from(from.port()),
+        SocketAddr::V4(from) => endpoint_number(from),
         SocketAddr::V6(from) => u64::from(from.port()),
     }
 }

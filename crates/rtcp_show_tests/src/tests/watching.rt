@@ -1,10 +1,10 @@
-//! What a watcher writes of a session.
+//! What a printer and its watcher write of a session.
 
 use super::{PEER, config, named, same, taken};
 use rtcp_engine::{Answer, Event, Participant};
 use rtcp_members::SortedTable;
 use rtcp_serve::Observer;
-use rtcp_show::{Watcher, Wording};
+use rtcp_show::{Printer, Watcher, Wording};
 use rtcp_text::TextFault;
 use std::alloc::Global;
 use std::io;
@@ -12,35 +12,35 @@ use std::io::{ErrorKind, Write};
 use std::net::{Ipv4Addr, SocketAddrV4};
 use std::test::Fail;
 
-/// A participant, and what watches it.
+/// A participant, and what writes its lines.
 #[derive(Drop)]
-struct Watched<W> {
+struct Printed<W> {
     participant: Participant<SortedTable>,
-    watcher: Watcher<W>,
+    printer: Printer<W>,
     /// How many events were not written.
     unwritten: u32,
 }
 
-impl<W: Write + Drop> Watched<W> {
+impl<W: Write + Drop> Printed<W> {
     /// A session that begins, with the start word 0. Its first report is due at 1,026,037.
-    fn new(alloc: Global, writer: W) -> Result<Watched<W>, Fail> {
+    fn new(alloc: Global, writer: W) -> Result<Printed<W>, Fail> {
         let to = SocketAddrV4::new(Ipv4Addr::LOCALHOST, 5_007);
         let config = config();
-        let watcher = Watcher::new(alloc, config.ntp_base, to, writer);
+        let printer = Printer::new(alloc, config.ntp_base, to, writer);
         let Ok(participant) = Participant::new(config, 0) else {
             return Err("the configuration is refused")?;
         };
-        Ok(Watched {
+        Ok(Printed {
             participant,
-            watcher,
+            printer,
             unwritten: 0,
         })
     }
 
-    fn watch(&mut self, event: &Event<'_>, answer: &Answer) {
+    fn print(&mut self, event: &Event<'_>, answer: &Answer) {
         if self
-            .watcher
-            .watch(event, answer, &self.participant)
+            .printer
+            .print(event, answer, &self.participant)
             .is_err()
         {
             self.unwritten = self.unwritten.saturating_add(1);
@@ -55,12 +55,12 @@ impl<W: Write + Drop> Watched<W> {
             w: 0,
             bytes,
         };
-        self.watch(&event, &answer);
+        self.print(&event, &answer);
     }
 
     fn tick(&mut self, now: u64) {
         let answer = self.participant.tick(now, 0, 0);
-        self.watch(&Event::Tick { now, w1: 0, w2: 0 }, &answer);
+        self.print(&Event::Tick { now, w1: 0, w2: 0 }, &answer);
     }
 
     /// A packet of source 7, of 20 milliseconds.
@@ -75,17 +75,17 @@ impl<W: Write + Drop> Watched<W> {
             w: 0,
             bytes: &bytes,
         };
-        self.watch(&event, &answer);
+        self.print(&event, &answer);
     }
 
     fn leave(&mut self, now: u64) {
         let answer = self.participant.leave(now, 0);
-        self.watch(&Event::Leave { now, w: 0 }, &answer);
+        self.print(&Event::Leave { now, w: 0 }, &answer);
     }
 
     fn forget(&mut self, now: u64, ssrc: u32) {
         let answer = self.participant.forget(now, ssrc);
-        self.watch(&Event::Forget { now, ssrc }, &answer);
+        self.print(&Event::Forget { now, ssrc }, &answer);
     }
 }
 
@@ -128,24 +128,24 @@ loss=33.3% interval-loss=33.2% pace=0.0/s peer=127.0.0.1:5007
 /// Each event has its lines, and each second its rows, unless they are as they were.
 #[test]
 fn session(rt: HostRuntime) -> Result<(), Fail> {
-    let mut watched = Watched::new(rt.alloc(), Vec::new(rt.alloc()))?;
-    watched.rtcp(100_000, &named(7));
-    watched.tick(999_999);
-    watched.tick(1_000_000);
-    watched.tick(2_000_000);
-    watched.tick(2_999_999);
-    watched.rtcp(3_000_000, &BLOCK);
-    watched.rtp(3_100_000, 1);
-    watched.rtp(3_120_000, 2);
-    watched.rtp(3_162_000, 4);
-    watched.tick(4_000_000);
-    watched.tick(4_400_000);
-    watched.rtcp(4_500_000, &GOODBYE);
-    watched.tick(5_000_000);
-    watched.rtcp(5_500_000, &[]);
-    watched.leave(6_000_000);
-    assert_eq!(rt; watched.unwritten, 0);
-    let text = watched.watcher.into_inner();
+    let mut printed = Printed::new(rt.alloc(), Vec::new(rt.alloc()))?;
+    printed.rtcp(100_000, &named(7));
+    printed.tick(999_999);
+    printed.tick(1_000_000);
+    printed.tick(2_000_000);
+    printed.tick(2_999_999);
+    printed.rtcp(3_000_000, &BLOCK);
+    printed.rtp(3_100_000, 1);
+    printed.rtp(3_120_000, 2);
+    printed.rtp(3_162_000, 4);
+    printed.tick(4_000_000);
+    printed.tick(4_400_000);
+    printed.rtcp(4_500_000, &GOODBYE);
+    printed.tick(5_000_000);
+    printed.rtcp(5_500_000, &[]);
+    printed.leave(6_000_000);
+    assert_eq!(rt; printed.unwritten, 0);
+    let text = printed.printer.into_inner();
     assert_eq!(rt; text.as_slice(), SESSION.as_bytes());
     Ok(())
 }
@@ -159,15 +159,15 @@ source=0000003c sends=no cname=\"a\" peer=127.0.0.1:5007
 /// Whoever leaves among 60 members waits with its BYE. It lists nobody then, but nobody has timed out.
 #[test]
 fn leaves_many(rt: HostRuntime) -> Result<(), Fail> {
-    let mut watched = Watched::new(rt.alloc(), Vec::new(rt.alloc()))?;
+    let mut printed = Printed::new(rt.alloc(), Vec::new(rt.alloc()))?;
     for source in 1..61 {
-        watched.rtcp(100_000, &named(source));
+        printed.rtcp(100_000, &named(source));
     }
-    watched.tick(10_000_000);
-    watched.leave(10_500_000);
-    assert_eq!(rt; watched.participant.members(), 1);
-    watched.tick(11_000_000);
-    let text = watched.watcher.into_inner();
+    printed.tick(10_000_000);
+    printed.leave(10_500_000);
+    assert_eq!(rt; printed.participant.members(), 1);
+    printed.tick(11_000_000);
+    let text = printed.printer.into_inner();
     assert!(rt; text.ends_with(LEFT.as_bytes()));
     Ok(())
 }
@@ -183,12 +183,12 @@ source=00000007 sends=no cname=\"a\" peer=127.0.0.1:5007
 /// A source that the host dismissed has not timed out: it is not listed any more.
 #[test]
 fn dismissed(rt: HostRuntime) -> Result<(), Fail> {
-    let mut watched = Watched::new(rt.alloc(), Vec::new(rt.alloc()))?;
-    watched.rtcp(100_000, &named(7));
-    watched.tick(1_000_000);
-    watched.forget(1_000_001, 7);
-    watched.forget(2_000_000, 7);
-    let text = watched.watcher.into_inner();
+    let mut printed = Printed::new(rt.alloc(), Vec::new(rt.alloc()))?;
+    printed.rtcp(100_000, &named(7));
+    printed.tick(1_000_000);
+    printed.forget(1_000_001, 7);
+    printed.forget(2_000_000, 7);
+    let text = printed.printer.into_inner();
     same(&rt, &text, DISMISSED.as_bytes(), "dismissed");
     Ok(())
 }
@@ -208,16 +208,16 @@ peer=127.0.0.1:5007
 /// Three packets in the second and a half since the sources were looked at before.
 #[test]
 fn paces(rt: HostRuntime) -> Result<(), Fail> {
-    let mut watched = Watched::new(rt.alloc(), Vec::new(rt.alloc()))?;
-    watched.rtp(940_000, 1);
-    watched.rtp(960_000, 2);
-    watched.rtp(980_000, 3);
-    watched.tick(1_000_000);
-    watched.rtp(1_000_000, 4);
-    watched.rtp(1_020_000, 5);
-    watched.rtp(1_040_000, 6);
-    watched.tick(2_500_000);
-    let text = watched.watcher.into_inner();
+    let mut printed = Printed::new(rt.alloc(), Vec::new(rt.alloc()))?;
+    printed.rtp(940_000, 1);
+    printed.rtp(960_000, 2);
+    printed.rtp(980_000, 3);
+    printed.tick(1_000_000);
+    printed.rtp(1_000_000, 4);
+    printed.rtp(1_020_000, 5);
+    printed.rtp(1_040_000, 6);
+    printed.tick(2_500_000);
+    let text = printed.printer.into_inner();
     assert_eq!(rt; text.as_slice(), PACED.as_bytes());
     Ok(())
 }
@@ -238,22 +238,22 @@ source=00000007 sends=no round-trip=500.000ms cname=\"a\" peer=127.0.0.1:5007
 /// In plain words what comes and what goes out is named. All else is as it was.
 #[test]
 fn plain(rt: HostRuntime) -> Result<(), Fail> {
-    let Watched {
+    let Printed {
         participant,
-        watcher,
+        printer,
         unwritten,
-    } = Watched::new(rt.alloc(), Vec::new(rt.alloc()))?;
-    let mut watched = Watched {
+    } = Printed::new(rt.alloc(), Vec::new(rt.alloc()))?;
+    let mut printed = Printed {
         participant,
-        watcher: watcher.with_wording(Wording::Plain(Some(8_000))),
+        printer: printer.with_wording(Wording::Plain(Some(8_000))),
         unwritten,
     };
-    watched.rtcp(100_000, &named(7));
-    watched.tick(2_000_000);
-    watched.rtcp(3_000_000, &BLOCK);
-    watched.rtcp(3_500_000, &[]);
-    assert_eq!(rt; watched.unwritten, 0);
-    let text = watched.watcher.into_inner();
+    printed.rtcp(100_000, &named(7));
+    printed.tick(2_000_000);
+    printed.rtcp(3_000_000, &BLOCK);
+    printed.rtcp(3_500_000, &[]);
+    assert_eq!(rt; printed.unwritten, 0);
+    let text = printed.printer.into_inner();
     assert_eq!(rt; text.as_slice(), PLAIN.as_bytes());
     Ok(())
 }
@@ -261,20 +261,20 @@ fn plain(rt: HostRuntime) -> Result<(), Fail> {
 /// A send that fails is told, at the moment of the event before it; one that does not fail is not.
 #[test]
 fn unsent(rt: HostRuntime) -> Result<(), Fail> {
-    let mut watched = Watched::new(rt.alloc(), Vec::new(rt.alloc()))?;
+    let printed = Printed::new(rt.alloc(), Vec::new(rt.alloc()))?;
+    let mut watcher = Watcher::new(printed.printer);
     let event = Event::Tick {
         now: 2_500_000,
         w1: 0,
         w2: 0,
     };
-    watched
-        .watcher
-        .told(&event, &taken(None, None), &watched.participant);
-    watched.watcher.sent(false);
-    watched.watcher.sent(true);
-    let written = watched.watcher.watch_unsent(3_000_001);
+    watcher.told(&event, &taken(None, None), &printed.participant);
+    watcher.sent(false);
+    watcher.sent(true);
+    let mut printer = watcher.into_printer();
+    let written = printer.print_unsent(3_000_001);
     assert!(rt; written.is_ok());
-    let text = watched.watcher.into_inner();
+    let text = printer.into_inner();
     let want =
         "2.500000 members=1 senders=0\n2.500000 unsent 127.0.0.1:5007\n3.000001 unsent 127.0.0.1:5007\n";
     same(&rt, &text, want.as_bytes(), "sends");
@@ -298,29 +298,28 @@ impl Write for Full {
 /// The first fault of what an observer is told is kept.
 #[test]
 fn faults(rt: HostRuntime) -> Result<(), Fail> {
-    let mut watched = Watched::new(rt.alloc(), Full)?;
-    assert_eq!(rt; watched.watcher.fault(), None);
+    let printed = Printed::new(rt.alloc(), Full)?;
+    let mut watcher = Watcher::new(printed.printer);
+    assert_eq!(rt; watcher.fault(), None);
     let event = Event::Tick {
         now: 500_000,
         w1: 0,
         w2: 0,
     };
-    watched
-        .watcher
-        .told(&event, &taken(None, None), &watched.participant);
-    assert_eq!(rt; watched.watcher.fault(), None);
-    watched.watcher.sent(true);
-    assert_eq!(rt; watched.watcher.fault(), Some(TextFault::Write));
+    watcher.told(&event, &taken(None, None), &printed.participant);
+    assert_eq!(rt; watcher.fault(), None);
+    watcher.sent(true);
+    assert_eq!(rt; watcher.fault(), Some(TextFault::Write));
     Ok(())
 }
 
 /// Where nothing can be written, the session goes on.
 #[test]
 fn unwritten(rt: HostRuntime) -> Result<(), Fail> {
-    let mut watched = Watched::new(rt.alloc(), Full)?;
-    watched.rtcp(100_000, &named(7));
-    watched.tick(2_000_000);
-    assert_eq!(rt; watched.participant.members(), 2);
-    assert_eq!(rt; watched.unwritten, 2);
+    let mut printed = Printed::new(rt.alloc(), Full)?;
+    printed.rtcp(100_000, &named(7));
+    printed.tick(2_000_000);
+    assert_eq!(rt; printed.participant.members(), 2);
+    assert_eq!(rt; printed.unwritten, 2);
     Ok(())
 }

@@ -6,4 +6,4 @@ returns c =
     five_parts _ _ _ _ _ _ _ _ _ _ _ (rw c.joined.ensures at c.in_ok-push_where.ensures)
     (rw c.began_to_send.ensures at c.in_ok-push_where-2.ensures)
     (rw c.stopped_sending.ensures at c.in_ok-push_where-3.ensures)
-    (rw c.left.ensures at c.in_ok-push_where-4.ensures) (rw c.timed_out.ensures at c.in_ok-push_where-5.ensures)
+    (rw c.left.ensures at c.in_ok-push_where-4.ensures) (rw c.went_without_bye.ensures at c.in_ok-push_where-5.ensures)

@@ -1,0 +1,171 @@
+//! What writes the lines of a session.
+
+ghost use Rattle.std.specs.Prelude.{◌≡◌, ◌+◌, ◌*◌, ◌∷◌, [], List, IfErr, IsOk, is_ok, None, OnOk, Some, false, true};
+ghost use Rattle.std.specs.Io.KnownBytes.{Appends};
+ghost use Rattle.rtcp_engine.specs.Histories.{History};
+ghost use Rattle.rtcp_engine.specs.States.{StandsAt};
+ghost use Rattle.rtcp_engine.specs.Views.{answer_value, event_value};
+ghost use Rattle.rtcp_serve.specs.Links.{endpoint_number};
+ghost use Rattle.rtcp_show.specs.Watchers.{IsOutFault, arrival_at};
+ghost use Rattle.rtcp_show.specs.Lines.{unsent_text};
+ghost use Rattle.rtcp_show.specs.declared.wording.Wording.TheVariants.{Brief};
+
+use crate::board::Board;
+use crate::changes::Roles;
+use crate::lines::{compound_of, moment_of};
+use crate::page::Page;
+use crate::wording::Wording;
+use rtcp_clock::ntp_of;
+use rtcp_engine::{Answer, Event, Participant};
+use rtcp_members::MemberTable;
+use rtcp_serve::endpoint_number;
+use rtcp_text::TextFault;
+use std::alloc::{AllocError, Global};
+use std::io::Write;
+use std::net::SocketAddrV4;
+
+/// What a printer knows of a session from its start.
+#[derive(Clone, Copy, Debug)]
+pub(crate) struct Terms {
+    /// The NTP timestamp of moment 0.
+    ntp_base: u64,
+    /// The number of the peer to which compounds go.
+    to: u64,
+    /// How the packets of datagrams are shown.
+    wording: Wording,
+}
+
+/// Writes the lines of a session to a writer: those of each event and its answer ([`push_lines`](crate::push_lines)),
+/// and once a second the members, the senders and a row for each source ([`push_row`](crate::push_row)), unless they are
+/// the last ones again. Each part is flushed.
+#[derive(Drop)]
+pub struct Printer<W> {
+    terms: Terms,
+    page: Page<W>,
+    roles: Roles,
+    board: Board,
+}
+
+impl<W: Drop> Printer<W> {
+    ghost use Rattle.rtcp_show.specs.Observations.{Knows};
+    ghost use Rattle.rtcp_show.specs.Watchers.{listing_of, rows_of, terms_of, writer_of};
+
+    /// A printer of a session that begins now, whose moment 0 has this NTP timestamp. Compounds go to `to`.
+    pub fn new(alloc: Global, ntp_base: u64, to: SocketAddrV4, writer: W) -> Printer<W>
+        ensures terms { terms_of result ≡ record {
+          ntp_base = ntp_base;
+          to = endpoint_number to;
+          wording = Brief;
+        } }
+        ensures writer { writer_of result ≡ writer }
+        ensures listing { listing_of result ≡ [] }
+        ensures rows { rows_of result ≡ [] }
+        ensures knows { Knows result [] }
+    {
+        Printer {
+            terms: Terms {
+                ntp_base,
+                to: endpoint_number(to),
+                wording: Wording::Brief,
+            },
+            page: Page::new(alloc, writer),
+            roles: Roles::new(alloc),
+            board: Board::new(alloc),
+        }
+    }
+
+    /// The same printer, which shows the packets of datagrams in this wording.
+    pub fn with_wording(self, wording: Wording) -> Printer<W>
+        ensures { result ≡ record self { terms = record (terms_of self) { wording = wording } } }
+    {
+        let terms = Terms {
+            wording,
+            ..self.terms
+        };
+        Printer { terms, ..self }
+    }
+}
+
+impl<W: Write> Printer<W> {
+    ghost use Rattle.rtcp_show.specs.Watchers.{Watches, held_by, terms_of, writer_of};
+
+    /// The writer.
+    pub fn into_inner(self) -> W
+        ensures { result ≡ writer_of self }
+    {
+        self.page.writer
+    }
+
+    /// Writes the lines of an event of the session and its answer, a line for each source whose role changed
+    /// ([`push_change`](crate::push_change)), and who is there where another second has begun.
+    /// `participant` is that of the session, after the event. It lists nobody from its leave on: then no role has
+    /// changed, and of a source that the host dismissed no line says so.
+    ///
+    /// # Errors
+    ///
+    /// The first of these. What comes after it is written all the same, if it can be.
+    ///
+    /// - [`TextFault::Write`] where a call of the writer fails.
+    /// - [`TextFault::Memory`] where memory is refused.
+    pub fn print<T: MemberTable>(
+        &mut self,
+        event: &Event<'_>,
+        answer: &Answer,
+        participant: &Participant<T>,
+    ) -> Result<(), TextFault>
+        ensures watches { (history : History) → StandsAt participant.now history →
+            OnOk result (Watches W.contents (event_value event.now) (answer_value answer.now) history self.old
+            self.new) }
+        ensures fault { IfErr result IsOutFault }
+        ensures terms { terms_of self.new ≡ terms_of self.old }
+    {
+        let now = moment_of(event);
+        let compound = compound_of(event, answer);
+        let terms = self.terms;
+        let shown = self
+            .page
+            .show_event(terms.wording, terms.to, event, answer, &compound);
+        let arrived = arrival(terms.ntp_base, now);
+        let noted = self
+            .board
+            .note(arrived, event, answer, &compound, participant);
+        let changed = self
+            .page
+            .show_changes(&mut self.roles, event, answer, participant);
+        let listed = self.page.show_sources(&mut self.board, now, participant);
+        shown.and(or_memory(noted)).and(changed).and(listed)
+    }
+
+    /// Writes that the compound of the event before was not handed to the network, at this moment.
+    ///
+    /// # Errors
+    ///
+    /// - [`TextFault::Write`] where a call of the writer fails.
+    /// - [`TextFault::Memory`] where memory is refused.
+    pub fn print_unsent(&mut self, moment: u64) -> Result<(), TextFault>
+        ensures written { OnOk result (Appends (held_by W.contents self.old) (held_by W.contents self.new)
+            (unsent_text moment (terms_of self.old).to)) }
+        ensures fault { IfErr result IsOutFault }
+        ensures terms { terms_of self.new ≡ terms_of self.old }
+    {
+        self.page.show_unsent(moment, self.terms.to)
+    }
+}
+
+/// When an event came, by the middle 32 bits of its NTP timestamp.
+fn arrival(ntp_base: u64, now: u64) -> u32
+    ensures { result ≡ arrival_at ntp_base now }
+{
+    (ntp_of(ntp_base, now) / 65_536 % (1 << 32)) as u32
+}
+
+/// The same, where memory may have been refused.
+fn or_memory(noted: Result<(), AllocError>) -> Result<(), TextFault>
+    ensures ok { is_ok result ≡ is_ok noted }
+    ensures fault { IfErr result IsOutFault }
+{
+    match noted {
+        Ok(()) => Ok(()),
+        Err(AllocError) => Err(TextFault::Memory),
+    }
+}
