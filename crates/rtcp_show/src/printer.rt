@@ -1,6 +1,6 @@
 //! What writes the lines of a session.
 
-ghost use Rattle.std.specs.Prelude.{◌≡◌, ◌+◌, ◌*◌, ◌∷◌, [], List, IfErr, IsOk, is_ok, None, OnOk, Some, false, true};
+ghost use Rattle.std.specs.Prelude.{◌≡◌, [], IfErr, OnOk, is_ok};
 ghost use Rattle.std.specs.Io.KnownBytes.{Appends};
 ghost use Rattle.rtcp_engine.specs.Histories.{History};
 ghost use Rattle.rtcp_engine.specs.States.{StandsAt};
