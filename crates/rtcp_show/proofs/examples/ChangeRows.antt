@@ -1,11 +1,9 @@
 -- When changes of others are told, and when the sources are listed anew.
-use Rattle.std.specs.Prelude.{◌≡◌, Bool, true, false, Some, None, Ok}
-use Rattle.std.proofs.Common.{refl}
+use Rattle.std.specs.Prelude.{◌≡◌, ◌++◌, Bool, true, false, [], ◌∷◌, Some, None, Ok}
 use Rattle.rtcp_engine.specs.Acts.{forget_asked, leave_asked, time_passed}
 use Rattle.rtcp_engine.specs.Steps.{AnswerValue}
 use Rattle.rtcp_show.specs.Changes.{lists_anew, tells_of_others}
 use Rattle.rtcp_show.specs.Watchers.{is_due, news_text, second_after}
-use Rattle.std.specs.Prelude.{[], ◌∷◌, ◌++◌}
 use Rattle.rtcp_show.specs.Numbers.{moment_text}
 
 abbrev answered : (others_changed : Bool) → AnswerValue
@@ -19,46 +17,24 @@ answered others_changed = Ok (record {
   others_changed = others_changed;
 })
 
--- A tick at which others timed out.
-ticked : tells_of_others (time_passed 5 0 0) (answered true) ≡ true
-ticked = refl
+record ChangesShown : Type 0 where
+  -- A tick at which others timed out.
+  ticked : tells_of_others (time_passed 5 0 0) (answered true) ≡ true
+  nobody : lists_anew (time_passed 5 0 0) (answered false) ≡ false
+  -- The leave among many, after which there is a next moment: that of the BYE.
+  left : tells_of_others (leave_asked 5 0) (answered true) ≡ false
+  left_listing : lists_anew (leave_asked 5 0) (answered true) ≡ false
+  -- A source that the host dismissed is not listed any more, and no line says so.
+  dismissed : tells_of_others (forget_asked 5 7) (answered true) ≡ false
+  dismissed_listing : lists_anew (forget_asked 5 7) (answered true) ≡ true
+  -- The rows are due once a second, and written if they are others than before.
+  second_one : is_due 0 1000000 ≡ true
+  too_early : is_due 0 999999 ≡ false
+  same_second : is_due 1 1999999 ≡ false
+  seconds_on : second_after 1 4000001 ≡ 4
+  other_rows : news_text true 1000000 (97 ∷ []) (98 ∷ []) ≡ moment_text 1000000 ++ 32 ∷ 98 ∷ []
+  same_rows : news_text true 1000000 (97 ∷ []) (97 ∷ []) ≡ []
+  not_due : news_text false 1000000 (97 ∷ []) (98 ∷ []) ≡ []
 
-nobody : lists_anew (time_passed 5 0 0) (answered false) ≡ false
-nobody = refl
-
--- The leave among many, after which there is a next moment: that of the BYE.
-left : tells_of_others (leave_asked 5 0) (answered true) ≡ false
-left = refl
-
-left_listing : lists_anew (leave_asked 5 0) (answered true) ≡ false
-left_listing = refl
-
--- A source that the host dismissed is not listed any more, and no line says so.
-dismissed : tells_of_others (forget_asked 5 7) (answered true) ≡ false
-dismissed = refl
-
-dismissed_listing : lists_anew (forget_asked 5 7) (answered true) ≡ true
-dismissed_listing = refl
-
--- ---- The rows are due once a second, and written if they are others than before.
-
-second_one : is_due 0 1000000 ≡ true
-second_one = refl
-
-too_early : is_due 0 999999 ≡ false
-too_early = refl
-
-same_second : is_due 1 1999999 ≡ false
-same_second = refl
-
-seconds_on : second_after 1 4000001 ≡ 4
-seconds_on = refl
-
-other_rows : news_text true 1000000 (97 ∷ []) (98 ∷ []) ≡ moment_text 1000000 ++ 32 ∷ 98 ∷ []
-other_rows = refl
-
-same_rows : news_text true 1000000 (97 ∷ []) (97 ∷ []) ≡ []
-same_rows = refl
-
-not_due : news_text false 1000000 (97 ∷ []) (98 ∷ []) ≡ []
-not_due = refl
+changes_shown : ChangesShown
+changes_shown = search
