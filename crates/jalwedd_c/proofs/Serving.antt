@@ -1,7 +1,7 @@
 -- A call of a session is one of its participant, at the moment counted from the start.
 use Rattle.std.proofs.Common.{◌≡◌, ◌+◌, ℕ, List, Option, Some, Result, sym, ap, subst, ◌∙◌, arith}
 use Rattle.rtcp_engine.specs.declared.refusal.Refusal.{Refusal}
-use Rattle.rtcp_engine.specs.declared.step.Told.{Told}
+use Rattle.rtcp_engine.specs.declared.step.WrittenStep.{WrittenStep}
 use Rattle.rtcp_engine.specs.Acts.{EventValue, IsActOfEvent}
 use Rattle.rtcp_engine.specs.Answers.{answer_of, followed_by}
 use Rattle.rtcp_engine.specs.Histories.{History}
@@ -17,7 +17,7 @@ use Rattle.jalwedd_host.proofs.LawLemmas.{leads_as, session_of}
 
 -- A session that is held is told an event at a moment counted from its start, and is put back, and the step shows it.
 pub tells : {was_held held : Option HostSession} {session before after : HostSession} {now moment result : ℕ}
-    {was octets : List ℕ} {step : HostStep} (event : ℕ → EventValue) (reply : Result Told Refusal) →
+    {was octets : List ℕ} {step : HostStep} (event : ℕ → EventValue) (reply : Result WrittenStep Refusal) →
     was_held ≡ Some session → now ≡ session.start + moment → before ≡ session → after.start ≡ before.start →
     Replies before.participant (event moment) was octets reply after.participant → held ≡ Some after
     → result ≡ status_of (reply_value octets reply) → HandsOut step was octets (reply_value octets reply)

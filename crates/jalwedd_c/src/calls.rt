@@ -182,7 +182,7 @@ pub extern "C" fn jalwedd_configure(
 /// Tells, when the host's clock shows `now`, in microseconds, that another source is gone, as the host knows by other
 /// means, or so decides. Its entry goes as if it had been silent for too long (RFC 3550, 6.3.5), which makes room for
 /// another source, and what was counted of it is dropped. Named again, it comes as a new one. Nothing changes where the
-/// source has no entry, said goodbye or is the participant itself, and in a backoff. This never hands out anything.
+/// source has no entry, sent a BYE or is the participant itself, and in a backoff. This never hands out anything.
 ///
 /// Statuses: 0; 1 to 4, by the first of E1 to E4 that applies, where a call before the start is refused by E1 or E2; 20
 /// where the handle is empty.

@@ -2,11 +2,11 @@
 
 ghost use Rattle.std.specs.Prelude.{◌≡◌, ◌^◌, ◌-◌, ◌↔◌, ℕ, Option, Some, None};
 ghost use Rattle.rtcp_engine.specs.Histories.{History, life_at, setup_at};
-ghost use Rattle.rtcp_engine.specs.Lives.{members_in_life, senders_in_life, entries_in_life, next_in_life, TellsInLife};
+ghost use Rattle.rtcp_engine.specs.Lives.{members_in_life, senders_in_life, entries_in_life, next_in_life, ListsInLife};
 ghost use Rattle.jalwedd_host.specs.Answers.{moment_shown};
-ghost use Rattle.rtcp_members.specs.Told.{StateValue};
+ghost use Rattle.rtcp_members.specs.Listings.{StateValue};
 ghost use Rattle.jalwedd_host.specs.Handles.{LeadsTo};
-ghost use Rattle.jalwedd_host.specs.Promises.{TellsOf};
+ghost use Rattle.jalwedd_host.specs.Promises.{AnswersOf};
 ghost use Rattle.jalwedd_host.specs.Sources.{ShowsSource, after_of};
 
 use jalwedd_host::handle::Handle;
@@ -18,7 +18,7 @@ use std::alloc::Global;
 /// participant and one for each BYE packet that came since (6.3.7). 0 once it has left, and for an empty handle.
 #[unsafe(no_mangle)]
 pub extern "C" fn jalwedd_members(alloc: Global, handle: &mut Handle) -> u32
-    ensures { TellsOf (λ start history. members_in_life (setup_at history) (life_at history)) 0
+    ensures { AnswersOf (λ start history. members_in_life (setup_at history) (life_at history)) 0
         handle.old.owned.held handle.new.owned.held result }
 {
     handle.step(alloc).members
@@ -27,7 +27,7 @@ pub extern "C" fn jalwedd_members(alloc: Global, handle: &mut Handle) -> u32
 /// The members that send RTP packets: 0 once the participant leaves, and for an empty handle.
 #[unsafe(no_mangle)]
 pub extern "C" fn jalwedd_senders(alloc: Global, handle: &mut Handle) -> u32
-    ensures { TellsOf (λ start history. senders_in_life (setup_at history) (life_at history)) 0
+    ensures { AnswersOf (λ start history. senders_in_life (setup_at history) (life_at history)) 0
         handle.old.owned.held handle.new.owned.held result }
 {
     handle.step(alloc).senders
@@ -37,7 +37,7 @@ pub extern "C" fn jalwedd_senders(alloc: Global, handle: &mut Handle) -> u32
 /// for an empty handle.
 #[unsafe(no_mangle)]
 pub extern "C" fn jalwedd_next(alloc: Global, handle: &mut Handle) -> u64
-    ensures next { TellsOf (λ start history. moment_shown start (next_in_life (life_at history))) (2 ^ 64 - 1)
+    ensures next { AnswersOf (λ start history. moment_shown start (next_in_life (life_at history))) (2 ^ 64 - 1)
         handle.old.owned.held handle.new.owned.held result }
     ensures never { (start : ℕ) (history : History) → LeadsTo handle.old.owned.held start history →
         (result ≡ 2 ^ 64 - 1) ↔ (next_in_life (life_at history) ≡ None) }
@@ -48,7 +48,7 @@ pub extern "C" fn jalwedd_next(alloc: Global, handle: &mut Handle) -> u64
 /// The SSRC under which the participant takes part, or did last: 0 for an empty handle.
 #[unsafe(no_mangle)]
 pub extern "C" fn jalwedd_ssrc(alloc: Global, handle: &mut Handle) -> u32
-    ensures { TellsOf (λ start history. (setup_at history).ssrc) 0 handle.old.owned.held handle.new.owned.held result }
+    ensures { AnswersOf (λ start history. (setup_at history).ssrc) 0 handle.old.owned.held handle.new.owned.held result }
 {
     handle.step(alloc).ssrc
 }
@@ -58,7 +58,7 @@ pub extern "C" fn jalwedd_ssrc(alloc: Global, handle: &mut Handle) -> u32
 /// SSRCs, and admits no other source until one is dropped. 0 once the participant leaves, and for an empty handle.
 #[unsafe(no_mangle)]
 pub extern "C" fn jalwedd_entries(alloc: Global, handle: &mut Handle) -> u32
-    ensures { TellsOf (λ start history. entries_in_life (setup_at history) (life_at history)) 0
+    ensures { AnswersOf (λ start history. entries_in_life (setup_at history) (life_at history)) 0
         handle.old.owned.held handle.new.owned.held result }
 {
     handle.entries(alloc)
@@ -78,16 +78,16 @@ pub extern "C" fn jalwedd_source(
 ) -> u32
     ensures told { (start : ℕ) (history : History) → LeadsTo handle.old.owned.held start history →
         (told : Option StateValue)
-        × TellsInLife (setup_at history) (after_of from) (life_at history) told
+        × ListsInLife (setup_at history) (after_of from) (life_at history) told
         × ShowsSource start result source.old source.new told }
     ensures never_left { (start : ℕ) (history : History) (state : StateValue) →
         LeadsTo handle.old.owned.held start history →
-        TellsInLife (setup_at history) (after_of from) (life_at history) (Some state) →
+        ListsInLife (setup_at history) (after_of from) (life_at history) (Some state) →
         (source.new.left ≡ 2 ^ 64 - 1) ↔ (state.left ≡ None) }
-    ensures never_told { (start : ℕ) (history : History) (state : StateValue) →
+    ensures never_reported { (start : ℕ) (history : History) (state : StateValue) →
         LeadsTo handle.old.owned.held start history →
-        TellsInLife (setup_at history) (after_of from) (life_at history) (Some state) →
-        (source.new.told ≡ 2 ^ 64 - 1) ↔ (state.told ≡ None) }
+        ListsInLife (setup_at history) (after_of from) (life_at history) (Some state) →
+        (source.new.told ≡ 2 ^ 64 - 1) ↔ (state.last_report ≡ None) }
     ensures empty { handle.old.owned.held ≡ None → (result ≡ 9) × (source.new ≡ source.old) }
     ensures kept { handle.new.owned.held ≡ handle.old.owned.held }
 {

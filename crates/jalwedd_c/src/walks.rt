@@ -11,7 +11,7 @@ ghost use Rattle.jalwedd_host.specs.Walks.{Continues};
 use jalwedd_host::app::AppPlace;
 use jalwedd_host::parts::{GoodbyePlace, ItemPlace, SenderInfo};
 use jalwedd_host::reading::Report;
-use jalwedd_host::walks::tell_next;
+use jalwedd_host::walks::show_next;
 use rtcp_parts::{Cursor, PlacedApp, PlacedGoodbye, PlacedItem, Reported, Sender};
 
 /// Tells of the next part of a walk over the sender reports of a datagram, in their order, and moves the cursor after
@@ -30,7 +30,7 @@ pub extern "C" fn jalwedd_next_sender(
     ensures { Continues packet_senders LeavesNone ShowsSender
         datagram.now cursor.old cursor.new result sender.old sender.new }
 {
-    tell_next::<Sender>(datagram, cursor, sender)
+    show_next::<Sender>(datagram, cursor, sender)
 }
 
 /// The same, of a walk over the blocks of all reports.
@@ -43,7 +43,7 @@ pub extern "C" fn jalwedd_next_block(
     ensures { Continues packet_blocks LeavesBlocks ShowsBlock
         datagram.now cursor.old cursor.new result report.old report.new }
 {
-    tell_next::<Reported>(datagram, cursor, report)
+    show_next::<Reported>(datagram, cursor, report)
 }
 
 /// The same, of a walk over the items of all chunks of all source descriptions, and where the text of each stands.
@@ -57,10 +57,10 @@ pub extern "C" fn jalwedd_next_sdes_item(
         datagram.now cursor.old cursor.new result item.old item.new }
     ensures within { result ≡ 0 → item.new.offset + item.new.size ≤ length datagram.now }
 {
-    tell_next::<PlacedItem>(datagram, cursor, item)
+    show_next::<PlacedItem>(datagram, cursor, item)
 }
 
-/// The same, of a walk over the sources that all goodbyes name, and where the reason of its goodbye stands.
+/// The same, of a walk over the sources that all BYEs name, and where the reason of its BYE stands.
 #[unsafe(no_mangle)]
 pub extern "C" fn jalwedd_next_goodbye(
     datagram: &[u8],
@@ -71,7 +71,7 @@ pub extern "C" fn jalwedd_next_goodbye(
         datagram.now cursor.old cursor.new result goodbye.old goodbye.new }
     ensures within { result ≡ 0 → goodbye.new.offset + goodbye.new.size ≤ length datagram.now }
 {
-    tell_next::<PlacedGoodbye>(datagram, cursor, goodbye)
+    show_next::<PlacedGoodbye>(datagram, cursor, goodbye)
 }
 
 /// The same, of a walk over the packets of applications, and where the data of each stand. With a cursor at a
@@ -84,5 +84,5 @@ pub extern "C" fn jalwedd_next_app(datagram: &[u8], cursor: &mut Cursor, app: &m
     ensures within { result ≡ 0 → app.new.offset + app.new.size ≤ length datagram.now }
     ensures own { WalksOwn datagram.now cursor.old cursor.new result app.new }
 {
-    tell_next::<PlacedApp>(datagram, cursor, app)
+    show_next::<PlacedApp>(datagram, cursor, app)
 }

@@ -1,7 +1,7 @@
 -- What a host's structure says of a source is what the participant lists.
 use Rattle.std.proofs.Common.{◌≡◌, ◌<◌, ◌==◌, ◌+◌, ◌-◌, ◌^◌, ℕ, not, Bool, true, false, Option, Some, None, is_some, IfSome, refl, ap, arith}
 use Rattle.std.proofs.lemmas.Bool.Decides.{nat_tests}
-use Rattle.rtcp_members.specs.Told.{StateValue}
+use Rattle.rtcp_members.specs.Listings.{StateValue}
 use Rattle.rtcp_listing.specs.Differences.{listed_of, role_of}
 use Rattle.jalwedd_host.specs.declared.source.HostSource.{HostSource}
 use Rattle.jalwedd_host.specs.Answers.{moment_shown, one_if}

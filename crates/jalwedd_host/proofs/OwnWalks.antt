@@ -7,10 +7,10 @@ use Rattle.rtcp_parts.specs.declared.cursor.Cursor.{Cursor}
 use Rattle.rtcp_parts.specs.Cursors.{IsBoundary, LeavesNone}
 use Rattle.rtcp_parts.proofs.Boundaries.{boundary_at_start}
 use Rattle.jalwedd_host.specs.declared.app.AppPlace.{AppPlace}
-use Rattle.jalwedd_host.specs.Apps.{AreOwnTold, IsOwnPlace, ShowsApp, ShowsOwnApp, TellsOwnApps}
+use Rattle.jalwedd_host.specs.Apps.{AreOwnShown, IsOwnPlace, ShowsApp, ShowsOwnApp, ShowsOwnApps}
 use Rattle.jalwedd_host.specs.Parts.{Locates}
-use Rattle.jalwedd_host.specs.Walks.{AreTold, ShowEach, begins}
-use Rattle.jalwedd_host.proofs.WholeWalks.{tells_all}
+use Rattle.jalwedd_host.specs.Walks.{AreShown, ShowEach, begins}
+use Rattle.jalwedd_host.proofs.WholeWalks.{shows_all}
 
 module _ (datagram : List ℕ) where
   -- Each packet that a walk tells of is one of the datagram's own.
@@ -19,15 +19,15 @@ module _ (datagram : List ℕ) where
   AllOwn (place ∷ places) = IsOwnPlace datagram place × AllOwn places
 
   all_own : (places : List AppPlace) (was last : Cursor) → IsBoundary datagram was.next →
-      AreOwnTold datagram was places last → AllOwn places
+      AreOwnShown datagram was places last → AllOwn places
   all_own [] was last here told = tt {0}
   all_own (place ∷ places) was last here told =
       (told.3.own here refl, all_own places told.0 last (told.3.stays here) told.4)
 
-  as_told : (places : List AppPlace) (was last : Cursor) → AreOwnTold datagram was places last →
-      AreTold packet_apps LeavesNone (ShowsApp datagram) datagram was places last
-  as_told [] was last told = told
-  as_told (place ∷ places) was last told = (told.0, told.1, told.2, as_told places told.0 last told.4)
+  as_shown : (places : List AppPlace) (was last : Cursor) → AreOwnShown datagram was places last →
+      AreShown packet_apps LeavesNone (ShowsApp datagram) datagram was places last
+  as_shown [] was last told = told
+  as_shown (place ∷ places) was last told = (told.0, told.1, told.2, as_shown places told.0 last told.4)
 
   -- What shows a packet there shows one of the datagram's own.
   pub shows_own : (place : AppPlace) (part : AppValue) → IsOwnPlace datagram place → ShowsApp datagram place part →
@@ -49,12 +49,12 @@ module _ (datagram : List ℕ) where
   show_each (place ∷ places) (part ∷ parts) own shows =
       (shows_own place part own.0 shows.0, show_each places parts own.1 shows.1)
 
-pub tells_own : TellsOwnApps
+pub tells_own : ShowsOwnApps
 tells_own datagram packets places last end before after accepted told ends =
     show_each datagram places (flat_map packet_apps packets)
     (all_own datagram places begins last (boundary_at_start datagram packets accepted) told)
-    (tells_all packet_apps LeavesNone ShowsApp datagram packets places last end before after accepted
-    (as_told datagram places begins last told) ends)
+    (shows_all packet_apps LeavesNone ShowsApp datagram packets places last end before after accepted
+    (as_shown datagram places begins last told) ends)
 
 -- A packet at an index that is told is one of the datagram's own.
 pub own_located : (datagram : List ℕ) (index result : ℕ) (was place : AppPlace)

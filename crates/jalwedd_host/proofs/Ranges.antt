@@ -24,7 +24,7 @@ at_index : {A : Type 0} (P : A → Type 0) (xs : List A) (index : ℕ) (x : A) �
 at_index P xs index x all is =
     subst P (get_or_from_slice_get xs index x x is) (all index x (slice_get_within xs index x is))
 
--- ---- Items, goodbyes and blocks
+-- ---- Items, BYEs and blocks
 
 pub item : (datagram : List ℕ) (packets : List RtcpPacket) (index : ℕ) (part : ℕ × ItemValue) (place : ItemPlace)
     → AreOctets datagram → IsAccepted datagram packets → slice_get (all_items packets) index ≡ Some part

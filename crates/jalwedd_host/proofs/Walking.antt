@@ -5,7 +5,7 @@ use Rattle.rtcp_wire.specs.Values.{RtcpPacket}
 use Rattle.rtcp_parts.specs.declared.cursor.Cursor.{Cursor}
 use Rattle.rtcp_parts.specs.Walks.{Gives}
 use Rattle.jalwedd_host.specs.Parts.{Locates}
-use Rattle.jalwedd_host.specs.Walks.{Carries, Continues, TellsGiven}
+use Rattle.jalwedd_host.specs.Walks.{Carries, Continues, ShowsGiven}
 
 pub given_same : {Given : Type 0} (a b : Given)
     → ◌≡◌ {A = Result (Option Given) WireFault} (Ok (Some a)) (Ok (Some b)) → a ≡ b
@@ -63,7 +63,7 @@ module _ {Part Given Place : Type 0} {parts_of : RtcpPacket → List Part}
 pub shown_next : {Part Given Place : Type 0} {parts_of : RtcpPacket → List Part}
     {IsLeft : List ℕ → Cursor → List Part → Type 0} (Gave : List ℕ → Part → Given → Type 0)
     (Shows : List ℕ → Place → Part → Type 0) (datagram : List ℕ) {was now : Cursor} {result : ℕ} {before place : Place}
-    → Continues parts_of IsLeft (TellsGiven (Gave datagram) (Carries Gave Shows)) datagram was now result before place
+    → Continues parts_of IsLeft (ShowsGiven (Gave datagram) (Carries Gave Shows)) datagram was now result before place
     → Continues parts_of IsLeft (Shows datagram) datagram was now result before place
 shown_next Gave Shows datagram h = record {
   found = λ packets index part accepted passed is.
@@ -79,7 +79,7 @@ shown_next Gave Shows datagram h = record {
 pub shown_at : {Part Given Place : Type 0} {parts : List RtcpPacket → List Part}
     (Gave : List ℕ → Part → Given → Type 0) (Shows : List ℕ → Place → Part → Type 0) (datagram : List ℕ)
     {index result : ℕ} {was place : Place}
-    → Locates parts (TellsGiven (Gave datagram) (Carries Gave Shows)) datagram index result was place
+    → Locates parts (ShowsGiven (Gave datagram) (Carries Gave Shows)) datagram index result was place
     → Locates parts (Shows datagram) datagram index result was place
 shown_at Gave Shows datagram h = record {
   found = λ packets part accepted at.

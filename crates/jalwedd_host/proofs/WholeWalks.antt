@@ -5,17 +5,17 @@ use Rattle.rtcp_wire.specs.Values.{RtcpPacket}
 use Rattle.rtcp_parts.specs.declared.cursor.Cursor.{Cursor}
 use Rattle.rtcp_parts.specs.Cursors.{HasPassed}
 use Rattle.rtcp_parts.proofs.Calls.{rest_from, rest_none}
-use Rattle.jalwedd_host.specs.Walks.{AreTold, Continues, ShowEach, TellsAll, begins}
+use Rattle.jalwedd_host.specs.Walks.{AreShown, Continues, ShowEach, ShowsAll, begins}
 
 module _ {Part Place : Type 0} {parts_of : RtcpPacket → List Part} {IsLeft : List ℕ → Cursor → List Part → Type 0}
     {Shows : Place → Part → Type 0} (datagram : List ℕ) (packets : List RtcpPacket)
     (accepted : IsAccepted datagram packets) where
   -- A walk that has passed so many parts tells of the others.
-  pub tells_from : (places : List Place) (index : ℕ) (was last end : Cursor) (before after : Place)
-      → HasPassed parts_of IsLeft packets datagram index was → AreTold parts_of IsLeft Shows datagram was places last
+  pub shows_from : (places : List Place) (index : ℕ) (was last end : Cursor) (before after : Place)
+      → HasPassed parts_of IsLeft packets datagram index was → AreShown parts_of IsLeft Shows datagram was places last
       → Continues parts_of IsLeft Shows datagram last end 8 before after
       → ShowEach Shows places (drop index (flat_map parts_of packets))
-  tells_from [] index was last end before after passed told ends =
+  shows_from [] index was last end before after passed told ends =
       elim (slice_get (flat_map parts_of packets) index)
       as (λ r. slice_get (flat_map parts_of packets) index ≡ r
       → ShowEach Shows [] (drop index (flat_map parts_of packets))) [
@@ -23,7 +23,7 @@ module _ {Part Place : Type 0} {parts_of : RtcpPacket → List Part} {IsLeft : L
         | Some part ↦ λ is. absurd (cc (ends.found packets index part accepted
             (subst (HasPassed parts_of IsLeft packets datagram index) (sym told) passed) is).0)
       ] refl
-  tells_from (place ∷ places) index was last end before after passed told ends =
+  shows_from (place ∷ places) index was last end before after passed told ends =
       elim (slice_get (flat_map parts_of packets) index)
       as (λ r. slice_get (flat_map parts_of packets) index ≡ r
       → ShowEach Shows (place ∷ places) (drop index (flat_map parts_of packets))) [
@@ -32,12 +32,12 @@ module _ {Part Place : Type 0} {parts_of : RtcpPacket → List Part} {IsLeft : L
             let found = told.2.found packets index part accepted passed is in
             subst (ShowEach Shows (place ∷ places)) (sym (rest_from (flat_map parts_of packets) index part is)) (
               found.1,
-              tells_from places (index + 1) told.0 last end before after found.2 told.3 ends,
+              shows_from places (index + 1) told.0 last end before after found.2 told.3 ends,
             )
       ] refl
 
-pub tells_all : {Part Place : Type 0} (parts_of : RtcpPacket → List Part)
+pub shows_all : {Part Place : Type 0} (parts_of : RtcpPacket → List Part)
     (IsLeft : List ℕ → Cursor → List Part → Type 0) (Shows : List ℕ → Place → Part → Type 0)
-    → TellsAll parts_of IsLeft Shows
-tells_all parts_of IsLeft Shows datagram packets places last end before after accepted told ends =
-    tells_from datagram packets accepted places 0 begins last end before after (inl (refl, refl)) told ends
+    → ShowsAll parts_of IsLeft Shows
+shows_all parts_of IsLeft Shows datagram packets places last end before after accepted told ends =
+    shows_from datagram packets accepted places 0 begins last end before after (inl (refl, refl)) told ends

@@ -45,18 +45,18 @@ pub record WalksOwn (datagram : List ℕ) (was now : Cursor) (result : ℕ) (pla
   pub own : IsBoundary datagram was.next → result ≡ 0 → IsOwnPlace datagram place
 
 -- Calls that each told of a packet, the first of them with this cursor, and what they told.
-abbrev pub AreOwnTold : List ℕ → (was : Cursor) → List AppPlace → (now : Cursor) → Type 0
-AreOwnTold datagram was [] now = now ≡ was
-AreOwnTold datagram was (place ∷ places) now =
+abbrev pub AreOwnShown : List ℕ → (was : Cursor) → List AppPlace → (now : Cursor) → Type 0
+AreOwnShown datagram was [] now = now ≡ was
+AreOwnShown datagram was (place ∷ places) now =
     (next : Cursor) × (before : AppPlace)
     × Continues packet_apps LeavesNone (ShowsApp datagram) datagram was next 0 before place
-    × WalksOwn datagram was next 0 place × AreOwnTold datagram next places now
+    × WalksOwn datagram was next 0 place × AreOwnShown datagram next places now
 
 -- A walk that begins over an accepted datagram and that no call told of another packet has told of all, each of which
 -- is one of the datagram's own.
-abbrev pub TellsOwnApps : Type 0
-TellsOwnApps =
+abbrev pub ShowsOwnApps : Type 0
+ShowsOwnApps =
     (datagram : List ℕ) (packets : List RtcpPacket) (places : List AppPlace) (last end : Cursor)
-    (before after : AppPlace) → IsAccepted datagram packets → AreOwnTold datagram begins places last
+    (before after : AppPlace) → IsAccepted datagram packets → AreOwnShown datagram begins places last
     → Continues packet_apps LeavesNone (ShowsApp datagram) datagram last end 8 before after
     → ShowEach (ShowsOwnApp datagram) places (flat_map packet_apps packets)

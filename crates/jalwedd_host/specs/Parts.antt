@@ -22,7 +22,7 @@ ShowsItem datagram place item =
     × (place.size ≡ length item.1.text)
     × StandsIn place.offset item.1.text datagram
 
--- where the reason of a goodbye stands, if it gives one
+-- where the reason of a BYE stands, if it gives one
 abbrev pub ShowsReason : List ℕ → GoodbyePlace → Option (List ℕ) → Type 0
 ShowsReason datagram place None = (place.has_reason ≡ 0) × (place.offset ≡ 0) × (place.size ≡ 0)
 ShowsReason datagram place (Some text) =

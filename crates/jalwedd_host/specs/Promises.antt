@@ -72,7 +72,7 @@ pub record TurnsBack (now : ℕ) (before after : Option HostSession) (result : �
 
 -- A call asks for a number. It tells that of the start and the history which the session stands at, and another where
 -- there is no session, and leaves what is held.
-pub record TellsOf
+pub record AnswersOf
     (told : (start : ℕ) → History → ℕ) (otherwise : ℕ) (before after : Option HostSession) (result : ℕ) : Type 0 where
   pub tells : (start : ℕ) (history : History) → LeadsTo before start history → result ≡ told start history
   pub empty : before ≡ None → result ≡ otherwise

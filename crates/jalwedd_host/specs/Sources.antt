@@ -2,10 +2,10 @@
 use Rattle.std.specs.Prelude.{ℕ, ◌≡◌, ◌+◌, ◌-◌, ◌^◌, min, pos, Option, Some, None, is_some, if◌then◌else◌, ◌==◌}
 use Rattle.rtcp_source.specs.declared.reception.Reception.{Reception}
 use Rattle.rtcp_source.specs.declared.reception.LastReport.{LastReport}
-use Rattle.rtcp_source.specs.Summary.{ToldValue}
+use Rattle.rtcp_source.specs.Summary.{LastReportValue}
 use Rattle.rtcp_source.specs.LastBlocks.{LastBlockValue}
 use Rattle.rtcp_source.specs.Receptions.{ReceptionValue}
-use Rattle.rtcp_members.specs.Told.{StateValue}
+use Rattle.rtcp_members.specs.Listings.{StateValue}
 use Rattle.jalwedd_host.specs.declared.source.HostSource.{HostSource}
 use Rattle.jalwedd_host.specs.declared.source.BlockShown.{BlockShown}
 use Rattle.jalwedd_host.specs.Answers.{moment_shown, one_if}
@@ -21,9 +21,9 @@ abbrev pub reception_shown : Option ReceptionValue → ReceptionValue
 reception_shown None = none_received
 reception_shown (Some reception) = reception
 
-abbrev pub told_shown : (start : ℕ) → Option ToldValue → ToldValue
-told_shown start None = record { ntp = 0; rtp = 0; moment = 2 ^ 64 - 1 }
-told_shown start (Some told) = record told { moment = start + told.moment }
+abbrev pub last_report_shown : (start : ℕ) → Option LastReportValue → LastReportValue
+last_report_shown start None = record { ntp = 0; rtp = 0; moment = 2 ^ 64 - 1 }
+last_report_shown start (Some told) = record told { moment = start + told.moment }
 
 abbrev pub block_shown : Option LastBlockValue → LastBlockValue
 block_shown None = record { fraction = 0; highest = 0 }
@@ -38,11 +38,11 @@ IsReceived shown reception =
     × (shown.jitter ≡ (reception_shown reception).jitter)
     × (shown.rate ≡ (reception_shown reception).rate)
 
-abbrev pub IsLastTold : (start : ℕ) → LastReport → Option ToldValue → Type 0
-IsLastTold start shown told =
-    (shown.ntp ≡ (told_shown start told).ntp)
-    × (shown.rtp ≡ (told_shown start told).rtp)
-    × (shown.moment ≡ (told_shown start told).moment)
+abbrev pub ShowsLastReport : (start : ℕ) → LastReport → Option LastReportValue → Type 0
+ShowsLastReport start shown told =
+    (shown.ntp ≡ (last_report_shown start told).ntp)
+    × (shown.rtp ≡ (last_report_shown start told).rtp)
+    × (shown.moment ≡ (last_report_shown start told).moment)
 
 abbrev pub IsBlockShown : BlockShown → Option LastBlockValue → Type 0
 IsBlockShown shown block =
@@ -63,9 +63,9 @@ pub record IsShown (start : ℕ) (shown : HostSource) (state : StateValue) : Typ
   pub highest : shown.highest ≡ (reception_shown state.reception).highest
   pub jitter : shown.jitter ≡ (reception_shown state.reception).jitter
   pub rate : shown.rate ≡ (reception_shown state.reception).rate
-  pub ntp : shown.ntp ≡ (told_shown start state.told).ntp
-  pub told : shown.told ≡ (told_shown start state.told).moment
-  pub rtp : shown.rtp ≡ (told_shown start state.told).rtp
+  pub ntp : shown.ntp ≡ (last_report_shown start state.last_report).ntp
+  pub told : shown.told ≡ (last_report_shown start state.last_report).moment
+  pub rtp : shown.rtp ≡ (last_report_shown start state.last_report).rtp
   pub has_block : shown.has_block ≡ one_if (is_some state.last_block)
   pub fraction : shown.fraction ≡ (block_shown state.last_block).fraction
   pub block_highest : shown.block_highest ≡ (block_shown state.last_block).highest

@@ -36,9 +36,9 @@ Carries {Part = Part} Gave Shows place given =
     (datagram : List ℕ) (part : Part) → Gave datagram part given → Shows datagram place part
 
 -- The host's structure tells what was given of a part.
-abbrev pub TellsGiven :
+abbrev pub ShowsGiven :
     {Part Given Place : Type 0} → (Part → Given → Type 0) → (Place → Given → Type 0) → Place → Part → Type 0
-TellsGiven {Given = Given} Gave Tells place part = (given : Given) × Gave part given × Tells place given
+ShowsGiven {Given = Given} Gave Tells place part = (given : Given) × Gave part given × Tells place given
 
 -- ---- Whole walks
 
@@ -47,13 +47,13 @@ abbrev pub begins : Cursor
 begins = record { next = 0; place = 0; end = 0; left = 0; ssrc = 0 }
 
 -- Calls that each told of a part, the first of them with this cursor, and what they told.
-abbrev pub AreTold :
+abbrev pub AreShown :
     {Part Place : Type 0} → (RtcpPacket → List Part) → (List ℕ → Cursor → List Part → Type 0)
     → (Place → Part → Type 0) → List ℕ → (was : Cursor) → List Place → (now : Cursor) → Type 0
-AreTold parts_of IsLeft Shows datagram was [] now = now ≡ was
-AreTold {Place = Place} parts_of IsLeft Shows datagram was (place ∷ places) now =
+AreShown parts_of IsLeft Shows datagram was [] now = now ≡ was
+AreShown {Place = Place} parts_of IsLeft Shows datagram was (place ∷ places) now =
     (next : Cursor) × (before : Place) × Continues parts_of IsLeft Shows datagram was next 0 before place
-    × AreTold parts_of IsLeft Shows datagram next places now
+    × AreShown parts_of IsLeft Shows datagram next places now
 
 -- what was told shows these parts, one for one and in their order
 abbrev pub ShowEach : {Part Place : Type 0} → (Place → Part → Type 0) → List Place → List Part → Type 0
@@ -62,11 +62,11 @@ ShowEach Shows (place ∷ places) (part ∷ parts) = Shows place part × ShowEac
 ShowEach Shows places parts = ⊥
 
 -- A walk that begins over an accepted datagram and that no call told of another part has told of all parts.
-abbrev pub TellsAll :
+abbrev pub ShowsAll :
     {Part Place : Type 0} → (RtcpPacket → List Part) → (List ℕ → Cursor → List Part → Type 0)
     → (List ℕ → Place → Part → Type 0) → Type 0
-TellsAll {Place = Place} parts_of IsLeft Shows =
+ShowsAll {Place = Place} parts_of IsLeft Shows =
     (datagram : List ℕ) (packets : List RtcpPacket) (places : List Place) (last end : Cursor) (before after : Place)
-    → IsAccepted datagram packets → AreTold parts_of IsLeft (Shows datagram) datagram begins places last
+    → IsAccepted datagram packets → AreShown parts_of IsLeft (Shows datagram) datagram begins places last
     → Continues parts_of IsLeft (Shows datagram) datagram last end 8 before after
     → ShowEach (Shows datagram) places (flat_map parts_of packets)

@@ -5,7 +5,7 @@ ghost use Rattle.rtcp_parts.specs.Placed.{PlacesApp};
 ghost use Rattle.jalwedd_host.specs.Apps.{IsOwnPlace, ShowsApp};
 ghost use Rattle.jalwedd_host.specs.Walks.{Carries};
 
-use crate::walks::Told;
+use crate::walks::Shown;
 use rtcp_parts::PlacedApp;
 
 /// A packet that an application defines (RFC 3550, 6.7), and where its data stand.
@@ -24,16 +24,16 @@ pub struct AppPlace {
     pub name: [u8; 4],
 }
 
-impl Told for PlacedApp {
+impl Shown for PlacedApp {
     type Place = AppPlace;
 
-    ghost tells = { Carries PlacesApp ShowsApp };
+    ghost shows_given = { Carries PlacesApp ShowsApp };
 
-    ghost tells_within = { λ datagram place. place.offset + place.size ≤ length datagram };
+    ghost shows_within = { λ datagram place. place.offset + place.size ≤ length datagram };
 
-    ghost tells_own = { IsOwnPlace };
+    ghost shows_own = { IsOwnPlace };
 
-    fn told(&self) -> AppPlace {
+    fn shown(&self) -> AppPlace {
         AppPlace {
             offset: self.content.place as u64,
             size: self.content.size as u64,

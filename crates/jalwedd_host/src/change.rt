@@ -17,7 +17,7 @@ pub struct RoleChange {
     pub was: u32,
     /// Its role now.
     pub is: u32,
-    /// 1 if it said goodbye, as far as is known of it now, else 0.
+    /// 1 if it sent a BYE, as far as is known of it now, else 0.
     pub left: u32,
 }
 

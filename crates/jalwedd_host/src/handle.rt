@@ -1,11 +1,11 @@
 //! What a host keeps.
 
 ghost use Rattle.std.specs.Prelude.{◌≡◌, ◌≤◌, ◌+◌, ℕ, IfOk, List, MatchOption, MatchResult, Option, Some, None};
-ghost use Rattle.rtcp_members.specs.Told.{StateValue};
+ghost use Rattle.rtcp_members.specs.Listings.{StateValue};
 ghost use Rattle.rtcp_engine.specs.Histories.{History, life_at, setup_at};
-ghost use Rattle.rtcp_engine.specs.Lives.{TellsInLife, entries_in_life};
+ghost use Rattle.rtcp_engine.specs.Lives.{ListsInLife, entries_in_life};
 ghost use Rattle.rtcp_engine.specs.Promises.{SaysStanding};
-ghost use Rattle.rtcp_engine.specs.Views.{LeavesRest, out_told, reply_value, size_written};
+ghost use Rattle.rtcp_engine.specs.Views.{LeavesRest, out_written, reply_value, size_written};
 ghost use Rattle.jalwedd_host.specs.Answers.{HandsNothing, HandsOut, IsBlank, Shows};
 ghost use Rattle.jalwedd_host.specs.Answers.{status_of};
 ghost use Rattle.jalwedd_host.specs.Handles.{Leads, LeadsTo};
@@ -18,7 +18,7 @@ use crate::session::HostSession;
 use crate::source::{HostSource, before};
 use crate::status::{EMPTY, OWN_SSRC, TAKEN, of_refusal};
 use crate::step::HostStep;
-use rtcp_engine::laws::told_moments_have_passed;
+use rtcp_engine::laws::listed_moments_have_passed;
 use rtcp_engine::{Refusal, Reply};
 use std::alloc::Global;
 use std::mem;
@@ -112,18 +112,18 @@ impl Handle {
     #[inline(always)]
     pub fn put_back(&mut self, session: Box<HostSession>, reply: &Reply, step: &mut HostStep) -> u32
         requires vacant { self.old.owned.held ≡ None }
-        requires written { size_written (out_told reply.now) ≤ 1472 }
+        requires written { size_written (out_written reply.now) ≤ 1472 }
         requires standing { IfOk reply.now (λ told. SaysStanding told.standing session.value.participant) }
         ensures held { self.new.owned.held ≡ Some session.value }
         ensures status { (octets : List ℕ) → result ≡ status_of (reply_value octets reply.now) }
-        ensures handed { (was octets : List ℕ) → LeavesRest was octets (out_told reply.now) →
+        ensures handed { (was octets : List ℕ) → LeavesRest was octets (out_written reply.now) →
             HandsOut step.new was octets (reply_value octets reply.now) }
         ensures shown { (start : ℕ) (history : History) → Leads session.value start history →
             Shows start step.new history }
     {
         match reply {
             Ok(told) => {
-                *step = session.step_told(told);
+                *step = session.step_after(told);
                 self.put(session);
                 TAKEN
             }
@@ -177,10 +177,10 @@ impl Handle {
 
     /// What is known of the source of least SSRC from `from` on: nothing where the handle is empty.
     pub fn source(&mut self, alloc: Global, from: u64) -> Option<HostSource>
-        ensures told { (start : ℕ) (history : History) → LeadsTo self.old.owned.held start history →
-            MatchOption result (TellsInLife (setup_at history) (after_of from) (life_at history) None)
+        ensures listed { (start : ℕ) (history : History) → LeadsTo self.old.owned.held start history →
+            MatchOption result (ListsInLife (setup_at history) (after_of from) (life_at history) None)
             (λ shown. (state : StateValue)
-            × TellsInLife (setup_at history) (after_of from) (life_at history) (Some state)
+            × ListsInLife (setup_at history) (after_of from) (life_at history) (Some state)
             × IsShown start shown state) }
         ensures none { self.old.owned.held ≡ None → result ≡ None }
         ensures kept { self.new.owned.held ≡ self.old.owned.held }
@@ -188,7 +188,7 @@ impl Handle {
         match self.take(alloc) {
             Some(mut session) => {
                 // what is told lies in the past, so the clock can show it
-                told_moments_have_passed();
+                listed_moments_have_passed();
                 let state = session.participant.next_source(before(from));
                 let start = session.start;
                 self.put(session);

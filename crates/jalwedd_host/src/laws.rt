@@ -8,10 +8,10 @@ ghost use Rattle.rtcp_wire.specs.RtpHeads.{RtpValue, IsReserved, IsRtpHead};
 ghost use Rattle.rtcp_wire.specs.declared.fault.FaultReason.{FaultReason as Rule};
 ghost use Rattle.rtcp_wire.specs.declared.rtp.fault.RtpFault.{RtpFault as HeadRule};
 ghost use Rattle.rtcp_wire.specs.Values.{AppValue, ItemValue, ReportBlock, RtcpPacket};
-ghost use Rattle.rtcp_members.specs.Told.{StateValue};
+ghost use Rattle.rtcp_members.specs.Listings.{StateValue};
 ghost use Rattle.rtcp_listing.specs.Differences.{listed_of};
 ghost use Rattle.rtcp_engine.specs.Histories.{History, life_at, setup_at};
-ghost use Rattle.rtcp_engine.specs.Lives.{TellsInLife};
+ghost use Rattle.rtcp_engine.specs.Lives.{ListsInLife};
 ghost use Rattle.rtcp_engine.specs.Setups.{with_settings};
 ghost use Rattle.rtcp_engine.specs.Taken.{IsHistory};
 ghost use Rattle.rtcp_listing.specs.declared.change.Change.{Change};
@@ -28,22 +28,22 @@ ghost use Rattle.jalwedd_host.specs.declared.parts.GoodbyePlace.{GoodbyePlace};
 ghost use Rattle.jalwedd_host.specs.declared.parts.ItemPlace.{ItemPlace};
 ghost use Rattle.jalwedd_host.specs.declared.reading.Report.{Report};
 ghost use Rattle.rtcp_parts.specs.Cursors.{IsBoundary, LeavesBlocks, LeavesGoodbyes, LeavesItems, LeavesNone};
-ghost use Rattle.jalwedd_host.specs.Apps.{ShowsApp, TellsOwnApps};
+ghost use Rattle.jalwedd_host.specs.Apps.{ShowsApp, ShowsOwnApps};
 ghost use Rattle.jalwedd_host.specs.Heads.{ShowsHead, number_of_head_fault};
 ghost use Rattle.jalwedd_host.specs.Parts.{ShowsGoodbye, ShowsItem, ShowsSender};
 ghost use Rattle.jalwedd_host.specs.Readings.{ShowsBlock, number_of};
-ghost use Rattle.jalwedd_host.specs.Walks.{TellsAll, begins};
+ghost use Rattle.jalwedd_host.specs.Walks.{ShowsAll, begins};
 
-use rtcp_engine::difference_laws::changes_tell_each_once;
-use rtcp_engine::laws::told_moments_have_passed;
+use rtcp_engine::difference_laws::changes_have_each_once;
+use rtcp_engine::laws::listed_moments_have_passed;
 
 /// After any history, and whatever the start, what a host is given of a source says what the participant lists of it.
-pub fn told_sources_are_listed()
+pub fn shown_sources_are_listed()
     ensures { (history : History) → IsHistory history → (after : Option ℕ) (state : StateValue) →
-        TellsInLife (setup_at history) after (life_at history) (Some state) → (start : ℕ) → start < 2 ^ 63 →
+        ListsInLife (setup_at history) after (life_at history) (Some state) → (start : ℕ) → start < 2 ^ 63 →
         (shown : HostSource) → IsShown start shown state → listed_by shown ≡ listed_of state }
 {
-    told_moments_have_passed();
+    listed_moments_have_passed();
 }
 
 /// Settings that a host gives in a running session leave it with the setup of a configuration that had them from the
@@ -59,28 +59,28 @@ pub fn settings_are_as_configured()
 
 /// Begun with 0, and gone on with the SSRC told and 1, the changes between two listings are told in order,
 /// each once.
-pub fn changes_are_told_in_turn()
+pub fn changes_are_shown_in_turn()
     ensures first { (before after : List HostSource) →
         change_from 0 before after ≡ slice_get (changes_between before after) 0 }
     ensures next { (before after : List HostSource) (index : ℕ) (change : Change) →
         slice_get (changes_between before after) index ≡ Some change →
         change_from (change.ssrc + 1) before after ≡ slice_get (changes_between before after) (index + 1) }
 {
-    changes_tell_each_once();
+    changes_have_each_once();
 }
 
 /// Begun with a cursor of zeros, and gone on with until no part is told, a walk over a datagram that is a compound
 /// tells of each part of its kind once, in their order. A cursor of zeros stands at a boundary of its packets, so that
 /// each packet of an application is one of the datagram's own (`WalksOwn`), and none inside another.
-pub fn walks_tell_of_each_part()
-    ensures senders { TellsAll packet_senders LeavesNone (λ datagram. ShowsSender) }
-    ensures blocks { TellsAll packet_blocks LeavesBlocks (λ datagram. ShowsBlock) }
-    ensures items { TellsAll packet_items LeavesItems ShowsItem }
-    ensures goodbyes { TellsAll packet_goodbyes LeavesGoodbyes ShowsGoodbye }
-    ensures apps { TellsAll packet_apps LeavesNone ShowsApp }
+pub fn walks_show_each_part()
+    ensures senders { ShowsAll packet_senders LeavesNone (λ datagram. ShowsSender) }
+    ensures blocks { ShowsAll packet_blocks LeavesBlocks (λ datagram. ShowsBlock) }
+    ensures items { ShowsAll packet_items LeavesItems ShowsItem }
+    ensures goodbyes { ShowsAll packet_goodbyes LeavesGoodbyes ShowsGoodbye }
+    ensures apps { ShowsAll packet_apps LeavesNone ShowsApp }
     ensures boundary { (datagram : List ℕ) (packets : List RtcpPacket) → IsAccepted datagram packets →
         IsBoundary datagram begins.next }
-    ensures own_apps { TellsOwnApps }
+    ensures own_apps { ShowsOwnApps }
 {}
 
 /// The number of a reason says which rule a datagram breaks: no two rules of compounds or of RTP heads have the same.
@@ -94,7 +94,7 @@ pub fn reasons_tell_the_rule()
 /// 255 and a text of at most 255 octets, reasons at most 255 octets, packets of applications a subtype of at most 31
 /// and whole words of data, report blocks a number of lost packets of 24 bits with a sign, and RTP heads a payload type
 /// below 128 that is not reserved, a sequence number below 65,536 and at most 15 CSRCs.
-pub fn told_parts_are_in_range()
+pub fn shown_parts_are_in_range()
     ensures item { (datagram : List ℕ) (packets : List RtcpPacket) (index : ℕ) (part : ℕ × ItemValue)
         (place : ItemPlace) → AreOctets datagram → IsAccepted datagram packets →
         slice_get (all_items packets) index ≡ Some part → ShowsItem datagram place part →

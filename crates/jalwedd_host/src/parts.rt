@@ -1,4 +1,4 @@
-//! How a host is told of the parts of a datagram: senders, SDES items and goodbyes.
+//! How a host is told of the parts of a datagram: senders, SDES items and BYEs.
 
 ghost use Rattle.std.specs.Prelude.{◌≤◌, ◌+◌, length};
 ghost use Rattle.rtcp_parts.specs.Placed.{PlacesGoodbye, PlacesItem};
@@ -6,7 +6,7 @@ ghost use Rattle.rtcp_parts.specs.Senders.{ShowsSender as SaysSender};
 ghost use Rattle.jalwedd_host.specs.Parts.{ShowsGoodbye, ShowsItem, ShowsSender};
 ghost use Rattle.jalwedd_host.specs.Walks.{Carries};
 
-use crate::walks::Told;
+use crate::walks::Shown;
 pub use rtcp_parts::Sender as SenderInfo;
 use rtcp_parts::{PlacedGoodbye, PlacedItem, Sender};
 
@@ -28,34 +28,34 @@ pub struct ItemPlace {
 #[repr(C)]
 #[derive(Clone, Copy, Debug, PartialEq, Eq)]
 pub struct GoodbyePlace {
-    /// The octets of the datagram before the reason's text, or 0 where the goodbye gives none.
+    /// The octets of the datagram before the reason's text, or 0 where the BYE gives none.
     pub offset: u64,
     /// The octets of its text: 0 to 255.
     pub size: u64,
     /// The SSRC of the source.
     pub ssrc: u32,
-    /// 1 where the goodbye gives a reason, and be it one of 0 octets; else 0.
+    /// 1 where the BYE gives a reason, and be it one of 0 octets; else 0.
     pub has_reason: u32,
 }
 
-impl Told for Sender {
+impl Shown for Sender {
     type Place = Sender;
 
-    ghost tells = { Carries (λ datagram. SaysSender) (λ datagram. ShowsSender) };
+    ghost shows_given = { Carries (λ datagram. SaysSender) (λ datagram. ShowsSender) };
 
-    fn told(&self) -> Sender {
+    fn shown(&self) -> Sender {
         *self
     }
 }
 
-impl Told for PlacedItem {
+impl Shown for PlacedItem {
     type Place = ItemPlace;
 
-    ghost tells = { Carries PlacesItem ShowsItem };
+    ghost shows_given = { Carries PlacesItem ShowsItem };
 
-    ghost tells_within = { λ datagram place. place.offset + place.size ≤ length datagram };
+    ghost shows_within = { λ datagram place. place.offset + place.size ≤ length datagram };
 
-    fn told(&self) -> ItemPlace {
+    fn shown(&self) -> ItemPlace {
         ItemPlace {
             offset: self.text.place as u64,
             size: self.text.size as u64,
@@ -65,14 +65,14 @@ impl Told for PlacedItem {
     }
 }
 
-impl Told for PlacedGoodbye {
+impl Shown for PlacedGoodbye {
     type Place = GoodbyePlace;
 
-    ghost tells = { Carries PlacesGoodbye ShowsGoodbye };
+    ghost shows_given = { Carries PlacesGoodbye ShowsGoodbye };
 
-    ghost tells_within = { λ datagram place. place.offset + place.size ≤ length datagram };
+    ghost shows_within = { λ datagram place. place.offset + place.size ≤ length datagram };
 
-    fn told(&self) -> GoodbyePlace {
+    fn shown(&self) -> GoodbyePlace {
         match self.reason {
             Some(text) => GoodbyePlace {
                 offset: text.place as u64,

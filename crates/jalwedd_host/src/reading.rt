@@ -6,7 +6,7 @@ ghost use Rattle.rtcp_parts.specs.Cursors.{ShowsReported};
 ghost use Rattle.jalwedd_host.specs.Readings.{ShowsBlock, number_of};
 ghost use Rattle.jalwedd_host.specs.Walks.{Carries};
 
-use crate::walks::Told;
+use crate::walks::Shown;
 use rtcp_parts::Reported;
 use rtcp_wire::{Block, FaultReason};
 
@@ -76,12 +76,12 @@ pub fn shown(reporter: u32, block: &Block) -> Report
     }
 }
 
-impl Told for Reported {
+impl Shown for Reported {
     type Place = Report;
 
-    ghost tells = { Carries (λ datagram. ShowsReported) (λ datagram. ShowsBlock) };
+    ghost shows_given = { Carries (λ datagram. ShowsReported) (λ datagram. ShowsBlock) };
 
-    fn told(&self) -> Report {
+    fn shown(&self) -> Report {
         shown(self.0, &self.1)
     }
 }

@@ -8,7 +8,7 @@ ghost use Rattle.jalwedd_host.specs.Answers.{HandsNothing, HandsOut, Shows, earl
 ghost use Rattle.jalwedd_host.specs.Handles.{Leads};
 
 use crate::step::HostStep;
-use rtcp_engine::{Participant, Refusal, Told};
+use rtcp_engine::{Participant, Refusal, WrittenStep};
 use rtcp_members::HeapTable;
 
 /// What a host in C has on the heap.
@@ -50,7 +50,7 @@ impl HostSession {
 
     /// What there is to tell of a call that was taken, and left the participant so.
     #[inline(always)]
-    pub(crate) fn step_told(&self, told: &Told) -> HostStep
+    pub(crate) fn step_after(&self, told: &WrittenStep) -> HostStep
         requires written { size_written told.now.out ≤ 1472 }
         requires standing { SaysStanding told.now.standing self.now.participant }
         ensures shown { (start : ℕ) (history : History) → Leads self.now start history →
@@ -58,6 +58,6 @@ impl HostSession {
         ensures handed { (was octets : List ℕ) → LeavesRest was octets told.now.out →
             HandsOut result was octets (reply_value octets (Ok told.now)) }
     {
-        HostStep::told(self.start, told)
+        HostStep::written(self.start, told)
     }
 }

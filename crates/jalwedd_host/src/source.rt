@@ -2,10 +2,10 @@
 
 ghost use Rattle.std.specs.Prelude.{◌≡◌, ◌<◌, ◌+◌, ◌-◌, ◌^◌, ℕ, IfSome, option_map};
 ghost use Rattle.rtcp_members.specs.ListViews.{state_value};
-ghost use Rattle.rtcp_members.specs.Past.{IsToldBy};
-ghost use Rattle.rtcp_source.specs.Views.{last_block_value, reception_value, told_value};
+ghost use Rattle.rtcp_members.specs.Past.{IsKnownBy};
+ghost use Rattle.rtcp_source.specs.Views.{last_block_value, reception_value, last_report_value};
 ghost use Rattle.jalwedd_host.specs.Answers.{moment_shown, one_if};
-ghost use Rattle.jalwedd_host.specs.Sources.{IsBlockShown, IsReceived, IsLastTold, IsShown, after_of};
+ghost use Rattle.jalwedd_host.specs.Sources.{IsBlockShown, IsReceived, ShowsLastReport, IsShown, after_of};
 
 use crate::step::{NEVER, on_clock};
 use rtcp_members::SourceState;
@@ -17,7 +17,7 @@ use rtcp_source::{LastBlock, LastReport, Reception};
 pub struct HostSource {
     /// When it was last heard before it left, in microseconds of the host's clock.
     pub heard: u64,
-    /// When it said goodbye, by that clock: 2^64 - 1 where it did not leave.
+    /// When it sent a BYE, by that clock: 2^64 - 1 where it did not leave.
     pub left: u64,
     /// When its last sender report came, by that clock: 2^64 - 1 where none came.
     pub told: u64,
@@ -65,11 +65,11 @@ struct BlockShown {
 impl HostSource {
     /// How what is known of a source is told, where the host's clock showed `start` at moment 0.
     pub(crate) fn of(state: &SourceState, start: u64) -> HostSource
-        ensures { (latest : ℕ) → start + latest < 2 ^ 64 - 1 → IsToldBy latest (state_value state.now) →
+        ensures { (latest : ℕ) → start + latest < 2 ^ 64 - 1 → IsKnownBy latest (state_value state.now) →
             IsShown start result (state_value state.now) }
     {
         let reception = received(state.reception);
-        let told = last_told(state.told, start);
+        let told = last_report_of(state.told, start);
         let block = last_block(state.last_block);
         HostSource {
             heard: start.saturating_add(state.heard),
@@ -122,9 +122,9 @@ fn received(reception: Option<Reception>) -> Reception
 }
 
 /// 2^64 - 1 and zeros where no sender report came.
-fn last_told(told: Option<LastReport>, start: u64) -> LastReport
+fn last_report_of(told: Option<LastReport>, start: u64) -> LastReport
     ensures { IfSome told (λ t. start + t.moment < 2 ^ 64 - 1) →
-        IsLastTold start result (option_map told_value told) }
+        ShowsLastReport start result (option_map last_report_value told) }
 {
     match told {
         Some(told) => LastReport {

@@ -4,7 +4,7 @@ ghost use Rattle.std.specs.Prelude.{◌≡◌, ◌↔◌, ◌≤◌, ◌<◌, �
 ghost use Rattle.rtcp_engine.specs.Views.{LeavesRest, reply_value, size_written};
 ghost use Rattle.jalwedd_host.specs.Answers.{HandsNothing, HandsOut, IsBlank, ShowsStanding, moment_shown, number_written};
 
-use rtcp_engine::{OutKind, Standing, Told, Written};
+use rtcp_engine::{OutKind, Standing, Written, WrittenStep};
 
 /// What `next` is where there is no moment to tick at.
 pub const NEVER: u64 = u64::MAX;
@@ -74,7 +74,7 @@ impl HostStep {
 
     /// That of a call that was taken.
     #[inline(always)]
-    pub(crate) fn told(start: u64, told: &Told) -> HostStep
+    pub(crate) fn written(start: u64, told: &WrittenStep) -> HostStep
         requires { size_written told.now.out ≤ 1472 }
         ensures shown { IfSome told.now.standing.next (λ next. start + next < 2 ^ 64 - 1) →
             ShowsStanding start result told.now.standing }

@@ -5,11 +5,11 @@ use Rattle.rtcp_engine.specs.declared.changes.IdentifierChange.{IdentifierChange
 use Rattle.rtcp_engine.specs.declared.pace.Pace.{Pace}
 use Rattle.rtcp_engine.specs.declared.refusal.Refusal.{Refusal}
 use Rattle.rtcp_engine.specs.declared.step.Step.{Step}
-use Rattle.rtcp_engine.specs.declared.step.Told.{Told}
+use Rattle.rtcp_engine.specs.declared.step.WrittenStep.{WrittenStep}
 use Rattle.rtcp_engine.specs.declared.step.Written.{Written}
 use Rattle.rtcp_engine.specs.Setups.{Setup, SettingsValue, settings_of, with_settings}
 use Rattle.rtcp_engine.specs.Acts.{Act, EventValue, IsActOfEvent, configured, moment_of}
-use Rattle.rtcp_engine.specs.Leaving.{Backoff, Life, present, backing_off, gone, leaving_count}
+use Rattle.rtcp_engine.specs.Leaving.{Backoff, Life, present, backing_off, finished, leaving_count}
 use Rattle.rtcp_engine.specs.Lives.{lived, others_moved_by, others_moved_into, out_by, out_while_backing_off, out_while_present, step_into, while_backing_off, while_present}
 use Rattle.rtcp_engine.specs.Outcomes.{Outcome}
 use Rattle.rtcp_engine.specs.Changes.{NewIdentifier, Session, bye_of_change, change_by, changed_by}
@@ -21,7 +21,7 @@ use Rattle.rtcp_engine.specs.Runs.{IsAnsweredInTime}
 use Rattle.rtcp_engine.specs.States.{State, Acts, Agrees, Does, StandsStill, IsAt, IsIn, IsPaceOf, KeepsCapacity, MovesOthers, Stays, ParticipantValue, PhaseValue, StandsAt, Waits, called, leaving, over, refusal_by, taking_part, with_settings_in}
 use Rattle.rtcp_engine.specs.Steps.{AnswerValue, OutValue, StepValue, answer_unless}
 use Rattle.rtcp_engine.specs.Taken.{HasWords}
-use Rattle.rtcp_engine.specs.Views.{LeavesRest, answer_value, reply_value, told_value}
+use Rattle.rtcp_engine.specs.Views.{LeavesRest, answer_value, reply_value, written_step_value}
 use Rattle.rtcp_engine.proofs.Agreeing.{calls_agree, with_own}
 use Rattle.rtcp_engine.proofs.LifeLemmas.{is_taking_part, is_leaving, leaving_members}
 use Rattle.rtcp_engine.proofs.AnswerLemmas.{refusal_is, refused_answer, taken_history, whole_refused}
@@ -35,7 +35,7 @@ pub at_present : (p : ParticipantValue) → p.phase ≡ taking_part → (P : Lif
 at_present p phase P here (present outcome) at = here outcome at.1
 at_present p phase P here (backing_off outcome backoff) at =
     absurd (cc (sym (ap is_taking_part at.0) ∙ ap is_taking_part phase))
-at_present p phase P here (gone outcome) at = absurd (cc (sym (ap is_taking_part at) ∙ ap is_taking_part phase))
+at_present p phase P here (finished outcome) at = absurd (cc (sym (ap is_taking_part at) ∙ ap is_taking_part phase))
 
 pub at_backing_off : (p : ParticipantValue) → (members : ℕ) → p.phase ≡ leaving members → (P : Life → Type 0)
     → ((outcome : Outcome) (backoff : Backoff) → Waits p.presence outcome backoff → members ≡ leaving_count backoff →
@@ -44,13 +44,14 @@ at_backing_off p members phase P here (present outcome) at =
     absurd (cc (sym (ap is_leaving at.0) ∙ ap is_leaving phase))
 at_backing_off p members phase P here (backing_off outcome backoff) at = here outcome backoff at.1
     (sym (ap leaving_members phase) ∙ ap leaving_members at.0)
-at_backing_off p members phase P here (gone outcome) at = absurd (cc (sym (ap is_leaving at) ∙ ap is_leaving phase))
+at_backing_off p members phase P here (finished outcome) at = absurd (cc (sym (ap is_leaving at) ∙ ap is_leaving phase))
 
-pub at_gone : (p : ParticipantValue) → p.phase ≡ over → (P : Life → Type 0) → ((outcome : Outcome) → P (gone outcome)) →
+pub at_gone : (p : ParticipantValue) → p.phase ≡ over → (P : Life → Type 0) →
+    ((outcome : Outcome) → P (finished outcome)) →
     (life : Life) → IsAt p life → P life
 at_gone p phase P here (present outcome) at = absurd (cc (sym (ap is_taking_part at.0) ∙ ap is_taking_part phase))
 at_gone p phase P here (backing_off outcome backoff) at = absurd (cc (sym (ap is_leaving at.0) ∙ ap is_leaving phase))
-at_gone p phase P here (gone outcome) at = here outcome
+at_gone p phase P here (finished outcome) at = here outcome
 
 -- what is said of the life of one that takes part, by its parts inside
 pub said_at : {p w : ParticipantValue} → p ≡ w → p.phase ≡ taking_part → (P : Setup → Life → Type 0) →
@@ -214,7 +215,7 @@ acts_configured {p} settings pace paced = record {
         still = set_still settings pace p.presence outcome at.1.still;
       },
     )
-    lives (gone outcome) at = at
+    lives (finished outcome) at = at
 
     outs : (life : Life) → IsAt p life → None ≡ out_by p.presence.setup act life
     outs (present outcome) at = refl
@@ -247,7 +248,7 @@ call_keeps moment p (backing_off outcome backoff) at = (
     still = with_own p.presence outcome at.1.still at.1.still.own;
   },
 )
-call_keeps moment p (gone outcome) at = at
+call_keeps moment p (finished outcome) at = at
 
 -- ---- Histories
 
@@ -377,15 +378,15 @@ pub leaves_all : {octets : List ℕ} → LeavesRest octets octets None
 leaves_all = record { fits = omega arith; room = omega arith; rest = refl }
 
 -- a call that is taken
-pub replied : {p q : ParticipantValue} {event : EventValue} {before after : List ℕ} {told : Told}
+pub replied : {p q : ParticipantValue} {event : EventValue} {before after : List ℕ} {told : WrittenStep}
     {written : Option Written} →
-    ((act : Act) → IsActOfEvent event act → Promised p act (Ok (told_value after told)) q) →
+    ((act : Act) → IsActOfEvent event act → Promised p act (Ok (written_step_value after told)) q) →
     KeepsCapacity q.presence → SaysStanding told.standing q → told.out ≡ written → LeavesRest before after written →
     Replies p event before after (Ok told) q
 replied {before} {after} takes within standing out leaves = record {
   takes = takes;
   spares = record { within = within; refused = tt };
-  tells = record { standing = standing; leaves = subst (LeavesRest before after) (sym out) leaves };
+  writes = record { standing = standing; leaves = subst (LeavesRest before after) (sym out) leaves };
 }
 
 -- one that is refused
@@ -395,7 +396,7 @@ pub refused : {p : ParticipantValue} {event : EventValue} {octets : List ℕ} {r
 refused takes within = record {
   takes = takes;
   spares = record { within = within; refused = refl };
-  tells = record { standing = tt; leaves = leaves_all };
+  writes = record { standing = tt; leaves = leaves_all };
 }
 
 -- one that is refused, whatever it tells
@@ -408,14 +409,15 @@ call_refused {p} {event} {octets} {moment} {reason} at same = refused (λ act is
 
 -- the same answer, with a compound of its own in place of octets of the caller's
 pub with_compound : {p q : ParticipantValue} {event : EventValue} {before after : List ℕ}
-    (reply : Result Told Refusal) (answer : Result Step Refusal) → answer_value answer ≡ reply_value after reply →
+    (reply : Result WrittenStep Refusal) (answer : Result Step Refusal) →
+    answer_value answer ≡ reply_value after reply →
     Replies p event before after reply q → Answers p event answer q
 with_compound {p} {q} {event} {before} {after} reply answer same replies = record {
   takes = λ act is. subst (λ (given : AnswerValue). Promised p act given q) (sym same) (replies.takes act is);
   spares = spared reply answer same replies.spares;
 }
   where
-    spared : (reply : Result Told Refusal) (answer : Result Step Refusal) →
+    spared : (reply : Result WrittenStep Refusal) (answer : Result Step Refusal) →
         answer_value answer ≡ reply_value after reply → Spares p reply q → Spares p answer q
     spared reply (Ok step) same spares = record { within = spares.within; refused = tt }
     spared (Err reason) (Err refusal) same spares = record { within = spares.within; refused = spares.refused }

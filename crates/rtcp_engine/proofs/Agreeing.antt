@@ -12,7 +12,7 @@ use Rattle.rtcp_members.specs.News.{pending_rows_at}
 use Rattle.std.specs.FinMap as finite
 use Rattle.rtcp_members.specs.Traces.{names}
 use Rattle.rtcp_members.specs.Stays.{present_among, stay_of}
-use Rattle.rtcp_members.specs.Told.{StateValue, state_above, states_above, TellsAbove, IsWalk}
+use Rattle.rtcp_members.specs.Listings.{StateValue, state_above, states_above, ListsAbove, IsWalk}
 use Rattle.rtcp_members.proofs.LawLemmas as tables
 use Rattle.rtcp_report.specs.Reports.{Reporter, packets_with}
 use Rattle.rtcp_report.specs.Sizes.{fitting, reported_rows, report_of}
@@ -47,19 +47,19 @@ pub entries_agree : (s : State) (o : Outcome) → Agrees s o → finite.len s.ta
 entries_agree s o a = tables.counts_agree-entries s.table o.trace a.still.table
     ∙ ap (λ (c : ℕ). present_among (names o.trace) (stay_of c o.trace)) a.still.capacity
 
-pub tells_agree : (s : State) (o : Outcome) → Agrees s o → (after : Option ℕ) (told : Option StateValue) →
-    told ≡ state_above after s.table → TellsAbove after s.setup.capacity o.trace told
-tells_agree s o a after told is =
-    subst (λ (c : ℕ). TellsAbove after c o.trace told) a.still.capacity
-    (subst (λ (t : Option StateValue). TellsAbove after s.table.capacity o.trace t) (sym is)
-    (tables.told_follows_traces-told after s.table o.trace a.still.table))
+pub lists_agree : (s : State) (o : Outcome) → Agrees s o → (after : Option ℕ) (listed : Option StateValue) →
+    listed ≡ state_above after s.table → ListsAbove after s.setup.capacity o.trace listed
+lists_agree s o a after listed is =
+    subst (λ (c : ℕ). ListsAbove after c o.trace listed) a.still.capacity
+    (subst (λ (t : Option StateValue). ListsAbove after s.table.capacity o.trace t) (sym is)
+    (tables.listings_follow_traces-listed after s.table o.trace a.still.table))
 
 pub walks_agree : (s : State) (o : Outcome) → Agrees s o → (states : List StateValue) →
     states ≡ states_above None s.table → IsWalk None s.setup.capacity o.trace states
 walks_agree s o a states is =
     subst (λ (c : ℕ). IsWalk None c o.trace states) a.still.capacity
     (subst (λ (l : List StateValue). IsWalk None s.table.capacity o.trace l) (sym is)
-    (tables.tables_tell_walks-walk None s.table o.trace a.still.table))
+    (tables.tables_list_walks-walk None s.table o.trace a.still.table))
 
 pub senders_agree : (s : State) (o : Outcome) → Agrees s o → senders_in s.table + one_if (is_some s.own.sending)
     ≡ sender_count s.setup o

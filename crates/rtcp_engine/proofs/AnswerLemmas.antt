@@ -3,7 +3,7 @@ use Rattle.std.proofs.Common.{◌≡◌, length, Option, Some, None, Err, refl, 
 use Rattle.std.specs.Option.{option_or}
 use Rattle.rtcp_engine.specs.declared.refusal.Refusal.{Refusal}
 use Rattle.rtcp_engine.specs.Acts.{Act, moment_of}
-use Rattle.rtcp_engine.specs.Leaving.{Life, present, backing_off, gone}
+use Rattle.rtcp_engine.specs.Leaving.{Life, present, backing_off, finished}
 use Rattle.rtcp_engine.specs.Histories.{History, last_moment, life_at, session_at, with_act}
 use Rattle.rtcp_engine.specs.Refusals.{call_refusal, refusal_after, refusal_in, refusal_of, refusal_of_content}
 use Rattle.rtcp_engine.specs.Steps.{answer_unless}
@@ -18,7 +18,7 @@ refusal_at p (present outcome) at call datagram =
     sym (ap (λ (phase : PhaseValue). option_or (refusal_in_phase phase call) datagram) at.0)
 refusal_at p (backing_off outcome backoff) at call datagram =
     sym (ap (λ (phase : PhaseValue). option_or (refusal_in_phase phase call) datagram) at.0)
-refusal_at p (gone outcome) at call datagram =
+refusal_at p (finished outcome) at call datagram =
     sym (ap (λ (phase : PhaseValue). option_or (refusal_in_phase phase call) datagram) at)
 
 -- A participant refuses what its history refuses: as any call then, or for the datagram.
@@ -33,7 +33,7 @@ refusal_is p h act call datagram stands calls datagrams =
     ∙ (λ i. option_or (calls i) (datagrams i))
 
 none_before : (life : Life) (refusal : Option Refusal) → refusal_in life refusal ≡ None → refusal ≡ None
-none_before (gone outcome) refusal none = absurd cc
+none_before (finished outcome) refusal none = absurd cc
 none_before life refusal none = none
 
 pub neither : (first second : Option Refusal) → option_or first second ≡ None → (first ≡ None) × (second ≡ None)

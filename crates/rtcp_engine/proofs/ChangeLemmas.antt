@@ -3,7 +3,7 @@ use Rattle.std.proofs.Common.{◌≡◌, ℕ, ◌+◌, Bool, true, false, List, 
 use Rattle.std.proofs.lemmas.List.{length-append}
 use Rattle.std.proofs.lemmas.List.Concat.{flat_map-append}
 use Rattle.rtcp_wire.specs.Writing.{written, written_all}
-use Rattle.rtcp_report.specs.Reports.{packets_with, receiver_named, goodbye}
+use Rattle.rtcp_report.specs.Reports.{packets_with, receiver_named, bye_packet}
 use Rattle.rtcp_report.proofs.LawLemmas.{size_is_that_of_the_octets}
 use Rattle.rtcp_timer.specs.Averages.{average_of, moved_average}
 use Rattle.rtcp_engine.specs.Setups.{Setup}
@@ -13,8 +13,8 @@ use Rattle.rtcp_engine.specs.OwnValues.{own_anew}
 use Rattle.rtcp_engine.specs.Outcomes.{Outcome}
 use Rattle.rtcp_engine.specs.Arrivals.{with_change}
 use Rattle.rtcp_engine.specs.Reporting.{bye_octets}
-use Rattle.rtcp_engine.specs.Leaving.{Farewell, Backoff, Life, present, backing_off, gone, after_own_bye, counted_anew, leaving_average}
-use Rattle.rtcp_engine.specs.Lives.{bye_if_heard, bye_out, own_bye, with_new_ssrc}
+use Rattle.rtcp_engine.specs.Leaving.{ByeCompound, Backoff, Life, present, backing_off, finished, after_own_bye, counted_anew, leaving_average}
+use Rattle.rtcp_engine.specs.Lives.{bye_if_sent, bye_out, own_bye, with_new_ssrc}
 use Rattle.rtcp_engine.specs.Changes.{NewIdentifier, Session, changed_to}
 use Rattle.rtcp_engine.specs.States.{State, Agrees, StandsStill, Waits, ParticipantValue, IsAt, IsIn, leaving, over, own_bye_in, after_change}
 use Rattle.rtcp_engine.proofs.Agreeing.{with_own}
@@ -33,8 +33,8 @@ byes_are_of_one_size ssrc setup = parts ssrc ∙ sym (parts setup.ssrc)
     parts : (id : ℕ) → length (bye_octets (with_ssrc id setup)) ≡ Rattle.rtcp_report.specs.Sizes.report_size
         (receiver_named setup.ssrc setup.cname) 0 + 8
     parts id =
-        ap length (flat_map-append written (packets_with (receiver_named id setup.cname) []) (goodbye id ∷ []))
-        ∙ length-append (report id) (written_all (goodbye id ∷ []))
+        ap length (flat_map-append written (packets_with (receiver_named id setup.cname) []) (bye_packet id ∷ []))
+        ∙ length-append (report id) (written_all (bye_packet id ∷ []))
         ∙ ap (λ (n : ℕ). n + 8) (size_is_that_of_the_octets (receiver_named id setup.cname) [])
 
 -- ---- Numbers
@@ -78,27 +78,27 @@ changed_agrees s o ssrc a = record {
 -- ---- Backoffs
 
 bye_moves_average : (heard : Bool) (size : ℕ) (setup : Setup) (backoff : Backoff)
-    → (if heard then moved_average (leaving_average setup backoff.farewells) size else leaving_average setup
-    backoff.farewells) ≡ leaving_average setup (with_bye heard size backoff).farewells
+    → (if heard then moved_average (leaving_average setup backoff.bye_compounds) size else leaving_average setup
+    backoff.bye_compounds) ≡ leaving_average setup (with_bye heard size backoff).bye_compounds
 bye_moves_average true size setup backoff = refl
 bye_moves_average false size setup backoff = refl
 
-average_with_ssrc : (ssrc : ℕ) (setup : Setup) (farewells : List Farewell) →
-    leaving_average (with_ssrc ssrc setup) farewells ≡ leaving_average setup farewells
-average_with_ssrc ssrc setup farewells =
-    ap (λ (n : ℕ). average_of n (map (λ (farewell : Farewell). farewell.size) farewells))
+average_with_ssrc : (ssrc : ℕ) (setup : Setup) (bye_compounds : List ByeCompound) →
+    leaving_average (with_ssrc ssrc setup) bye_compounds ≡ leaving_average setup bye_compounds
+average_with_ssrc ssrc setup bye_compounds =
+    ap (λ (n : ℕ). average_of n (map (λ (bye_compound : ByeCompound). bye_compound.size) bye_compounds))
     (byes_are_of_one_size ssrc setup)
 
 changed_average : (s : State) (o : Outcome) (backoff : Backoff) (ssrc : ℕ) → StandsStill s o →
-    s.average ≡ leaving_average s.setup backoff.farewells
+    s.average ≡ leaving_average s.setup backoff.bye_compounds
     → (after_change ssrc s).average ≡ leaving_average (with_ssrc ssrc s.setup)
-    (after_own_bye s.setup o backoff).farewells
+    (after_own_bye s.setup o backoff).bye_compounds
 changed_average s o backoff ssrc still average =
     let size = length (bye_octets s.setup) in
     ap (λ (heard : Bool). if heard then moved_average s.average size else s.average) (heard_agrees s o.own still.own)
     ∙ ap (λ (n : ℕ). if has_sent o.own then moved_average n size else n) average
     ∙ bye_moves_average (has_sent o.own) size s.setup backoff
-    ∙ sym (average_with_ssrc ssrc s.setup (after_own_bye s.setup o backoff).farewells)
+    ∙ sym (average_with_ssrc ssrc s.setup (after_own_bye s.setup o backoff).bye_compounds)
 
 -- ---- Where it stands
 
@@ -121,7 +121,7 @@ changed_is_at p q ssrc (backing_off outcome backoff) at there same phase =
             still = changed_still p.presence outcome ssrc at.1.still;
           }),
     )
-changed_is_at p q ssrc (gone outcome) at there same phase = absurd (there at)
+changed_is_at p q ssrc (finished outcome) at there same phase = absurd (there at)
 
 pub changed_is_in : (p q : ParticipantValue) (session : Session) (new : NewIdentifier) → IsIn p session →
     (p.phase ≡ over → ⊥) → q.presence ≡ after_change new.ssrc p.presence → q.phase ≡ p.phase
@@ -142,7 +142,7 @@ bye_by true octets = refl
 bye_by false octets = refl
 
 out_by_still : {s : State} {setup : Setup} (o : Outcome) → StandsStill s o → s.setup ≡ setup →
-    option_map bye_out (own_bye_in s) ≡ bye_if_heard setup o
+    option_map bye_out (own_bye_in s) ≡ bye_if_sent setup o
 out_by_still {s} {setup} o still same =
     bye_by s.own.heard (bye_octets s.setup)
     ∙ (λ i. if heard_agrees s o.own still.own i then Some (bye_out (bye_octets (same i))) else None)
@@ -151,4 +151,4 @@ pub changed_out : (p : ParticipantValue) (setup : Setup) (life : Life) → IsAt 
     p.presence.setup ≡ setup → option_map bye_out (own_bye_in p.presence) ≡ own_bye setup life
 changed_out p setup (present outcome) at there same = out_by_still outcome at.1.still same
 changed_out p setup (backing_off outcome backoff) at there same = out_by_still outcome at.1.still same
-changed_out p setup (gone outcome) at there same = absurd (there at)
+changed_out p setup (finished outcome) at there same = absurd (there at)

@@ -4,7 +4,7 @@ use Rattle.rtcp_engine.specs.Acts.{Act}
 use Rattle.rtcp_engine.specs.Identities.{with_ssrc}
 use Rattle.rtcp_engine.specs.OwnStreams.{has_sent}
 use Rattle.rtcp_engine.specs.Reporting.{bye_octets}
-use Rattle.rtcp_engine.specs.Leaving.{Backoff, Life, present, backing_off, gone, leaving_count, leaving_timing}
+use Rattle.rtcp_engine.specs.Leaving.{Backoff, Life, present, backing_off, finished, leaving_count, leaving_timing}
 use Rattle.rtcp_engine.specs.Changes.{NewIdentifier, Session, change_by, changed_by, changed_to}
 use Rattle.rtcp_engine.specs.Changed.{KeepsRest}
 
@@ -12,7 +12,7 @@ use Rattle.rtcp_engine.specs.Changed.{KeepsRest}
 
 abbrev pub with_bye : (heard : Bool) (size : ℕ) → Backoff → Backoff
 with_bye heard size backoff = if heard then record
-    backoff { farewells = record { byes = 0; size = size } ∷ backoff.farewells } else backoff
+    backoff { bye_compounds = record { byes = 0; size = size } ∷ backoff.bye_compounds } else backoff
 
 pub bye_keeps_count : (heard : Bool) (size : ℕ) (backoff : Backoff) →
     leaving_count (with_bye heard size backoff) ≡ leaving_count backoff
@@ -38,7 +38,7 @@ renamed_rest new session (backing_off outcome backoff) is = record {
   entries = refl;
   timing = ap Some (bye_keeps_timing (has_sent outcome.own) (length (bye_octets session.setup)) backoff);
 }
-renamed_rest new session (gone outcome) is = search
+renamed_rest new session (finished outcome) is = search
 
 -- A change of identifier leaves settings, table, counts and schedule as they were.
 rest_of_change : (session : Session) (change : Option NewIdentifier) → KeepsRest session (changed_by change session)

@@ -6,7 +6,7 @@ use Rattle.rtcp_engine.specs.declared.refusal.Refusal.TheVariants.{Settings}
 use Rattle.rtcp_engine.specs.Setups.{Setup, IsUsable, settings_of, with_settings}
 use Rattle.rtcp_engine.specs.Acts.{Act, arrived, configured}
 use Rattle.rtcp_engine.specs.Identities.{with_ssrc}
-use Rattle.rtcp_engine.specs.Leaving.{Life, present, backing_off, gone}
+use Rattle.rtcp_engine.specs.Leaving.{Life, present, backing_off, finished}
 use Rattle.rtcp_engine.specs.Lives.{out_by, own_bye}
 use Rattle.rtcp_engine.specs.Changes.{NewIdentifier, Session, change_by, changed_by, changed_to}
 use Rattle.rtcp_engine.specs.Histories.{session_of, settings_after, setup_after}
@@ -93,7 +93,7 @@ pub nothing_more : (session : Session) (act : Act) (new : NewIdentifier) → cha
     (setup : Setup) (life : Life) → out_by setup act life ≡ None
 nothing_more session (arrived moment peer word datagram) new is setup (present outcome) = refl
 nothing_more session (arrived moment peer word datagram) new is setup (backing_off outcome backoff) = refl
-nothing_more session act new is setup (gone outcome) = refl
+nothing_more session act new is setup (finished outcome) = refl
 nothing_more session act new is setup life = absurd cc
 
 pub bye_alone : (session : Session) (act : Act) (new : NewIdentifier) → change_by session act ≡ Some new →

@@ -7,7 +7,7 @@ use Rattle.rtcp_engine.specs.OwnStreams.{has_sent}
 use Rattle.rtcp_engine.specs.Outcomes.{Outcome, Report, interval_at, member_count}
 use Rattle.rtcp_engine.specs.Ticks.{checked, has_come, has_passed, reported, put_off}
 use Rattle.rtcp_engine.specs.Reporting.{bye_octets, report_octets}
-use Rattle.rtcp_engine.specs.Leaving.{Backoff, Life, present, backing_off, gone, few_members, is_bye_due, is_unheard, after_wait, backoff_from, leaving_interval}
+use Rattle.rtcp_engine.specs.Leaving.{Backoff, Life, present, backing_off, finished, few_members, is_bye_due, sent_nothing, after_wait, backoff_from, leaving_interval}
 use Rattle.rtcp_engine.specs.Lives.{lived, bye_out, out_by, own_bye, report_out, with_new_ssrc}
 use Rattle.rtcp_engine.specs.Changes.{NewIdentifier, Session, bye_of_change, change_by, changed_by, changed_to}
 use Rattle.rtcp_engine.specs.Histories.{session_of}
@@ -32,19 +32,19 @@ tick_by setup t first_word second_word now sent true true h =
     } ∷ reports) h
 tick_by setup t first_word second_word now sent come passed h = h
 
-leave_by : (setup : Setup) (t word : ℕ) (outcome : Outcome) (sent : List Sent) (unheard few : Bool) →
+leave_by : (setup : Setup) (t word : ℕ) (outcome : Outcome) (sent : List Sent) (nothing_sent few : Bool) →
     outcome.reports ≡ counted sent
-    → reports_of (if unheard then gone outcome else
-    (if few then gone outcome else backing_off outcome (backoff_from setup t word outcome)))
+    → reports_of (if nothing_sent then finished outcome else
+    (if few then finished outcome else backing_off outcome (backoff_from setup t word outcome)))
     ≡ counted (sent_with t 0 false
-    (option_map bye_out (if unheard then None else (if few then Some (bye_octets setup) else None))) ++ sent)
+    (option_map bye_out (if nothing_sent then None else (if few then Some (bye_octets setup) else None))) ++ sent)
 leave_by setup t word outcome sent true few h = h
 leave_by setup t word outcome sent false true h = h
 leave_by setup t word outcome sent false false h = h
 
 bye_by : (setup : Setup) (t word interval : ℕ) (outcome : Outcome) (backoff : Backoff) (sent : List Sent) (due : Bool) →
     outcome.reports ≡ counted sent
-    → reports_of (if due then gone outcome else backing_off outcome (after_wait setup t word backoff))
+    → reports_of (if due then finished outcome else backing_off outcome (after_wait setup t word backoff))
     ≡ counted (sent_with t interval false (if due then Some (bye_out (bye_octets setup)) else None) ++ sent)
 bye_by setup t word interval outcome backoff sent true h = h
 bye_by setup t word interval outcome backoff sent false h = h
@@ -59,7 +59,7 @@ one_change : (setup : Setup) (t : ℕ) (life : Life) (sent : List Sent) → repo
     reports_of (with_new_ssrc setup life) ≡ counted (sent_with t 0 true (own_bye setup life) ++ sent)
 one_change setup t (present outcome) sent h = heard_by setup t (has_sent outcome.own) outcome sent h
 one_change setup t (backing_off outcome backoff) sent h = heard_by setup t (has_sent outcome.own) outcome sent h
-one_change setup t (gone outcome) sent h = h
+one_change setup t (finished outcome) sent h = h
 
 one_act : (setup : Setup) (act : Act) (life : Life) (sent : List Sent) → reports_of life ≡ counted sent
     → reports_of (lived setup act life) ≡ counted
@@ -71,7 +71,7 @@ one_act setup (ticked moment first_word second_word) (present outcome) sent h =
     tick_by setup moment first_word second_word now sent (has_come moment now) (has_passed setup moment first_word now)
     h
 one_act setup (left moment word) (present outcome) sent h =
-    leave_by setup moment word outcome sent (is_unheard outcome) (nat_le (member_count setup outcome) few_members) h
+    leave_by setup moment word outcome sent (sent_nothing outcome) (nat_le (member_count setup outcome) few_members) h
 one_act setup (ticked moment first_word second_word) (backing_off outcome backoff) sent h =
     bye_by setup moment first_word (leaving_interval setup backoff) outcome backoff sent
     (is_bye_due setup moment first_word backoff) h

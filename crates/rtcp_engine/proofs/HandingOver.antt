@@ -10,12 +10,12 @@ use Rattle.rtcp_engine.specs.Acts.{Act, ticked, left, moment_of}
 use Rattle.rtcp_engine.specs.Answers.{answer_of, answers_to, followed_by, followed_by_all, step_by}
 use Rattle.rtcp_engine.specs.Changes.{NewIdentifier, Session, bye_of_change, change_by, changed_by}
 use Rattle.rtcp_engine.specs.Histories.{History, after_act, brought_by, life_at, session_at, with_act}
-use Rattle.rtcp_engine.specs.Leaving.{Life, present, backing_off, gone}
+use Rattle.rtcp_engine.specs.Leaving.{Life, present, backing_off, finished}
 use Rattle.rtcp_engine.specs.Lives.{bye_out, lived, out_by, report_out}
 use Rattle.rtcp_engine.specs.Outcomes.{Outcome}
 use Rattle.rtcp_engine.specs.Refusals.{refusal_after, refusal_in}
 use Rattle.rtcp_engine.specs.Reporting.{bye_octets}
-use Rattle.rtcp_engine.specs.Runs.{AnsweredInTime, AreRefusals, AreRefusalsForgotten, EndAtGoodbye, HandsOver, IsRefusalForgotten, handed_over, is_bye, says_goodbye, taken_since}
+use Rattle.rtcp_engine.specs.Runs.{AnsweredInTime, AreRefusals, AreRefusalsForgotten, EndAtBye, HandsOver, IsRefusalForgotten, handed_over, is_bye, says_bye, taken_since}
 use Rattle.rtcp_engine.specs.Sent.{Sent, deciding_interval, handed_out, sent_at}
 use Rattle.rtcp_engine.specs.Setups.{Setup}
 use Rattle.rtcp_engine.specs.Spacing.{AreBounded, first_leave}
@@ -39,32 +39,32 @@ all_sent h (act ∷ acts) =
 
 -- ---- The end
 
-abbrev IsGone : Life → Type 0
-IsGone (gone outcome) = Unit {0}
-IsGone life = ⊥
+abbrev IsFinished : Life → Type 0
+IsFinished (finished outcome) = Unit {0}
+IsFinished life = ⊥
 
 no_report : (octets : Option (List ℕ)) → is_bye (option_map report_out octets) ≡ true → ⊥
 no_report None bye = absurd cc
 no_report (Some octets) bye = absurd cc
 
-leaves : (unheard few : Bool) (o : Outcome) (waiting : Life) (octets : List ℕ) →
-    is_bye (option_map bye_out (if unheard then None else (if few then Some octets else None))) ≡ true →
-    IsGone (if unheard then gone o else (if few then gone o else waiting))
+leaves : (nothing_sent few : Bool) (o : Outcome) (waiting : Life) (octets : List ℕ) →
+    is_bye (option_map bye_out (if nothing_sent then None else (if few then Some octets else None))) ≡ true →
+    IsFinished (if nothing_sent then finished o else (if few then finished o else waiting))
 leaves false false o waiting octets bye = absurd (cc bye)
-leaves unheard few o waiting octets bye = tt
+leaves nothing_sent few o waiting octets bye = tt
 
 waits : (due : Bool) (o : Outcome) (waiting : Life) (octets : List ℕ) →
-    is_bye (if due then Some (bye_out octets) else None) ≡ true → IsGone (if due then gone o else waiting)
+    is_bye (if due then Some (bye_out octets) else None) ≡ true → IsFinished (if due then finished o else waiting)
 waits true o waiting octets bye = tt
 waits false o waiting octets bye = absurd (cc bye)
 
 -- The BYE that an act brings, and no change of identifier, is that of a participant that is gone.
 gone_after : (setup : Setup) (act : Act) (life : Life) → is_bye (out_by setup act life) ≡ true →
-    IsGone (lived setup act life)
+    IsFinished (lived setup act life)
 gone_after setup (ticked moment first_word second_word) (present o) bye = absurd (no_report _ bye)
 gone_after setup (left moment word) (present o) bye = leaves _ _ o _ (bye_octets setup) bye
 gone_after setup (ticked moment first_word second_word) (backing_off o b) bye = waits _ o _ (bye_octets setup) bye
-gone_after setup act (gone o) bye = tt
+gone_after setup act (finished o) bye = tt
 gone_after setup act life bye = absurd (cc bye)
 
 abbrev number : NewIdentifier → ℕ
@@ -72,13 +72,13 @@ number new = new.ssrc
 
 unchanged_gone : (session : Session) (act : Act) (change : Option NewIdentifier) → change_by session act ≡ change →
     is_some (option_map number change) ≡ false → is_bye (brought_by session act) ≡ true →
-    IsGone (after_act session act).life
+    IsFinished (after_act session act).life
 unchanged_gone session act (Some new) is none bye = absurd (cc none)
 unchanged_gone session act None is none bye =
     let brought : brought_by session act ≡ out_by session.setup act session.life =
     ap (λ (c : Option NewIdentifier). option_or (bye_of_change c session)
     (out_by (changed_by c session).setup act (changed_by c session).life)) is in
-    subst IsGone (sym (ap (λ (c : Option NewIdentifier). lived (changed_by c session).setup act
+    subst IsFinished (sym (ap (λ (c : Option NewIdentifier). lived (changed_by c session).setup act
     (changed_by c session).life) is)) (gone_after session.setup act session.life (sym (ap is_bye brought) ∙ bye))
 
 not_true : (b : Bool) → not b ≡ true → b ≡ false
@@ -86,8 +86,8 @@ not_true true h = absurd (cc h)
 not_true false h = refl
 
 said : (h : History) (act : Act) (refusal : Option Refusal) → refusal_after h act ≡ refusal →
-    says_goodbye (answer_unless refusal (step_by h act)) ≡ true →
-    IsGone (life_at (elim refusal [ None ↦ with_act h act | Some reason ↦ h ]))
+    says_bye (answer_unless refusal (step_by h act)) ≡ true →
+    IsFinished (life_at (elim refusal [ None ↦ with_act h act | Some reason ↦ h ]))
 said h act (Some reason) is goodbye = absurd (cc goodbye)
 said h act None is goodbye =
     let session = session_at h in
@@ -95,11 +95,11 @@ said h act None is goodbye =
     goodbye in
     unchanged_gone session act (change_by session act) refl (not_true _ both.1) both.0
 
-refuses : (life : Life) (refusal : Option Refusal) → IsGone life → refusal_in life refusal ≡ Some Left
-refuses (gone o) refusal h = refl
+refuses : (life : Life) (refusal : Option Refusal) → IsFinished life → refusal_in life refusal ≡ Some Left
+refuses (finished o) refusal h = refl
 refuses life refusal h = absurd h
 
-refused : (h : History) (acts : List Act) → IsGone (life_at h) → AreRefusals (answers_to h acts)
+refused : (h : History) (acts : List Act) → IsFinished (life_at h) → AreRefusals (answers_to h acts)
 refused h [] is = tt
 refused h (act ∷ acts) is =
     let left = refuses (life_at h) _ is in
@@ -109,7 +109,7 @@ refused h (act ∷ acts) is =
     subst (λ (a : AnswerValue). AreRefusals (a ∷ answers_to (followed_by h act) acts)) (sym answer)
     (subst (λ (next : History). AreRefusals (answers_to next acts)) (sym same) (refused h acts is))
 
-ends : (h : History) (acts : List Act) → EndAtGoodbye (answers_to h acts)
+ends : (h : History) (acts : List Act) → EndAtBye (answers_to h acts)
 ends h [] = tt
 ends h (act ∷ acts) =
     let next = followed_by h act in

@@ -9,7 +9,7 @@ use Rattle.rtcp_wire.specs.Values.{RtcpPacket}
 use Rattle.rtcp_members.specs.Entries.{counted_at, entry_at, is_member, is_such}
 use Rattle.rtcp_members.specs.Lasting.{MayBring}
 use Rattle.rtcp_members.specs.Pending.{EntryRow}
-use Rattle.rtcp_members.specs.Traces.{TraceStep, block_taken, check_made, source_forgotten}
+use Rattle.rtcp_members.specs.Traces.{TraceStep, block_made_of, check_made, source_forgotten}
 use Rattle.rtcp_members.proofs.Lasting.{member_on}
 use Rattle.rtcp_members.proofs.Introducing.{members_through, named_become_members}
 use Rattle.rtcp_report.specs.Traced.{with_blocks}
@@ -18,7 +18,7 @@ use Rattle.rtcp_engine.specs.Arrivals.{after, facts_of_csrcs, facts_of_media, me
 use Rattle.rtcp_engine.specs.Changes.{NewIdentifier, Session, change_by, changed_by}
 use Rattle.rtcp_engine.specs.Hearing.{is_member_at, with_acts, LeavesAlone, IsHeardLately, IsHeardAtTicks}
 use Rattle.rtcp_engine.specs.Histories.{History, after_act, life_at, session_at, setup_at, with_act}
-use Rattle.rtcp_engine.specs.Leaving.{Life, backing_off, gone, present}
+use Rattle.rtcp_engine.specs.Leaving.{Life, backing_off, finished, present}
 use Rattle.rtcp_engine.specs.Lives.{entry_in_life, lived, with_new_ssrc}
 use Rattle.rtcp_engine.specs.Outcomes.{Outcome, check_interval}
 use Rattle.rtcp_engine.specs.Reporting.{reported_at}
@@ -40,8 +40,8 @@ module _ (ssrc : ℕ) where
       IsIn capacity (with_blocks rows trace)
   in_blocks capacity [] trace is = is
   in_blocks capacity (row ∷ rows) trace is =
-      in_blocks capacity rows (block_taken row.0 ∷ trace)
-      (member_on capacity ssrc (block_taken row.0) trace is
+      in_blocks capacity rows (block_made_of row.0 ∷ trace)
+      (member_on capacity ssrc (block_made_of row.0) trace is
       (record { quiet = refl; kept = refl; heard = omega arith }))
 
   pub in_check : (setup : Setup) (t : ℕ) (outcome : Outcome) → IsIn setup.capacity outcome.trace →
@@ -242,7 +242,7 @@ module _ (moment peer word size ssrc : ℕ) (packets : List RtcpPacket) (named :
             MayComeTo session.setup.capacity (with_new_ssrc session.setup life)
         by (present outcome) may = may
         by (backing_off outcome backoff) may = may
-        by (gone outcome) may = may
+        by (finished outcome) may = may
 
     pub named_join : (history : History) (outcome : Outcome) → life_at history ≡ present outcome →
         MayBring (setup_at history).capacity ssrc (facts_of packets) outcome.trace →

@@ -7,7 +7,7 @@ use Rattle.rtcp_wire.specs.Facts.{facts_of}
 use Rattle.rtcp_members.specs.Entries.{EntryValue, counted_at, entry_at, members_at}
 use Rattle.rtcp_members.specs.Pending.{EntryRow}
 use Rattle.rtcp_members.specs.Roles.{IsSameRole}
-use Rattle.rtcp_members.specs.Traces.{TraceStep, block_taken, fact_came, with_facts, source_forgotten}
+use Rattle.rtcp_members.specs.Traces.{TraceStep, block_made_of, fact_came, with_facts, source_forgotten}
 use Rattle.rtcp_members.proofs.LawLemmas as tables
 use Rattle.rtcp_report.specs.Traced.{with_blocks}
 use Rattle.rtcp_engine.specs.Acts.{Act, arrived, left, rtcp, rtp, ticked, forgotten}
@@ -15,7 +15,7 @@ use Rattle.rtcp_engine.specs.Answers.{step_by}
 use Rattle.rtcp_engine.specs.Arrivals.{after, facts_of_media, media_fact, rate_of}
 use Rattle.rtcp_engine.specs.Changes.{NewIdentifier, Session, change_by, changed_by}
 use Rattle.rtcp_engine.specs.Histories.{History, session_at, session_for, settings_after, setup_after, with_act}
-use Rattle.rtcp_engine.specs.Leaving.{Life, backing_off, gone, left_at, present}
+use Rattle.rtcp_engine.specs.Leaving.{Life, backing_off, finished, left_at, present}
 use Rattle.rtcp_engine.specs.Lives.{entry_in_life, lived, moved_since, others_moved_by}
 use Rattle.rtcp_engine.specs.Outcomes.{Outcome}
 use Rattle.rtcp_engine.proofs.LifeLemmas.{of_check, of_leave, of_wait}
@@ -51,7 +51,7 @@ facts_go_on (fact ∷ facts) t trace = one_sooner (facts_go_on facts t (fact_cam
 
 blocks_go_on : (rows : List EntryRow) (trace : List TraceStep) → GoesOn trace (with_blocks rows trace)
 blocks_go_on [] trace = goes_nowhere trace
-blocks_go_on (row ∷ rows) trace = one_sooner (blocks_go_on rows (block_taken row.0 ∷ trace))
+blocks_go_on (row ∷ rows) trace = one_sooner (blocks_go_on rows (block_made_of row.0 ∷ trace))
 
 -- ---- One that takes part
 
@@ -146,7 +146,7 @@ same_in_change session (Some new) ssrc = under session.setup new session.life
         (Rattle.rtcp_engine.specs.Lives.with_new_ssrc setup life) ssrc
     under setup new (present outcome) = refl
     under setup new (backing_off outcome backoff) = refl
-    under setup new (gone outcome) = refl
+    under setup new (finished outcome) = refl
 
 -- Nor do other settings.
 same_when_set : (settings : SettingsValue) (setup : Setup) (life : Life) (ssrc : ℕ) →

@@ -4,17 +4,17 @@ use Rattle.std.proofs.Common.{◌≡◌, ◌↔◌, map, ℕ, ◌≤◌, ◌^◌
 use Rattle.std.specs.Option.{option_or}
 use Rattle.std.proofs.lemmas.Bool.{lt-ltb, le-ltb, cases_lt}
 use Rattle.rtcp_wire.proofs.LawLemmas as wire
-use Rattle.rtcp_members.specs.Traces.{TraceStep, block_taken}
+use Rattle.rtcp_members.specs.Traces.{TraceStep, block_made_of}
 use Rattle.rtcp_members.specs.Stays.{is_before}
 use Rattle.rtcp_members.specs.Pending.{EntryRow, last_reported}
-use Rattle.rtcp_members.specs.Told.{StateValue}
+use Rattle.rtcp_members.specs.Listings.{StateValue}
 use Rattle.rtcp_report.specs.Traced.{with_blocks}
 use Rattle.rtcp_engine.specs.declared.refusal.Refusal.{Refusal}
 use Rattle.rtcp_engine.specs.Setups.{Setup, SettingsValue, IsUsable, with_settings}
 use Rattle.rtcp_engine.specs.Refused.{error_in}
 use Rattle.rtcp_engine.specs.Acts.{Act, configured, moment_of, IsReading, IsRtpReading, IsTotal, IsUnique}
 use Rattle.rtcp_engine.specs.Leaving.{Life, present}
-use Rattle.rtcp_engine.specs.Lives.{TellsInLife, lived, out_by, own_bye, with_pace_in, next_in_life}
+use Rattle.rtcp_engine.specs.Lives.{ListsInLife, lived, out_by, own_bye, with_pace_in, next_in_life}
 use Rattle.rtcp_engine.specs.Changes.{NewIdentifier, Session, bye_of_change, change_by, changed_by}
 use Rattle.rtcp_engine.specs.OwnStreams.{OwnStep, packet_sent, check_passed, report_sent, counts_anew, sending_since}
 use Rattle.rtcp_engine.specs.OwnSending.{OutlastsChecks, IsSendingSince}
@@ -26,7 +26,7 @@ use Rattle.rtcp_engine.specs.Answers.{step_by, answer_of, followed_by}
 use Rattle.rtcp_engine.specs.Taken.{IsHistory}
 use Rattle.rtcp_engine.specs.Sent.{reports_in, deciding_interval, sent_at, sent_with, handed_out, reports_of, counted_report}
 use Rattle.rtcp_engine.proofs.Changing.{bye_alone}
-use Rattle.rtcp_engine.proofs.Past.{latest_in_range, told_after}
+use Rattle.rtcp_engine.proofs.Past.{latest_in_range, listed_after}
 use Rattle.rtcp_engine.proofs.Usable.{usable_of_unrefused, unrefused_of_usable}
 use Rattle.rtcp_engine.proofs.Counting.{reports_counted}
 use Rattle.rtcp_engine.specs.InTime.{AllInTime}
@@ -38,7 +38,7 @@ pub use Rattle.rtcp_engine.proofs.Changing.{same_but_name_and_settings as setups
 pub use Rattle.rtcp_engine.proofs.Changing.{usable_in as setups_keep_the_rest-usable}
 pub use Rattle.rtcp_engine.proofs.Usable.{settings_refused as settings_are_refused_as_setups}
 pub use Rattle.rtcp_engine.proofs.OneClock.{one_clock as one_clock_without_others}
-pub use Rattle.rtcp_engine.proofs.Past.{walk_after as told_moments_have_passed-all}
+pub use Rattle.rtcp_engine.proofs.Past.{walk_after as listed_moments_have_passed-all}
 pub use Rattle.rtcp_engine.proofs.PaceEnds.{same_pace as former_paces_end-same}
 pub use Rattle.rtcp_engine.proofs.PaceEnds.{end_stays as former_paces_end-stays}
 pub use Rattle.rtcp_engine.proofs.PaceEnds.{end_of_session as former_paces_end-end}
@@ -189,7 +189,7 @@ sent_reports_are_counted history = reports_counted history.setup history.word hi
 pub last_block_is_newest : (rows : List EntryRow) (trace : List TraceStep) →
     last_reported_in (with_blocks rows trace) ≡ last_reported (last_reported_in trace) rows
 last_block_is_newest [] trace = refl
-last_block_is_newest (row ∷ rows) trace = last_block_is_newest rows (block_taken row.0 ∷ trace)
+last_block_is_newest (row ∷ rows) trace = last_block_is_newest rows (block_made_of row.0 ∷ trace)
 
 -- ---- Distances, sizes and the BYE
 
@@ -246,17 +246,20 @@ settings_touch_the_setup_alone-setup history moment settings = refl
 
 -- ---- What is told of sources
 
-pub told_moments_have_passed-left : (history : History) → IsHistory history → (after : Option ℕ) (state : StateValue) →
-    TellsInLife (setup_at history) after (life_at history) (Some state) →
+pub listed_moments_have_passed-left : (history : History) → IsHistory history →
+    (after : Option ℕ) (state : StateValue) →
+    ListsInLife (setup_at history) after (life_at history) (Some state) →
     IfSome state.left (λ left. left ≤ last_moment history.acts)
-told_moments_have_passed-left history is after state tells = (told_after history is after state tells).left
+listed_moments_have_passed-left history is after state tells = (listed_after history is after state tells).left
 
-pub told_moments_have_passed-told : (history : History) → IsHistory history → (after : Option ℕ) (state : StateValue) →
-    TellsInLife (setup_at history) after (life_at history) (Some state) →
-    IfSome state.told (λ told. told.moment ≤ last_moment history.acts)
-told_moments_have_passed-told history is after state tells = (told_after history is after state tells).told
+pub listed_moments_have_passed-last_report : (history : History) → IsHistory history →
+    (after : Option ℕ) (state : StateValue) →
+    ListsInLife (setup_at history) after (life_at history) (Some state) →
+    IfSome state.last_report (λ last_report. last_report.moment ≤ last_moment history.acts)
+listed_moments_have_passed-last_report history is after state tells =
+    (listed_after history is after state tells).last_report
 
-pub told_moments_have_passed-range : (history : History) → IsHistory history → last_moment history.acts ≤ 2 ^ 50
-told_moments_have_passed-range history is = latest_in_range history.setup history.word history.acts is.taken
+pub listed_moments_have_passed-range : (history : History) → IsHistory history → last_moment history.acts ≤ 2 ^ 50
+listed_moments_have_passed-range history is = latest_in_range history.setup history.word history.acts is.taken
 
 -- ---- Extra items

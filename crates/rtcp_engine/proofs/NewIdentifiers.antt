@@ -17,7 +17,7 @@ use Rattle.rtcp_engine.specs.declared.refusal.Refusal.TheVariants.{OwnSsrc}
 use Rattle.rtcp_engine.specs.Setups.{Setup}
 use Rattle.rtcp_engine.specs.Acts.{Datagram, Act, arrived, moment_of}
 use Rattle.rtcp_engine.specs.Identities.{AreApart, first_free, is_among, may_change, most_changes}
-use Rattle.rtcp_engine.specs.Leaving.{Life, present, backing_off, gone}
+use Rattle.rtcp_engine.specs.Leaving.{Life, present, backing_off, finished}
 use Rattle.rtcp_engine.specs.Changes.{NewIdentifier, Session, change_by, changed_by, changing_peers, identifiers, is_about, is_in_table, is_taken, most_taken, named_by, new_identifier}
 use Rattle.rtcp_engine.specs.Histories.{History, brought_by, session_at, session_for, session_of}
 use Rattle.rtcp_engine.specs.Refusals.{fault_in, refusal_if, refusal_of_content}
@@ -223,12 +223,12 @@ held_at capacity trace = filter (λ ssrc. is_some (stay_of capacity trace ssrc))
 abbrev held_in : Setup → Life → List ℕ
 held_in setup (present outcome) = held_at setup.capacity outcome.trace
 held_in setup (backing_off outcome backoff) = held_at setup.capacity outcome.trace
-held_in setup (gone outcome) = []
+held_in setup (finished outcome) = []
 
 few_held : (setup : Setup) (life : Life) → length (held_in setup life) ≤ setup.capacity
 few_held setup (present outcome) = present_were_named_and_fit-fit setup.capacity outcome.trace
 few_held setup (backing_off outcome backoff) = present_were_named_and_fit-fit setup.capacity outcome.trace
-few_held setup (gone outcome) = omega arith
+few_held setup (finished outcome) = omega arith
 
 abbrev those_taken : Session → Datagram → List ℕ
 those_taken session datagram = identifiers session ++ (held_in session.setup session.life ++ named_by datagram)
@@ -278,7 +278,7 @@ in_table_is_held setup (backing_off outcome backoff) ssrc is =
     let there = sym (entry_is_stay setup.capacity outcome.trace ssrc) ∙ is in
     held_is_among setup.capacity outcome.trace (names outcome.trace) ssrc there
     (present_were_named_and_fit-named setup.capacity outcome.trace ssrc there)
-in_table_is_held setup (gone outcome) ssrc is = absurd cc
+in_table_is_held setup (finished outcome) ssrc is = absurd cc
 
 one_instead : (a b c d : Bool) → (b ≡ true → c ≡ true) → (a || (b || d)) ≡ true → (a || (c || d)) ≡ true
 one_instead true b c d h is = refl

@@ -9,7 +9,7 @@ use Rattle.rtcp_wire.proofs.LawLemmas.{compounds_give_no_media}
 use Rattle.rtcp_members.specs.Clocks.{HasOneClock, HasRate}
 use Rattle.rtcp_members.specs.Entries.{counted_at}
 use Rattle.rtcp_members.specs.Pending.{EntryRow}
-use Rattle.rtcp_members.specs.Traces.{TraceStep, block_taken, fact_came, with_facts}
+use Rattle.rtcp_members.specs.Traces.{TraceStep, block_made_of, fact_came, with_facts}
 use Rattle.rtcp_report.specs.Traced.{with_blocks}
 use Rattle.rtcp_engine.specs.Setups.{Setup, ClockValue, rate_among}
 use Rattle.rtcp_engine.specs.Acts.{Act, arrived, configured, left, rtcp, rtp, rtp_sent, ticked, forgotten}
@@ -57,7 +57,7 @@ media_has own rate moment head false trace has = (refl, has)
 blocks_have : (rate : ℕ) (rows : List EntryRow) (trace : List TraceStep) → HasOneClock rate trace →
     HasOneClock rate (with_blocks rows trace)
 blocks_have rate [] trace has = has
-blocks_have rate (row ∷ rows) trace has = blocks_have rate rows (block_taken row.0 ∷ trace) (tt, has)
+blocks_have rate (row ∷ rows) trace has = blocks_have rate rows (block_made_of row.0 ∷ trace) (tt, has)
 
 -- ---- One that takes part
 

@@ -18,7 +18,7 @@ use Rattle.rtcp_engine.specs.Outcomes.{Outcome, member_count, sender_count, one_
 use Rattle.rtcp_engine.specs.Ticks.{checked, horizons_of}
 use Rattle.rtcp_engine.specs.Changes.{NewIdentifier, Session, change_by, changed_by}
 use Rattle.rtcp_engine.specs.Histories.{History, life_at, session_of, setup_at}
-use Rattle.rtcp_engine.specs.Leaving.{Backoff, Life, present, backing_off, gone}
+use Rattle.rtcp_engine.specs.Leaving.{Backoff, Life, present, backing_off, finished}
 use Rattle.rtcp_engine.specs.Lives.{lived, with_new_ssrc}
 use Rattle.rtcp_engine.specs.Pacing.{IsPaced, unpaced}
 use Rattle.rtcp_engine.specs.Taken.{AllTaken}
@@ -137,7 +137,7 @@ pub in_paces_on : (P : List Pace → Type 0) (setup : Setup) (act : Act) (life :
     ((outcome : Outcome) → life ≡ present outcome → P (paces_by setup act outcome)) → InPaces P (lived setup act life)
 in_paces_on P setup act (present outcome) h = paces_on P setup act outcome (h outcome refl)
 in_paces_on P setup act (backing_off outcome backoff) h = paces_while_backing_off P setup act outcome backoff
-in_paces_on P setup act (gone outcome) h = tt
+in_paces_on P setup act (finished outcome) h = tt
 
 renamed_paces : (P : List Pace → Type 0) (setup : Setup) (life : Life) → InPaces P life →
     InPaces P (with_new_ssrc setup life)

@@ -5,10 +5,10 @@ use Rattle.std.proofs.lemmas.Bool.{ltb-false}
 use Rattle.std.proofs.lemmas.List.Elements.{All-nil}
 use Rattle.rtcp_wire.specs.Facts.{facts_of}
 use Rattle.rtcp_members.specs.Entries.{counted_at}
-use Rattle.rtcp_members.specs.Past.{CameBy, IsToldBy}
+use Rattle.rtcp_members.specs.Past.{CameBy, IsKnownBy}
 use Rattle.rtcp_members.specs.Pending.{EntryRow}
-use Rattle.rtcp_members.specs.Told.{StateValue}
-use Rattle.rtcp_members.specs.Traces.{TraceStep, block_taken}
+use Rattle.rtcp_members.specs.Listings.{StateValue}
+use Rattle.rtcp_members.specs.Traces.{TraceStep, block_made_of}
 use Rattle.rtcp_members.proofs.LawLemmas as tables
 use Rattle.rtcp_report.specs.Traced.{with_blocks}
 use Rattle.rtcp_engine.specs.declared.refusal.Refusal.{Refusal}
@@ -19,7 +19,7 @@ use Rattle.rtcp_engine.specs.Changes.{NewIdentifier, Session, change_by, changed
 use Rattle.rtcp_engine.specs.Histories.{History, last_moment, life_at, session_of, setup_at}
 use Rattle.rtcp_engine.specs.Leaving.{Life, backing_off}
 use Rattle.rtcp_engine.specs.Leaving.{present}
-use Rattle.rtcp_engine.specs.Lives.{TellsInLife, WalksInLife, lived, with_new_ssrc}
+use Rattle.rtcp_engine.specs.Lives.{ListsInLife, WalksInLife, lived, with_new_ssrc}
 use Rattle.rtcp_engine.specs.Outcomes.{Outcome}
 use Rattle.rtcp_engine.specs.Refusals.{refusal_after}
 use Rattle.rtcp_engine.specs.Reporting.{reported_at}
@@ -36,7 +36,7 @@ blocks_came : (latest : ℕ) (rows : List EntryRow) (trace : List TraceStep) →
     CameBy latest (with_blocks rows trace)
 blocks_came latest [] trace came = came
 blocks_came latest (row ∷ rows) trace came =
-    blocks_came latest rows (block_taken row.0 ∷ trace) (omega arith, came)
+    blocks_came latest rows (block_made_of row.0 ∷ trace) (omega arith, came)
 
 report_came : (setup : Setup) (t first_word second_word : ℕ) (outcome : Outcome) → CameBy t outcome.trace →
     CameBy t (after_check setup t first_word second_word outcome).trace
@@ -47,10 +47,11 @@ report_came setup t first_word second_word outcome came =
 came_after : (setup : Setup) (act : Act) (outcome : Outcome) → CameBy (moment_of act) outcome.trace →
     CameBy (moment_of act) (after setup act outcome).trace
 came_after setup (arrived t peer word (rtcp size (Ok packets))) outcome came =
-    tables.told_lies_in_the_past-facts t t (facts_of packets) outcome.trace (omega arith) came
+    tables.listings_lie_in_the_past-facts t t (facts_of packets) outcome.trace (omega arith) came
 came_after setup (arrived t peer word (rtp (Ok head))) outcome came =
     let counted = counted_at setup.capacity outcome.trace (media_fact (rate_of setup head) head) in
-    tables.told_lies_in_the_past-facts t t (facts_of_media setup.ssrc (rate_of setup head) head counted) outcome.trace
+    tables.listings_lie_in_the_past-facts t t (facts_of_media setup.ssrc (rate_of setup head) head counted)
+    outcome.trace
     (omega arith) came
 came_after setup (ticked t first_word second_word) outcome came =
     report_came setup t first_word second_word (checked setup t outcome) (omega arith, came)
@@ -68,19 +69,19 @@ LivesBy latest life = Unit {0}
 lives_by : (setup : Setup) (latest : ℕ) (act : Act) (life : Life) → latest ≤ moment_of act → LivesBy latest life →
     LivesBy (moment_of act) (lived setup act life)
 lives_by setup latest (arrived t peer word datagram) (present outcome) order came =
-    let now = tables.told_lies_in_the_past-later latest t outcome.trace order came in
+    let now = tables.listings_lie_in_the_past-later latest t outcome.trace order came in
     came_after setup (arrived t peer word datagram) outcome now
 lives_by setup latest (rtp_sent t timestamp octets) (present outcome) order came =
-    tables.told_lies_in_the_past-later latest t outcome.trace order came
+    tables.listings_lie_in_the_past-later latest t outcome.trace order came
 lives_by setup latest (ticked t first_word second_word) (present outcome) order came =
-    let now = tables.told_lies_in_the_past-later latest t outcome.trace order came in
+    let now = tables.listings_lie_in_the_past-later latest t outcome.trace order came in
     came_after setup (ticked t first_word second_word) outcome now
 lives_by setup latest (left t word) (present outcome) order came =
     of_leave (LivesBy t) setup t word outcome tt tt
 lives_by setup latest (configured t settings) (present outcome) order came =
-    tables.told_lies_in_the_past-later latest t outcome.trace order came
+    tables.listings_lie_in_the_past-later latest t outcome.trace order came
 lives_by setup latest (forgotten t ssrc) (present outcome) order came =
-    (omega arith, tables.told_lies_in_the_past-later latest t outcome.trace order came)
+    (omega arith, tables.listings_lie_in_the_past-later latest t outcome.trace order came)
 lives_by setup latest (ticked t first_word second_word) (backing_off outcome backoff) order came =
     of_wait (LivesBy t) setup t first_word outcome backoff tt tt
 lives_by setup latest (arrived t peer word (rtcp size reading)) (backing_off outcome backoff) order came = tt
@@ -131,30 +132,30 @@ latest_in_range setup word (act ∷ earlier) taken =
 
 -- ---- What is told
 
-told_in : (latest : ℕ) (setup : Setup) (low : Option ℕ) (life : Life) (state : StateValue) → LivesBy latest life →
-    TellsInLife setup low life (Some state) → IsToldBy latest state
-told_in latest setup low (present outcome) state came =
-    tables.told_lies_in_the_past-told latest setup.capacity outcome.trace came low state
-told_in latest setup low life state came = λ none. absurd cc
+listed_in : (latest : ℕ) (setup : Setup) (low : Option ℕ) (life : Life) (state : StateValue) → LivesBy latest life →
+    ListsInLife setup low life (Some state) → IsKnownBy latest state
+listed_in latest setup low (present outcome) state came =
+    tables.listings_lie_in_the_past-listed latest setup.capacity outcome.trace came low state
+listed_in latest setup low life state came = λ none. absurd cc
 
-none_by : (latest : ℕ) (states : List StateValue) → states ≡ [] → All (IsToldBy latest) states
-none_by latest states none = subst (All (IsToldBy latest)) (sym none) (All-nil (IsToldBy latest))
+none_by : (latest : ℕ) (states : List StateValue) → states ≡ [] → All (IsKnownBy latest) states
+none_by latest states none = subst (All (IsKnownBy latest)) (sym none) (All-nil (IsKnownBy latest))
 
 walk_in : (latest : ℕ) (setup : Setup) (life : Life) (states : List StateValue) → LivesBy latest life →
-    WalksInLife setup life states → All (IsToldBy latest) states
+    WalksInLife setup life states → All (IsKnownBy latest) states
 walk_in latest setup (present outcome) states came =
-    tables.told_lies_in_the_past-walk latest setup.capacity outcome.trace came None states
+    tables.listings_lie_in_the_past-walk latest setup.capacity outcome.trace came None states
 walk_in latest setup life states came = none_by latest states
 
 module _ (history : History) (is : IsHistory history) where
   lives : LivesBy (last_moment history.acts) (life_at history)
   lives = session_lives_by history.setup history.word history.acts is.taken
 
-  pub told_after : (low : Option ℕ) (state : StateValue) →
-      TellsInLife (setup_at history) low (life_at history) (Some state) →
-      IsToldBy (last_moment history.acts) state
-  told_after low state = told_in (last_moment history.acts) (setup_at history) low (life_at history) state lives
+  pub listed_after : (low : Option ℕ) (state : StateValue) →
+      ListsInLife (setup_at history) low (life_at history) (Some state) →
+      IsKnownBy (last_moment history.acts) state
+  listed_after low state = listed_in (last_moment history.acts) (setup_at history) low (life_at history) state lives
 
   pub walk_after : (states : List StateValue) → WalksInLife (setup_at history) (life_at history) states →
-      All (IsToldBy (last_moment history.acts)) states
+      All (IsKnownBy (last_moment history.acts)) states
   walk_after states = walk_in (last_moment history.acts) (setup_at history) (life_at history) states lives

@@ -8,7 +8,7 @@ use Rattle.rtcp_members.specs.Entries.{counted_at}
 use Rattle.rtcp_members.specs.Pending.{EntryRow}
 use Rattle.rtcp_members.specs.Roles.{check_moves, facts_move, moved_within, step_moves, forgetting_moves}
 use Rattle.rtcp_members.specs.Tables.{counted, members_in}
-use Rattle.rtcp_members.specs.Traces.{Horizons, TraceStep, block_taken, check_made, fact_came, with_facts, source_forgotten}
+use Rattle.rtcp_members.specs.Traces.{Horizons, TraceStep, block_made_of, check_made, fact_came, with_facts, source_forgotten}
 use Rattle.rtcp_members.proofs.LawLemmas as tables
 use Rattle.rtcp_report.specs.Traced.{with_blocks}
 use Rattle.rtcp_engine.specs.Arrivals.{facts_of_media, media_fact, rate_of, with_facts_of, with_media}
@@ -58,12 +58,12 @@ module _ (capacity : ℕ) where
       capacity (length trace - before) trace
   blocks_since [] before trace within = refl
   blocks_since (row ∷ rows) before trace within =
-      blocks_since rows before (block_taken row.0 ∷ trace) (omega (arith, within))
-      ∙ ap (λ (n : ℕ). moved_within capacity n (block_taken row.0 ∷ trace)) one_more
+      blocks_since rows before (block_made_of row.0 ∷ trace) (omega (arith, within))
+      ∙ ap (λ (n : ℕ). moved_within capacity n (block_made_of row.0 ∷ trace)) one_more
       ∙ ap (λ (b : Bool). b || moved_within capacity (length trace - before) trace)
       (tables.roles_move_with_counts-block capacity row.0 trace)
     where
-      one_more : length (block_taken row.0 ∷ trace) - before ≡ suc (length trace - before)
+      one_more : length (block_made_of row.0 ∷ trace) - before ≡ suc (length trace - before)
       one_more = omega (arith, within)
 
 -- ---- Arrivals

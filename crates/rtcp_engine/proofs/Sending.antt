@@ -27,10 +27,10 @@ use Rattle.rtcp_engine.specs.Histories.{History, last_moment, session_of}
 use Rattle.rtcp_engine.specs.Refusals.{refusal_after}
 use Rattle.rtcp_engine.specs.Steps.{OutValue}
 use Rattle.rtcp_engine.specs.Taken.{HasWords, AllTaken}
-use Rattle.rtcp_engine.specs.Leaving.{Backoff, Life, present, backing_off, gone, backoff_from, bye_count, few_members, is_bye_due, is_unheard, after_wait, leaving_count, leaving_interval, leaving_load, leaving_timing}
+use Rattle.rtcp_engine.specs.Leaving.{Backoff, Life, present, backing_off, finished, backoff_from, bye_count, few_members, is_bye_due, sent_nothing, after_wait, leaving_count, leaving_interval, leaving_load, leaving_timing}
 use Rattle.rtcp_engine.specs.Lives.{while_present, while_backing_off, lived, bye_out, out_by, own_bye, report_out, with_new_ssrc}
 use Rattle.rtcp_engine.specs.Sent.{Sent, interval_by, is_report, reports_in, sent_by, sent_over, sent_with}
-use Rattle.rtcp_engine.specs.Spacing.{HalfPasses, newest_moment, leave_moment, first_leave, IsLate}
+use Rattle.rtcp_engine.specs.Spacing.{HalfPasses, newest_moment, leave_moment, first_leave, IsInDueTime}
 use Rattle.rtcp_engine.proofs.Changing.{bye_alone, nothing_more, same_but_name_and_settings, usable_in, usable_with_ssrc}
 use Rattle.rtcp_engine.proofs.AnswerLemmas.{unrefused}
 
@@ -77,7 +77,7 @@ pub record AreKept (limit : ℕ) (sent : List Sent) : Type 0 where
 pub record IsLast (limit : ℕ) (leave : Option ℕ) (bye : Sent) : Type 0 where
   pub kind : is_report bye ≡ false
   pub leaves : bye.changes ≡ false
-  pub late : IsLate leave bye
+  pub late : IsInDueTime leave bye
   pub fits : length bye.out.octets ≤ limit
 
 abbrev pub EndsSo : (limit : ℕ) → (leave : Option ℕ) → List Sent → Type 0
@@ -108,7 +108,7 @@ pub record BacksOff (limit t : ℕ) (leave : Option ℕ) (backoff : Backoff) (se
 abbrev pub KeepsApart : (limit t : ℕ) → (leave : Option ℕ) → Life → List Sent → Type 0
 KeepsApart limit t leave (present outcome) sent = TakesPart limit t leave outcome sent
 KeepsApart limit t leave (backing_off outcome backoff) sent = BacksOff limit t leave backoff sent
-KeepsApart limit t leave (gone outcome) sent = AreKept limit sent ⊎ EndsSo limit leave sent
+KeepsApart limit t leave (finished outcome) sent = AreKept limit sent ⊎ EndsSo limit leave sent
 
 -- ---- Sizes
 
@@ -251,19 +251,19 @@ last_bye : (setup : Setup) (leave : Option ℕ) (asked t interval : ℕ) → IsU
 last_bye setup leave asked t interval usable is passed = record {
   kind = refl;
   leaves = refl;
-  late = subst (λ (l : Option ℕ). IsLate l
+  late = subst (λ (l : Option ℕ). IsInDueTime l
       (record { moment = t; interval = interval; out = bye_out (bye_octets setup); changes = false }))
       (sym is) passed;
   fits = bye_is_within setup usable;
 }
 
 leave_by : (setup : Setup) (t u word : ℕ) (leave : Option ℕ) (outcome : Outcome) (sent : List Sent)
-    (unheard few : Bool) → IsUsable setup → t ≤ u → TakesPart setup.limit t leave outcome sent
+    (nothing_sent few : Bool) → IsUsable setup → t ≤ u → TakesPart setup.limit t leave outcome sent
     → KeepsApart setup.limit u (option_or leave (Some u))
-    (if unheard then gone outcome else
-    (if few then gone outcome else backing_off outcome (backoff_from setup u word outcome)))
+    (if nothing_sent then finished outcome else
+    (if few then finished outcome else backing_off outcome (backoff_from setup u word outcome)))
     (sent_with u 0 false (option_map bye_out
-    (if unheard then None else (if few then Some (bye_octets setup) else None))) ++ sent)
+    (if nothing_sent then None else (if few then Some (bye_octets setup) else None))) ++ sent)
 leave_by setup t u word leave outcome sent true few usable order h = inl h.kept
 leave_by setup t u word leave outcome sent false true usable order h =
     inr (
@@ -310,7 +310,7 @@ still_present setup t leave (ticked moment first_word second_word) outcome sent 
     (λ come passed. record { came = leb-true _ moment come; passed = leb-true _ moment passed })
     (checks setup moment order h))
 still_present setup t leave (left moment word) outcome sent usable order words h =
-    leave_by setup t moment word leave outcome sent (is_unheard outcome)
+    leave_by setup t moment word leave outcome sent (sent_nothing outcome)
     (nat_le (member_count setup outcome) few_members) usable order h
 still_present setup t leave (configured moment settings) outcome sent usable order words h =
     passes (configured moment settings) _ h refl (later moment order h.up_to) refl refl
@@ -343,7 +343,7 @@ bye_by : (setup : Setup) (t : ℕ) (leave : Option ℕ) (act : Act) (word : ℕ)
     → (due ≡ true → IsDue (schedule_at backoff.happenings) (moment_of act)
     (drawn_interval (leaving_interval setup backoff) word)) → BacksOff setup.limit t leave backoff sent
     → KeepsApart setup.limit (moment_of act) (option_or leave (leave_moment act))
-    (if due then gone outcome else backing_off outcome (after_wait setup (moment_of act) word backoff))
+    (if due then finished outcome else backing_off outcome (after_wait setup (moment_of act) word backoff))
     (sent_with (moment_of act) (leaving_interval setup backoff) false
     (if due then Some (bye_out (bye_octets setup)) else None) ++ sent)
 bye_by setup t leave act word outcome backoff sent true usable order fits due h =
@@ -354,7 +354,7 @@ bye_by setup t leave act word outcome backoff sent true usable order fits due h 
     let half = half_passes backoff.since moment interval word fits
     (subst (λ (from : ℕ). from + drawn_interval interval word ≤ moment) h.newest apart) in
     let least : 2500000 ≤ interval =
-    interval_has_minimum (leaving_load setup (leaving_count backoff) backoff.farewells) in
+    interval_has_minimum (leaving_load setup (leaving_count backoff) backoff.bye_compounds) in
     inr (
       last_bye setup (option_or leave (leave_moment act)) backoff.since moment interval usable
           (ap (λ (l : Option ℕ). option_or l (leave_moment act)) h.left_then)
@@ -428,20 +428,22 @@ change_apart setup t moment leave (backing_off outcome backoff) sent usable orde
     waits_as (has_sent outcome.own)
     (record { up_to = up_to; newest = h.newest; left_then = h.left_then; kept = kept })
     (record { up_to = up_to; newest = h.newest; left_then = h.left_then; kept = kept })
-change_apart setup t moment leave (gone outcome) sent usable order h = h
+change_apart setup t moment leave (finished outcome) sent usable order h = h
 
 -- ---- Sessions
 
-still_late : (leave : Option ℕ) (act : Act) (bye : Sent) → IsLate leave bye →
-    IsLate (option_or leave (leave_moment act)) bye
-still_late None act bye late = absurd late
-still_late (Some moment) act bye late = late
+still_in_due_time : (leave : Option ℕ) (act : Act) (bye : Sent) → IsInDueTime leave bye →
+    IsInDueTime (option_or leave (leave_moment act)) bye
+still_in_due_time None act bye late = absurd late
+still_in_due_time (Some moment) act bye late = late
 
 still_ends : (limit : ℕ) (leave : Option ℕ) (act : Act) (sent : List Sent) → EndsSo limit leave sent →
     EndsSo limit (option_or leave (leave_moment act)) sent
 still_ends limit leave act [] h = absurd h
-still_ends limit leave act (bye ∷ earlier) h =
-    (record { kind = h.0.kind; leaves = h.0.leaves; late = still_late leave act bye h.0.late; fits = h.0.fits }, h.1)
+still_ends limit leave act (bye ∷ earlier) h = (
+  record { kind = h.0.kind; leaves = h.0.leaves; late = still_in_due_time leave act bye h.0.late; fits = h.0.fits },
+  h.1,
+)
 
 keeps_apart : (setup : Setup) (t : ℕ) (leave : Option ℕ) (act : Act) (life : Life) (sent : List Sent) → IsUsable setup →
     t ≤ moment_of act → HasWords act → KeepsApart setup.limit t leave life sent
@@ -451,8 +453,8 @@ keeps_apart setup t leave act (present outcome) sent usable order words h = stil
     usable order words h
 keeps_apart setup t leave act (backing_off outcome backoff) sent usable order words h =
     still_backing_off setup t leave act outcome backoff sent usable order words h
-keeps_apart setup t leave act (gone outcome) sent usable order words (inl kept) = inl kept
-keeps_apart setup t leave act (gone outcome) sent usable order words (inr ends) =
+keeps_apart setup t leave act (finished outcome) sent usable order words (inl kept) = inl kept
+keeps_apart setup t leave act (finished outcome) sent usable order words (inr ends) =
     inr (still_ends setup.limit leave act sent ends)
 
 -- one act, after the change that it brings

@@ -6,14 +6,14 @@ use Rattle.rtcp_wire.specs.Facts.{subject, is_gone, facts_of}
 use Rattle.rtcp_members.specs.Entries.{counted_at}
 use Rattle.rtcp_members.specs.Pending.{EntryRow}
 use Rattle.rtcp_members.specs.Stays.{last_naming}
-use Rattle.rtcp_members.specs.Traces.{TraceStep, block_taken, fact_came, is_naming, with_facts}
+use Rattle.rtcp_members.specs.Traces.{TraceStep, block_made_of, fact_came, is_naming, with_facts}
 use Rattle.rtcp_report.specs.Traced.{with_blocks}
 use Rattle.rtcp_engine.specs.Acts.{Act, Datagram, arrived, configured, left, moment_of, rtcp, rtp, rtp_sent, ticked, forgotten}
 use Rattle.rtcp_engine.specs.Arrivals.{facts_of_csrcs, facts_of_media, media_fact, rate_of, with_datagram}
 use Rattle.rtcp_engine.specs.Changes.{NewIdentifier, Session, change_by, changed_by}
 use Rattle.rtcp_engine.specs.Hearing.{names_source, with_acts, IsHeardAtTicks, IsNamedAtTicks}
 use Rattle.rtcp_engine.specs.Histories.{History, last_moment, life_at, session_of}
-use Rattle.rtcp_engine.specs.Leaving.{Life, backing_off, gone, present}
+use Rattle.rtcp_engine.specs.Leaving.{Life, backing_off, finished, present}
 use Rattle.rtcp_engine.specs.Lives.{lived, with_new_ssrc}
 use Rattle.rtcp_engine.specs.Outcomes.{Outcome}
 use Rattle.rtcp_engine.specs.Reporting.{reported_at}
@@ -70,7 +70,7 @@ module _ (ssrc at : ℕ) where
   sighted_blocks : (rows : List EntryRow) (trace : List TraceStep) → IsSighted trace →
       IsSighted (with_blocks rows trace)
   sighted_blocks [] trace is = is
-  sighted_blocks (row ∷ rows) trace is = sighted_blocks rows (block_taken row.0 ∷ trace) is
+  sighted_blocks (row ∷ rows) trace is = sighted_blocks rows (block_made_of row.0 ∷ trace) is
 
   -- ---- Acts of one that takes part
 
@@ -137,7 +137,7 @@ module _ (ssrc at : ℕ) where
       by : (life : Life) → LivesSighted life → LivesSighted (with_new_ssrc session.setup life)
       by (present outcome) is = is
       by (backing_off outcome backoff) is = tt
-      by (gone outcome) is = tt
+      by (finished outcome) is = tt
 
   -- ---- Histories
 

@@ -16,7 +16,7 @@ use Rattle.rtcp_engine.specs.OwnStreams.{OwnValue, Adds, packet_sent, check_pass
 use Rattle.rtcp_engine.specs.Lives.{report_out}
 use Rattle.rtcp_engine.specs.Outcomes.{Outcome, member_count, timing_of, interval_at, check_interval}
 use Rattle.rtcp_engine.specs.Reporting.{report_octets}
-use Rattle.rtcp_engine.specs.Leaving.{Backoff, after_wait, backoff_from, is_bye_due, leaving_average, leaving_count, leaving_interval, leaving_load, leaving_timing, with_farewell_of}
+use Rattle.rtcp_engine.specs.Leaving.{Backoff, after_wait, backoff_from, is_bye_due, leaving_average, leaving_count, leaving_interval, leaving_load, leaving_timing, with_byes_of}
 use Rattle.rtcp_engine.specs.Arrivals.{facts_of_media, media_fact, rate_of, with_facts_of, with_media, with_packet}
 use Rattle.rtcp_engine.specs.Steps.{OutValue}
 use Rattle.rtcp_engine.specs.Ticks.{horizons_of, with_check, without_silent, has_come, has_passed, is_report_due, put_off, tried_at, report_due, with_report, reported, after_check as after_check_at, with_forgotten}
@@ -181,7 +181,7 @@ checks_agree : (s : State) (outcome : Outcome) (horizons : Horizons) (own : OwnV
     → Agrees (record s { table = after_check horizons s.table; own = own }) (with_check horizons outcome)
 checks_agree s outcome horizons own adds a =
     table_agrees (after_check horizons s.table) (with_check horizons outcome).trace own
-        (with_check horizons outcome).own
+    (with_check horizons outcome).own
     (tables.tables_follow_traces-check s.table outcome.trace horizons a.still.table)
     (tables.bounds_are_kept-check s.table horizons).capacity (adds outcome.own a.still.own) refl a
 
@@ -416,7 +416,7 @@ waiting_at {s} {w} {v} {members} is step = at_latest is (λ t. DoesWaiting membe
 
 pub hears : {s w : State} → s ≡ w → (average size : ℕ) → average ≡ moved_average s.average size →
     (outcome : Outcome) (backoff : Backoff) (byes : ℕ) → Waits w outcome backoff →
-    Waits (record s { average = average }) outcome (with_farewell_of byes size backoff)
+    Waits (record s { average = average }) outcome (with_byes_of byes size backoff)
 hears {s} {w} is average size average_is outcome backoff byes h =
     let at = waits_there is outcome backoff h in
     record {
@@ -427,7 +427,7 @@ hears {s} {w} is average size average_is outcome backoff byes h =
 
 -- a backoff before its first draw
 abbrev pub unstarted : (t : ℕ) → Outcome → Backoff
-unstarted t outcome = record { since = t; farewells = []; happenings = outcome.happenings }
+unstarted t outcome = record { since = t; bye_compounds = []; happenings = outcome.happenings }
 
 waits_first : {s : State} {average : ℕ} (t : ℕ) → average ≡ leaving_average s.setup [] → (outcome : Outcome) →
     Agrees s outcome → Waits (record s { average = average }) outcome (unstarted t outcome)
@@ -453,8 +453,8 @@ backs_off {s} {w} is average word td timing average_is interval steps =
 pub waiting_load : {s w : State} → s ≡ w → (members avg : ℕ) → avg ≡ s.average →
     (outcome : Outcome) (backoff : Backoff) → Waits w outcome backoff
     → load members 0 false true avg s.setup.sender_bw s.setup.receiver_bw ≡ leaving_load w.setup members
-    backoff.farewells
+    backoff.bye_compounds
 waiting_load {s} {w} is members avg same outcome backoff h =
     let at = waits_there is outcome backoff h in
     ap (λ (a : ℕ). load members 0 false true a s.setup.sender_bw s.setup.receiver_bw) (same ∙ at.average)
-    ∙ ap (λ (x : State). leaving_load x.setup members backoff.farewells) is
+    ∙ ap (λ (x : State). leaving_load x.setup members backoff.bye_compounds) is

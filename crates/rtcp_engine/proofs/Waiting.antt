@@ -29,7 +29,7 @@ use Rattle.rtcp_engine.specs.Runs.{HasCompound, IsAnsweredInTime}
 use Rattle.rtcp_engine.specs.Steps.{answer_unless}
 use Rattle.rtcp_engine.specs.Reporting.{bye_octets, report_octets}
 use Rattle.rtcp_engine.specs.Taken.{HasWords, AllTaken, IsHistory}
-use Rattle.rtcp_engine.specs.Leaving.{Backoff, Life, present, backing_off, gone, after_waiting_tick, left_at, bye_count, is_bye_due, leaving_interval, leaving_load, leaving_timing}
+use Rattle.rtcp_engine.specs.Leaving.{Backoff, Life, present, backing_off, finished, after_waiting_tick, left_at, bye_count, is_bye_due, leaving_interval, leaving_load, leaving_timing}
 use Rattle.rtcp_engine.specs.Lives.{lived, bye_out, out_by, report_out, with_new_ssrc}
 use Rattle.rtcp_engine.specs.Sent.{Sent, interval_by, reports_in, sent_at}
 use Rattle.rtcp_engine.specs.Spacing.{first_leave, newest_moment}
@@ -186,7 +186,7 @@ pub record WaitsToLeave (greatest : ℕ) (backoff : Backoff) : Type 0 where
 abbrev pub KeepsTime : (setup : Setup) (fall greatest t : ℕ) → Life → Type 0
 KeepsTime setup fall greatest t (present outcome) = Waits setup fall greatest t outcome
 KeepsTime setup fall greatest t (backing_off outcome backoff) = WaitsToLeave greatest backoff
-KeepsTime setup fall greatest t (gone outcome) = Unit {0}
+KeepsTime setup fall greatest t (finished outcome) = Unit {0}
 
 leaves_by : {setup : Setup} {fall greatest t : ℕ} {outcome : Outcome} → (moment word new_fall : ℕ) → word < 2 ^ 32 →
     t ≤ moment → Waits setup fall greatest t outcome
@@ -282,7 +282,7 @@ waits_after setup fall greatest t act (present outcome) order words h = while_pr
     outcome order words h
 waits_after setup fall greatest t act (backing_off outcome backoff) order words h =
     while_backing_off_waits setup fall greatest t act outcome backoff words h
-waits_after setup fall greatest t act (gone outcome) order words h = tt
+waits_after setup fall greatest t act (finished outcome) order words h = tt
 
 -- ---- Sessions
 
@@ -294,14 +294,14 @@ name_keeps_time setup fall greatest t (present outcome) h =
 name_keeps_time setup fall greatest t (backing_off outcome backoff) h =
     cond_both (has_sent outcome.own) _ backoff (WaitsToLeave greatest) (λ _. record { fell = h.fell; drawn = h.drawn })
     (λ _. h)
-name_keeps_time setup fall greatest t (gone outcome) h = tt
+name_keeps_time setup fall greatest t (finished outcome) h = tt
 
 keeps_with_ssrc : (setup : Setup) (ssrc fall greatest t : ℕ) (life : Life) → KeepsTime setup fall greatest t life →
     KeepsTime (with_ssrc ssrc setup) fall greatest t life
 keeps_with_ssrc setup ssrc fall greatest t (present outcome) h =
     record { known = h.known; fell = h.fell; drawn = h.drawn; past = h.past }
 keeps_with_ssrc setup ssrc fall greatest t (backing_off outcome backoff) h = h
-keeps_with_ssrc setup ssrc fall greatest t (gone outcome) h = tt
+keeps_with_ssrc setup ssrc fall greatest t (finished outcome) h = tt
 
 -- Nor do other settings.
 keeps_with_settings : (setup : Setup) (settings : SettingsValue) (fall greatest t : ℕ) (life : Life) →
@@ -309,7 +309,7 @@ keeps_with_settings : (setup : Setup) (settings : SettingsValue) (fall greatest 
 keeps_with_settings setup settings fall greatest t (present outcome) h =
     record { known = h.known; fell = h.fell; drawn = h.drawn; past = h.past }
 keeps_with_settings setup settings fall greatest t (backing_off outcome backoff) h = h
-keeps_with_settings setup settings fall greatest t (gone outcome) h = tt
+keeps_with_settings setup settings fall greatest t (finished outcome) h = tt
 
 change_keeps_time : (session : Session) (fall greatest t : ℕ) (change : Option NewIdentifier) →
     KeepsTime session.setup fall greatest t session.life → KeepsTime (changed_by change session).setup fall greatest t
@@ -413,7 +413,7 @@ tick_in_time setup fall greatest t limit leave moment first_word second_word sen
     order apart h late =
     some_if (is_bye_due setup moment first_word backoff) (bye_out (bye_octets setup))
     (bye_in_time setup greatest t moment first_word backoff words.0 apart.up_to.in_order apart.newest h late)
-tick_in_time setup fall greatest t limit leave moment first_word second_word sent (gone outcome) words order apart h
+tick_in_time setup fall greatest t limit leave moment first_word second_word sent (finished outcome) words order apart h
     late = absurd late
 
 -- after a history, and for an act that is taken

@@ -7,7 +7,7 @@ use Rattle.rtcp_timer.specs.Loads.{minimum_of}
 use Rattle.rtcp_timer.specs.Schedules.{Happening, IsInOrder, newest_transmission, schedule_at}
 use Rattle.rtcp_timer.proofs.LawLemmas.{last_lies_between-not_before_sent, last_lies_between-not_after_departure}
 use Rattle.rtcp_engine.specs.Outcomes.{Outcome, timing_of}
-use Rattle.rtcp_engine.specs.Leaving.{Backoff, Life, present, backing_off, gone, leaving_timing}
+use Rattle.rtcp_engine.specs.Leaving.{Backoff, Life, present, backing_off, finished, leaving_timing}
 use Rattle.rtcp_engine.specs.Sent.{Sent, is_report, reports_in, sent_at}
 use Rattle.rtcp_engine.specs.Histories.{History, last_moment, life_at}
 use Rattle.rtcp_engine.specs.Taken.{IsHistory}
@@ -30,8 +30,8 @@ ending_reports limit leave (bye ∷ earlier) h = subst (AreReports limit) (sym (
 
 reports_apart : (limit t : ℕ) (leave : Option ℕ) (sent : List Sent) (life : Life) → KeepsApart limit t leave life sent →
     AreReports limit (reports_in sent)
-reports_apart limit t leave sent (gone outcome) (inl h) = h.reports
-reports_apart limit t leave sent (gone outcome) (inr h) = ending_reports limit leave sent h
+reports_apart limit t leave sent (finished outcome) (inl h) = h.reports
+reports_apart limit t leave sent (finished outcome) (inr h) = ending_reports limit leave sent h
 reports_apart limit t leave sent life h = h.kept.reports
 
 spaced : (limit : ℕ) (reports : List Sent) → AreReports limit reports → AreSpaced reports
@@ -196,14 +196,14 @@ last_in_backoff history outcome backoff is life =
 
 ends_in : (limit t : ℕ) (leave : Option ℕ) (sent : List Sent) (life : Life) → KeepsApart limit t leave life sent →
     EndsWithBye leave sent
-ends_in limit t leave sent (gone outcome) (inl h) = kept_end limit leave sent h.all
-ends_in limit t leave sent (gone outcome) (inr h) = bye_ends limit leave sent h
+ends_in limit t leave sent (finished outcome) (inl h) = kept_end limit leave sent h.all
+ends_in limit t leave sent (finished outcome) (inr h) = bye_ends limit leave sent h
 ends_in limit t leave sent life h = kept_end limit leave sent h.kept.all
 
 limit_in : (limit t : ℕ) (leave : Option ℕ) (sent : List Sent) (life : Life) → KeepsApart limit t leave life sent →
     AllFit limit sent
-limit_in limit t leave sent (gone outcome) (inl h) = kept_fit limit sent h.all
-limit_in limit t leave sent (gone outcome) (inr h) = bye_fits limit leave sent h
+limit_in limit t leave sent (finished outcome) (inl h) = kept_fit limit sent h.all
+limit_in limit t leave sent (finished outcome) (inr h) = bye_fits limit leave sent h
 limit_in limit t leave sent life h = kept_fit limit sent h.kept.all
 
 -- ---- All together

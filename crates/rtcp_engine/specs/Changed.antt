@@ -3,7 +3,7 @@ use Rattle.std.specs.Prelude.{ℕ, ◌≡◌, Option, Some, None}
 use Rattle.rtcp_timer.specs.Schedules.{Timing}
 use Rattle.rtcp_engine.specs.Setups.{settings_of}
 use Rattle.rtcp_engine.specs.Outcomes.{timing_of}
-use Rattle.rtcp_engine.specs.Leaving.{Life, present, backing_off, gone, leaving_timing}
+use Rattle.rtcp_engine.specs.Leaving.{Life, present, backing_off, finished, leaving_timing}
 use Rattle.rtcp_engine.specs.Lives.{entries_in_life, entry_in_life, members_in_life, senders_in_life}
 use Rattle.rtcp_engine.specs.Changes.{Session, is_in_table}
 
@@ -11,7 +11,7 @@ use Rattle.rtcp_engine.specs.Changes.{Session, is_in_table}
 abbrev pub timing_in_life : Life → Option Timing
 timing_in_life (present outcome) = Some (timing_of outcome)
 timing_in_life (backing_off outcome backoff) = Some (leaving_timing backoff)
-timing_in_life (gone outcome) = None
+timing_in_life (finished outcome) = None
 
 pub record KeepsRest (before after : Session) : Type 0 where
   pub settings : settings_of after.setup ≡ settings_of before.setup

@@ -9,7 +9,7 @@ use Rattle.rtcp_engine.specs.Setups.{Setup}
 use Rattle.rtcp_engine.specs.Acts.{Datagram, rtcp, rtp, Act, arrived}
 use Rattle.rtcp_engine.specs.Identities.{first_free, is_among, most_changes, with_ssrc}
 use Rattle.rtcp_engine.specs.Steps.{OutValue}
-use Rattle.rtcp_engine.specs.Leaving.{Life, present, backing_off, gone}
+use Rattle.rtcp_engine.specs.Leaving.{Life, present, backing_off, finished}
 use Rattle.rtcp_engine.specs.Lives.{own_bye, with_new_ssrc}
 
 -- What a session has come to.
@@ -50,7 +50,7 @@ named_by (rtp (Err fault)) = []
 abbrev pub is_in_table : Setup → Life → (ssrc : ℕ) → Bool
 is_in_table setup (present outcome) ssrc = is_some (entry_at setup.capacity outcome.trace ssrc)
 is_in_table setup (backing_off outcome backoff) ssrc = is_some (entry_at setup.capacity outcome.trace ssrc)
-is_in_table setup (gone outcome) ssrc = false
+is_in_table setup (finished outcome) ssrc = false
 
 -- An identifier is taken if the participant has or had it, if the table has it, or if the datagram names it.
 abbrev pub is_taken : Session → Datagram → (ssrc : ℕ) → Bool

@@ -1,4 +1,4 @@
--- Who is heard: a source is a member from a compound with its CNAME on, until it says goodbye, the host says that it is
+-- Who is heard: a source is a member from a compound with its CNAME on, until it sends a BYE, the host says that it is
 -- gone, or it is silent for too long (RFC 3550, 6.2.1, 6.3.3 to 6.3.5, 6.3.7). Lists are newest first.
 use Rattle.std.specs.Prelude.{ℕ, ◌≡◌, ◌+◌, ◌*◌, ◌≤◌, ◌==◌, ◌&&◌, not, Bool, true, false, List, ◌∷◌, ◌++◌, All, Contains, Ok, Err}
 use Rattle.std.specs.List.{list_any}
@@ -20,7 +20,7 @@ is_member_at ssrc history = is_such is_member (entry_in_life (setup_at history) 
 abbrev pub with_acts : List Act → History → History
 with_acts since history = record history { acts = since ++ history.acts }
 
--- An act brings no goodbye of a source, and the host does not say in it that the source is gone.
+-- An act brings no BYE of a source, and the host does not say in it that the source is gone.
 abbrev pub LeavesAlone : (ssrc : ℕ) → Act → Type 0
 LeavesAlone ssrc (arrived moment peer word (rtcp size (Ok packets))) =
     All (λ fact. (is_gone fact && subject fact == ssrc) ≡ false) (facts_of packets)
@@ -41,7 +41,7 @@ IsHeardAtTicks ssrc since history =
 
 -- ---- Datagrams
 
--- A datagram names a source: its RTP packet comes from it, or a fact of its compound is one of it, and not its goodbye.
+-- A datagram names a source: its RTP packet comes from it, or a fact of its compound is one of it, and not its BYE.
 abbrev pub names_source : (ssrc : ℕ) → Datagram → Bool
 names_source ssrc (rtcp size (Ok packets)) =
     list_any (λ fact. not (is_gone fact) && subject fact == ssrc) (facts_of packets)

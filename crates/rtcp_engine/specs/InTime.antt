@@ -10,7 +10,7 @@ use Rattle.rtcp_engine.specs.Lives.{out_by}
 use Rattle.rtcp_engine.specs.Ticks.{checked, with_report, without_source}
 use Rattle.rtcp_engine.specs.Arrivals.{with_reading}
 use Rattle.rtcp_engine.specs.Histories.{History, brought_by, life_at, session_at, session_for, session_of, setup_at}
-use Rattle.rtcp_engine.specs.Leaving.{Backoff, Life, present, backing_off, gone, leaving_interval, leaving_load}
+use Rattle.rtcp_engine.specs.Leaving.{Backoff, Life, present, backing_off, finished, leaving_interval, leaving_load}
 use Rattle.rtcp_engine.specs.Sent.{Sent, reports_in, interval_by, sent_at}
 use Rattle.rtcp_engine.specs.Spacing.{newest_moment}
 
@@ -30,7 +30,7 @@ abbrev pub is_fall : Setup → Act → Life → Bool
 is_fall setup act (present outcome) =
     nat_lt (member_count setup (recounted_by setup act outcome)) (member_count setup outcome)
 is_fall setup act (backing_off outcome backoff) = false
-is_fall setup act (gone outcome) = false
+is_fall setup act (finished outcome) = false
 
 -- the moment of the newest fall, 0 if there was none
 abbrev pub last_fall : Setup → (word : ℕ) → List Act → ℕ
@@ -59,7 +59,7 @@ greatest_while_backing_off setup act backoff before = before
 abbrev pub greatest_by : Setup → Act → Life → (before : ℕ) → ℕ
 greatest_by setup act (present outcome) before = greatest_while_present setup act outcome before
 greatest_by setup act (backing_off outcome backoff) before = greatest_while_backing_off setup act backoff before
-greatest_by setup act (gone outcome) before = before
+greatest_by setup act (finished outcome) before = before
 
 -- The greatest of the deterministic intervals computed since the newest report: for the draw that followed it, and at
 -- each tick since, after its check. Before the first report, since the start; after a leave, since that. A report is
@@ -85,7 +85,7 @@ abbrev pub HasWaited : (wait moment fall : ℕ) → List Sent → Life → Type 
 HasWaited wait moment fall sent (present outcome) =
     (newest_moment (reports_in sent) + wait ≤ moment) × (fall + wait ≤ moment)
 HasWaited wait moment fall sent (backing_off outcome backoff) = backoff.since + wait ≤ moment
-HasWaited wait moment fall sent (gone outcome) = ⊥
+HasWaited wait moment fall sent (finished outcome) = ⊥
 
 -- An act comes late.
 abbrev pub IsOverdue : History → Act → Type 0

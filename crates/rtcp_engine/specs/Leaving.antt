@@ -27,7 +27,7 @@ abbrev pub bye_count : List RtcpPacket → ℕ
 bye_count packets = length (filter is_bye packets)
 
 -- a compound with BYE packets: how many, and its size
-pub record Farewell : Type 0 where
+pub record ByeCompound : Type 0 where
   pub byes : ℕ
   pub size : ℕ
 
@@ -36,45 +36,45 @@ pub record Backoff : Type 0 where
   -- the moment of its leave
   pub since : ℕ
   -- the compounds with BYE packets that were accepted since
-  pub farewells : List Farewell
+  pub bye_compounds : List ByeCompound
   -- what happened to the schedule, from the start of the session on
   pub happenings : List Happening
 
 -- The members that are leaving: the participant, and one for each BYE packet, as far as 16 bits go.
 abbrev pub leaving_count : Backoff → ℕ
-leaving_count backoff = min 65535 (1 + sum_by (λ farewell. farewell.byes) backoff.farewells)
+leaving_count backoff = min 65535 (1 + sum_by (λ bye_compound. bye_compound.byes) backoff.bye_compounds)
 
 -- The average begins anew with the participant's own BYE, and BYE packets of others move it.
-abbrev pub leaving_average : Setup → List Farewell → ℕ
-leaving_average setup farewells =
-    average_of (length (bye_octets setup)) (map (λ farewell. farewell.size) farewells)
+abbrev pub leaving_average : Setup → List ByeCompound → ℕ
+leaving_average setup bye_compounds =
+    average_of (length (bye_octets setup)) (map (λ bye_compound. bye_compound.size) bye_compounds)
 
 -- The participant counts as one that joins, and does not send.
-abbrev pub leaving_load : Setup → (members : ℕ) → List Farewell → Load
-leaving_load setup members farewells = record {
+abbrev pub leaving_load : Setup → (members : ℕ) → List ByeCompound → Load
+leaving_load setup members bye_compounds = record {
   members = members;
   senders = 0;
   we_sent = false;
   initial = true;
-  avg = leaving_average setup farewells;
+  avg = leaving_average setup bye_compounds;
   sender_bw = setup.sender_bw;
   receiver_bw = setup.receiver_bw;
 }
 
 abbrev pub leaving_interval : Setup → Backoff → ℕ
-leaving_interval setup backoff = interval_of (leaving_load setup (leaving_count backoff) backoff.farewells)
+leaving_interval setup backoff = interval_of (leaving_load setup (leaving_count backoff) backoff.bye_compounds)
 
 abbrev pub leaving_timing : Backoff → Timing
 leaving_timing backoff = schedule_at backoff.happenings
 
-abbrev pub with_farewell_of : (byes size : ℕ) → Backoff → Backoff
-with_farewell_of byes size backoff =
-    record backoff { farewells = record { byes = byes; size = size } ∷ backoff.farewells }
+abbrev pub with_byes_of : (byes size : ℕ) → Backoff → Backoff
+with_byes_of byes size backoff =
+    record backoff { bye_compounds = record { byes = byes; size = size } ∷ backoff.bye_compounds }
 
 -- A compound counts if it has a BYE packet.
-abbrev pub after_farewell : (size : ℕ) → List RtcpPacket → Backoff → Backoff
-after_farewell size packets backoff =
-    if bye_count packets == 0 then backoff else with_farewell_of (bye_count packets) size backoff
+abbrev pub after_byes : (size : ℕ) → List RtcpPacket → Backoff → Backoff
+after_byes size packets backoff =
+    if bye_count packets == 0 then backoff else with_byes_of (bye_count packets) size backoff
 
 abbrev pub is_bye_due : Setup → (t word : ℕ) → Backoff → Bool
 is_bye_due setup t word backoff =
@@ -95,8 +95,8 @@ after_wait setup t word backoff =
 -- ---- A leave
 
 -- nothing was sent under the present identifier, no report and no RTP packet
-abbrev pub is_unheard : Outcome → Bool
-is_unheard outcome = not (has_sent outcome.own)
+abbrev pub sent_nothing : Outcome → Bool
+sent_nothing outcome = not (has_sent outcome.own)
 
 -- The most members with which a BYE goes out at once.
 abbrev pub few_members : ℕ
@@ -106,7 +106,7 @@ few_members = 50
 abbrev pub backoff_from : Setup → (t word : ℕ) → Outcome → Backoff
 backoff_from setup t word outcome = record {
   since = t;
-  farewells = [];
+  bye_compounds = [];
   happenings =
       transmitted t (drawn_interval (interval_of (leaving_load setup 1 [])) word) 1 ∷ outcome.happenings;
 }
@@ -118,25 +118,25 @@ pub data Life : Type 0 where
   -- it left, and has yet to say so
   backing_off : Outcome → Backoff → Life
   -- it left for good
-  gone : Outcome → Life
+  finished : Outcome → Life
 
 -- What a leave makes of a session, without a check before it.
 abbrev pub left_at : Setup → (t word : ℕ) → Outcome → Life
 left_at setup t word outcome =
-    if is_unheard outcome then gone outcome
-    else (if nat_le (member_count setup outcome) few_members then gone outcome
+    if sent_nothing outcome then finished outcome
+    else (if nat_le (member_count setup outcome) few_members then finished outcome
     else backing_off outcome (backoff_from setup t word outcome))
 
 -- the BYE that goes out at once, if one does
 abbrev pub bye_at_once : Setup → Outcome → Option (List ℕ)
 bye_at_once setup outcome =
-    if is_unheard outcome then None
+    if sent_nothing outcome then None
     else (if nat_le (member_count setup outcome) few_members then Some (bye_octets setup) else None)
 
 -- what a tick makes of a backoff
 abbrev pub after_waiting_tick : Setup → (t word : ℕ) → Outcome → Backoff → Life
 after_waiting_tick setup t word outcome backoff =
-    if is_bye_due setup t word backoff then gone outcome
+    if is_bye_due setup t word backoff then finished outcome
     else backing_off outcome (after_wait setup t word backoff)
 
 -- ---- A change of identifier
@@ -144,7 +144,7 @@ after_waiting_tick setup t word outcome backoff =
 -- The old identifier's BYE moves the average, if something was sent under that one, and adds no member.
 abbrev pub after_own_bye : Setup → Outcome → Backoff → Backoff
 after_own_bye setup outcome backoff =
-    if has_sent outcome.own then with_farewell_of 0 (length (bye_octets setup)) backoff else backoff
+    if has_sent outcome.own then with_byes_of 0 (length (bye_octets setup)) backoff else backoff
 
 abbrev pub counted_anew : Outcome → Outcome
 counted_anew outcome = record outcome { own = counts_anew ∷ outcome.own }

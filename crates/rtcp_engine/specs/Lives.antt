@@ -1,4 +1,4 @@
--- What the acts of a session make of it, its leave included: the participant takes part, backs off, or is gone.
+-- What the acts of a session make of it, its leave included: the participant takes part, backs off, or has finished.
 use Rattle.std.specs.Prelude.{ℕ, ◌≡◌, ◌-◌, ◌==◌, not, Bool, false, List, [], length, if◌then◌else◌, Option, Some, None, option_map, Result, Ok, Err}
 use Rattle.rtcp_wire.specs.declared.fault.WireFault.{WireFault}
 use Rattle.rtcp_wire.specs.Values.{RtcpPacket}
@@ -6,7 +6,7 @@ use Rattle.rtcp_members.specs.Traces.{names}
 use Rattle.rtcp_members.specs.Stays.{present_among, stay_of}
 use Rattle.rtcp_members.specs.Entries.{EntryValue, entry_at, members_at}
 use Rattle.rtcp_members.specs.Roles.{moved_within}
-use Rattle.rtcp_members.specs.Told.{StateValue, TellsAbove, IsWalk}
+use Rattle.rtcp_members.specs.Listings.{StateValue, ListsAbove, IsWalk}
 use Rattle.rtcp_engine.specs.declared.step.Standing.{Standing}
 use Rattle.rtcp_engine.specs.declared.step.OutKind.TheVariants.{Report, Bye}
 use Rattle.rtcp_engine.specs.Setups.{Setup, SettingsValue}
@@ -17,7 +17,7 @@ use Rattle.rtcp_engine.specs.Outcomes.{Outcome, member_count, sender_count, timi
 use Rattle.rtcp_engine.specs.Arrivals.{after, with_change}
 use Rattle.rtcp_engine.specs.Steps.{OutValue, StepValue}
 use Rattle.rtcp_engine.specs.Ticks.{checked, report_due}
-use Rattle.rtcp_engine.specs.Leaving.{Backoff, Life, present, backing_off, gone, bye_at_once, after_farewell, after_own_bye, counted_anew, after_waiting_tick, is_bye_due, left_at, leaving_count, leaving_timing}
+use Rattle.rtcp_engine.specs.Leaving.{Backoff, Life, present, backing_off, finished, bye_at_once, after_byes, after_own_bye, counted_anew, after_waiting_tick, is_bye_due, left_at, leaving_count, leaving_timing}
 
 -- ---- Acts
 
@@ -25,14 +25,14 @@ abbrev pub while_present : Setup → Act → Outcome → Life
 while_present setup (left moment word) outcome = left_at setup moment word outcome
 while_present setup act outcome = present (after setup act outcome)
 
-abbrev pub with_farewell : (size : ℕ) → Result (List RtcpPacket) WireFault → Backoff → Backoff
-with_farewell size (Ok packets) backoff = after_farewell size packets backoff
-with_farewell size (Err fault) backoff = backoff
+abbrev pub with_byes : (size : ℕ) → Result (List RtcpPacket) WireFault → Backoff → Backoff
+with_byes size (Ok packets) backoff = after_byes size packets backoff
+with_byes size (Err fault) backoff = backoff
 
 -- Nothing counts but compounds, and ticks, which make no check. A second leave begins nothing anew.
 abbrev pub while_backing_off : Setup → Act → Outcome → Backoff → Life
 while_backing_off setup (arrived moment peer word (rtcp size reading)) outcome backoff =
-    backing_off outcome (with_farewell size reading backoff)
+    backing_off outcome (with_byes size reading backoff)
 while_backing_off setup (ticked moment first_word second_word) outcome backoff =
     after_waiting_tick setup moment first_word outcome backoff
 while_backing_off setup act outcome backoff = backing_off outcome backoff
@@ -40,58 +40,58 @@ while_backing_off setup act outcome backoff = backing_off outcome backoff
 abbrev pub lived : Setup → Act → Life → Life
 lived setup act (present outcome) = while_present setup act outcome
 lived setup act (backing_off outcome backoff) = while_backing_off setup act outcome backoff
-lived setup act (gone outcome) = gone outcome
+lived setup act (finished outcome) = finished outcome
 
 -- A change of identifier: the BYE of the old one counts as a compound that was sent, if something was sent under it.
 abbrev pub with_new_ssrc : Setup → Life → Life
 with_new_ssrc setup (present outcome) = present (with_change setup outcome)
 with_new_ssrc setup (backing_off outcome backoff) =
     backing_off (counted_anew outcome) (after_own_bye setup outcome backoff)
-with_new_ssrc setup (gone outcome) = gone outcome
+with_new_ssrc setup (finished outcome) = finished outcome
 
 -- Settings note the pace of checks where they change it, as long as the participant takes part.
 abbrev pub with_pace_in : Setup → SettingsValue → (t : ℕ) → Life → Life
 with_pace_in setup settings t (present outcome) = present (with_pace setup settings t outcome)
 with_pace_in setup settings t (backing_off outcome backoff) = backing_off outcome backoff
-with_pace_in setup settings t (gone outcome) = gone outcome
+with_pace_in setup settings t (finished outcome) = finished outcome
 
 -- ---- Counts, with the participant among them until it is gone
 
 abbrev pub members_in_life : Setup → Life → ℕ
 members_in_life setup (present outcome) = member_count setup outcome
 members_in_life setup (backing_off outcome backoff) = leaving_count backoff
-members_in_life setup (gone outcome) = 0
+members_in_life setup (finished outcome) = 0
 
 abbrev pub senders_in_life : Setup → Life → ℕ
 senders_in_life setup (present outcome) = sender_count setup outcome
 senders_in_life setup (backing_off outcome backoff) = 0
-senders_in_life setup (gone outcome) = 0
+senders_in_life setup (finished outcome) = 0
 
 -- how many sources are present, members or not, until the participant leaves
 abbrev pub entries_in_life : Setup → Life → ℕ
 entries_in_life setup (present outcome) = present_among (names outcome.trace) (stay_of setup.capacity outcome.trace)
 entries_in_life setup (backing_off outcome backoff) = 0
-entries_in_life setup (gone outcome) = 0
+entries_in_life setup (finished outcome) = 0
 
 -- what the participant tells of a source goes by this, if it tells of it
 abbrev pub entry_in_life : Setup → Life → (ssrc : ℕ) → Option EntryValue
 entry_in_life setup (present outcome) ssrc = entry_at setup.capacity outcome.trace ssrc
 entry_in_life setup (backing_off outcome backoff) ssrc = None
-entry_in_life setup (gone outcome) ssrc = None
+entry_in_life setup (finished outcome) ssrc = None
 
 -- Of the sources above `after` the one of least SSRC is told, by the trace, as long as the participant takes part.
 -- In a backoff it follows nobody any more, so nobody is told from its leave on.
-abbrev pub TellsInLife : Setup → (after : Option ℕ) → Life → Option StateValue → Type 0
-TellsInLife setup after (present outcome) told =
-    TellsAbove after setup.capacity outcome.trace told
-TellsInLife setup after (backing_off outcome backoff) told = told ≡ None
-TellsInLife setup after (gone outcome) told = told ≡ None
+abbrev pub ListsInLife : Setup → (after : Option ℕ) → Life → Option StateValue → Type 0
+ListsInLife setup after (present outcome) listed =
+    ListsAbove after setup.capacity outcome.trace listed
+ListsInLife setup after (backing_off outcome backoff) listed = listed ≡ None
+ListsInLife setup after (finished outcome) listed = listed ≡ None
 
 -- what is told of all sources, one after the other
 abbrev pub WalksInLife : Setup → Life → List StateValue → Type 0
 WalksInLife setup (present outcome) states = IsWalk None setup.capacity outcome.trace states
 WalksInLife setup (backing_off outcome backoff) states = states ≡ []
-WalksInLife setup (gone outcome) states = states ≡ []
+WalksInLife setup (finished outcome) states = states ≡ []
 
 -- ---- Changes of the others
 
@@ -108,19 +108,19 @@ moved_since setup before after =
 abbrev pub others_moved_into : Setup → (before : Outcome) → Life → Bool
 others_moved_into setup before (present after) = moved_since setup before after
 others_moved_into setup before (backing_off after backoff) = has_others setup before
-others_moved_into setup before (gone after) = has_others setup before
+others_moved_into setup before (finished after) = has_others setup before
 
 -- Whether an act changes who of the others is a member, or who of them sends, as far as the participant tells.
 abbrev pub others_moved_by : Setup → Act → Life → Bool
 others_moved_by setup act (present outcome) = others_moved_into setup outcome (while_present setup act outcome)
 others_moved_by setup act (backing_off outcome backoff) = false
-others_moved_by setup act (gone outcome) = false
+others_moved_by setup act (finished outcome) = false
 
 -- the moment to ask again, until the participant is gone
 abbrev pub next_in_life : Life → Option ℕ
 next_in_life (present outcome) = Some (timing_of outcome).next
 next_in_life (backing_off outcome backoff) = Some (leaving_timing backoff).next
-next_in_life (gone outcome) = None
+next_in_life (finished outcome) = None
 
 -- ---- The whole
 
@@ -157,16 +157,16 @@ out_while_backing_off setup act outcome backoff = None
 abbrev pub out_by : Setup → Act → Life → Option OutValue
 out_by setup act (present outcome) = out_while_present setup act outcome
 out_by setup act (backing_off outcome backoff) = out_while_backing_off setup act outcome backoff
-out_by setup act (gone outcome) = None
+out_by setup act (finished outcome) = None
 
-abbrev pub bye_if_heard : Setup → Outcome → Option OutValue
-bye_if_heard setup outcome = if has_sent outcome.own then Some (bye_out (bye_octets setup)) else None
+abbrev pub bye_if_sent : Setup → Outcome → Option OutValue
+bye_if_sent setup outcome = if has_sent outcome.own then Some (bye_out (bye_octets setup)) else None
 
 -- the BYE of an identifier that is given up, if something was sent under it
 abbrev pub own_bye : Setup → Life → Option OutValue
-own_bye setup (present outcome) = bye_if_heard setup outcome
-own_bye setup (backing_off outcome backoff) = bye_if_heard setup outcome
-own_bye setup (gone outcome) = None
+own_bye setup (present outcome) = bye_if_sent setup outcome
+own_bye setup (backing_off outcome backoff) = bye_if_sent setup outcome
+own_bye setup (finished outcome) = None
 
 -- ---- Answers
 

@@ -5,7 +5,7 @@ use Rattle.rtcp_engine.specs.Refused.{settings_error}
 use Rattle.rtcp_engine.specs.Acts.{Act, configured}
 use Rattle.rtcp_engine.specs.Outcomes.{Outcome, end_at, newest_pace, pace_at}
 use Rattle.rtcp_engine.specs.Histories.{History, life_at, session_for, session_of, setup_at}
-use Rattle.rtcp_engine.specs.Leaving.{Life, present, backing_off, gone}
+use Rattle.rtcp_engine.specs.Leaving.{Life, present, backing_off, finished}
 use Rattle.rtcp_engine.specs.Taken.{IsHistory}
 
 -- Settings are taken at a moment, of a participant that takes part. Later, at the moment `t`, they are the newest
@@ -33,7 +33,7 @@ end_while_present setup act outcome before = before
 abbrev pub end_by : Setup → Act → Life → (before : ℕ) → ℕ
 end_by setup act (present outcome) before = end_while_present setup act outcome before
 end_by setup act (backing_off outcome backoff) before = before
-end_by setup act (gone outcome) before = before
+end_by setup act (finished outcome) before = before
 
 -- The latest end of all former paces, 0 if bandwidths never changed: that of a change comes five intervals after it, by
 -- the bandwidths that it gave up. So it moves with a change of bandwidths alone.

@@ -2,7 +2,7 @@
 use Rattle.std.specs.Prelude.{◌≡◌, ◌<◌, ◌^◌, ℕ, List, Result, IfOk, IfSome, OnErr}
 use Rattle.rtcp_engine.specs.declared.refusal.Refusal.{Refusal}
 use Rattle.rtcp_engine.specs.declared.step.Standing.{Standing}
-use Rattle.rtcp_engine.specs.declared.step.Told.{Told}
+use Rattle.rtcp_engine.specs.declared.step.WrittenStep.{WrittenStep}
 use Rattle.rtcp_engine.specs.declared.step.Step.{Step}
 use Rattle.rtcp_engine.specs.Acts.{Act, EventValue, IsActOfEvent}
 use Rattle.rtcp_engine.specs.Answers.{answer_of, followed_by}
@@ -11,7 +11,7 @@ use Rattle.rtcp_engine.specs.Lives.{standing_in_life}
 use Rattle.rtcp_engine.specs.Runs.{IsAnsweredInTime}
 use Rattle.rtcp_engine.specs.States.{KeepsCapacity, ParticipantValue, StandsAt}
 use Rattle.rtcp_engine.specs.Steps.{AnswerValue}
-use Rattle.rtcp_engine.specs.Views.{LeavesRest, answer_value, out_told, reply_value}
+use Rattle.rtcp_engine.specs.Views.{LeavesRest, answer_value, out_written, reply_value}
 
 -- ---- An act
 
@@ -31,9 +31,10 @@ pub record SaysStanding (standing : Standing) (participant : ParticipantValue) :
 
 -- A reply says where the participant stands after the call. The compound that it tells of stands at the start of the
 -- caller's octets, and the octets after it are as they were.
-pub record Tells (before after : List ℕ) (reply : Result Told Refusal) (new : ParticipantValue) : Type 0 where
+pub record WritesReply (before after : List ℕ) (reply : Result WrittenStep Refusal) (new : ParticipantValue) : Type
+    0 where
   pub standing : IfOk reply (λ told. SaysStanding told.standing new)
-  pub leaves : LeavesRest before after (out_told reply)
+  pub leaves : LeavesRest before after (out_written reply)
 
 -- Whatever it is told, its table stays within its capacity, and a refusal leaves it as it was.
 pub record Spares {A : Type 0} (old : ParticipantValue) (answer : Result A Refusal) (new : ParticipantValue)
@@ -52,9 +53,9 @@ pub record Answers (old : ParticipantValue) (event : EventValue) (answer : Resul
 
 -- The same of a call whose caller keeps the octets for a compound.
 pub record Replies
-    (old : ParticipantValue) (event : EventValue) (before after : List ℕ) (reply : Result Told Refusal)
+    (old : ParticipantValue) (event : EventValue) (before after : List ℕ) (reply : Result WrittenStep Refusal)
     (new : ParticipantValue)
     : Type 0 where
   pub takes : (act : Act) → IsActOfEvent event act → Takes old act (reply_value after reply) new
   pub spares : Spares old reply new
-  pub tells : Tells before after reply new
+  pub writes : WritesReply before after reply new

@@ -6,7 +6,7 @@ use Rattle.rtcp_engine.specs.declared.refusal.Refusal.TheVariants.{Left, Backwar
 use Rattle.rtcp_engine.specs.Refused.{settings_error}
 use Rattle.rtcp_engine.specs.Acts.{Datagram, rtcp, rtp, Act, arrived, configured, moment_of}
 use Rattle.rtcp_engine.specs.Identities.{may_change}
-use Rattle.rtcp_engine.specs.Leaving.{Life, present, backing_off, gone}
+use Rattle.rtcp_engine.specs.Leaving.{Life, present, backing_off, finished}
 use Rattle.rtcp_engine.specs.Changes.{Session, changing_peers, is_about}
 use Rattle.rtcp_engine.specs.Histories.{History, last_moment, session_at}
 
@@ -53,7 +53,7 @@ refusal_of history act =
 abbrev pub refusal_in : Life → Option Refusal → Option Refusal
 refusal_in (present outcome) refusal = refusal
 refusal_in (backing_off outcome backoff) refusal = refusal
-refusal_in (gone outcome) refusal = Some Left
+refusal_in (finished outcome) refusal = Some Left
 
 -- why an act is refused after a history, if it is
 abbrev pub refusal_after : History → Act → Option Refusal

@@ -2,7 +2,7 @@
 use Rattle.std.specs.Prelude.{ℕ, ◌+◌, ◌-◌, ◌/◌, ◌%◌, ◌==◌, List, [], ◌∷◌, if◌then◌else◌, length, slice_get, Option, Some, None}
 use Rattle.rtcp_wire.specs.Values.{ItemValue, RtcpPacket}
 use Rattle.rtcp_wire.specs.Writing.{written_all}
-use Rattle.rtcp_members.specs.Traces.{TraceStep, fact_came, check_made, block_taken, source_forgotten}
+use Rattle.rtcp_members.specs.Traces.{TraceStep, fact_came, check_made, block_made_of, source_forgotten}
 use Rattle.rtcp_members.specs.Pending.{EntryRow, blocks_of}
 use Rattle.rtcp_members.specs.News.{pending_rows_at}
 use Rattle.rtcp_report.specs.Reports.{Reporter, packets_with, bye_of}
@@ -28,7 +28,7 @@ last_reported_in [] = None
 last_reported_in (fact_came fact moment ∷ earlier) = last_reported_in earlier
 last_reported_in (check_made horizons ∷ earlier) = last_reported_in earlier
 last_reported_in (source_forgotten ssrc ∷ earlier) = last_reported_in earlier
-last_reported_in (block_taken ssrc ∷ earlier) = Some ssrc
+last_reported_in (block_made_of ssrc ∷ earlier) = Some ssrc
 
 -- who makes the report of this number at a moment: a sender or a receiver, with its CNAME and the extra item whose turn
 -- it is

@@ -29,9 +29,9 @@ is_bye None = false
 is_bye (Some out) = elim out.kind [ Report ↦ false | Bye ↦ true ]
 
 -- whether an answer has the BYE with which the participant leaves: the BYE of an identifier that it gives up is another
-abbrev pub says_goodbye : AnswerValue → Bool
-says_goodbye (Ok step) = is_bye step.out && not (is_some step.changed)
-says_goodbye (Err refusal) = false
+abbrev pub says_bye : AnswerValue → Bool
+says_bye (Ok step) = is_bye step.out && not (is_some step.changed)
+says_bye (Err refusal) = false
 
 abbrev pub AreRefusals : List AnswerValue → Type 0
 AreRefusals [] = Unit {0}
@@ -39,9 +39,9 @@ AreRefusals (Ok step ∷ later) = ⊥
 AreRefusals (Err refusal ∷ later) = AreRefusals later
 
 -- After the BYE of leaving come refusals alone: so there is at most one.
-abbrev pub EndAtGoodbye : List AnswerValue → Type 0
-EndAtGoodbye [] = Unit {0}
-EndAtGoodbye (answer ∷ later) = (says_goodbye answer ≡ true → AreRefusals later) × EndAtGoodbye later
+abbrev pub EndAtBye : List AnswerValue → Type 0
+EndAtBye [] = Unit {0}
+EndAtBye (answer ∷ later) = (says_bye answer ≡ true → AreRefusals later) × EndAtBye later
 
 -- ---- In time
 
@@ -88,4 +88,4 @@ pub record HandsOver (history : History) (acts : List Act) (answers : List Answe
   pub refused : AreRefusalsForgotten history acts answers
   pub bounded : let after = followed_by_all history acts in
       AreBounded (first_leave after.acts) after.setup.limit (handed_over history acts answers ++ sent_at history)
-  pub ends : EndAtGoodbye answers
+  pub ends : EndAtBye answers

@@ -9,6 +9,6 @@ use Rattle.rtcp_wire.specs.Facts.{facts_of_chunk}
 abbrev pub facts_of_chunks : List ChunkValue → List Fact
 facts_of_chunks chunks = flat_map facts_of_chunk chunks
 
--- what a goodbye says of these sources
-abbrev pub facts_of_goodbyes : List ℕ → List Fact
-facts_of_goodbyes ids = map Gone ids
+-- what a BYE says of these sources
+abbrev pub facts_of_byes : List ℕ → List Fact
+facts_of_byes ids = map Gone ids

@@ -7,7 +7,7 @@ use Rattle.rtcp_engine.specs.Outcomes.{Outcome, Report, interval_at}
 use Rattle.rtcp_engine.specs.Ticks.{checked}
 use Rattle.rtcp_engine.specs.Histories.{History, brought_by, session_of}
 use Rattle.rtcp_engine.specs.Steps.{OutValue, AnswerValue}
-use Rattle.rtcp_engine.specs.Leaving.{Life, present, backing_off, gone, leaving_interval}
+use Rattle.rtcp_engine.specs.Leaving.{Life, present, backing_off, finished, leaving_interval}
 use Rattle.rtcp_engine.specs.Changes.{Session, change_by}
 
 -- ---- A compound
@@ -36,7 +36,7 @@ interval_while_present setup act outcome = 0
 abbrev pub interval_by : Setup → Act → Life → ℕ
 interval_by setup act (present outcome) = interval_while_present setup act outcome
 interval_by setup act (backing_off outcome backoff) = leaving_interval setup backoff
-interval_by setup act (gone outcome) = 0
+interval_by setup act (finished outcome) = 0
 
 -- The deterministic interval that decides whether an act brings a compound (RFC 3550, 6.3.6, 6.3.7): 0 where it changes
 -- the identifier.
@@ -75,7 +75,7 @@ handed_out moment interval (Err refusal) = []
 abbrev pub reports_of : Life → List Report
 reports_of (present outcome) = outcome.reports
 reports_of (backing_off outcome backoff) = outcome.reports
-reports_of (gone outcome) = outcome.reports
+reports_of (finished outcome) = outcome.reports
 
 abbrev pub counted_report : Sent → Report
 counted_report sent = record { moment = sent.moment; interval = sent.interval; octets = sent.out.octets }

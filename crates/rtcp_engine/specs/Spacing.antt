@@ -49,9 +49,9 @@ first_leave (act ∷ earlier) = option_or (first_leave earlier) (leave_moment ac
 
 -- A BYE comes at the moment of a leave, and waits for nothing; or in a backoff, once half its interval over 1.21828 has
 -- passed, which is at least 1,026,037 microseconds.
-abbrev pub IsLate : (leave : Option ℕ) → Sent → Type 0
-IsLate None bye = ⊥
-IsLate (Some leave) bye =
+abbrev pub IsInDueTime : (leave : Option ℕ) → Sent → Type 0
+IsInDueTime None bye = ⊥
+IsInDueTime (Some leave) bye =
     ((bye.moment ≡ leave) × (bye.interval ≡ 0))
     ⊎ (HalfPasses leave bye.moment bye.interval × (leave + 1026037 ≤ bye.moment))
 
@@ -67,7 +67,7 @@ is_change_bye sent = not (is_report sent) && sent.changes
 abbrev pub EndsWithBye : (leave : Option ℕ) → List Sent → Type 0
 EndsWithBye leave [] = Unit {0}
 EndsWithBye leave (newest ∷ earlier) =
-    All (λ sent. is_last_bye sent ≡ false) earlier × (is_last_bye newest ≡ true → IsLate leave newest)
+    All (λ sent. is_last_bye sent ≡ false) earlier × (is_last_bye newest ≡ true → IsInDueTime leave newest)
 
 -- At most eight identifiers are given up with a BYE.
 abbrev pub HasFewChanges : List Sent → Type 0

@@ -17,7 +17,7 @@ use Rattle.rtcp_engine.specs.Reporting.{bye_octets, last_reported_in}
 use Rattle.rtcp_engine.specs.Changes.{Session}
 use Rattle.rtcp_engine.specs.Histories.{History, last_moment, session_at, setup_after}
 use Rattle.rtcp_engine.specs.Refusals.{call_refusal}
-use Rattle.rtcp_engine.specs.Leaving.{Backoff, Life, present, backing_off, gone, leaving_count, leaving_timing, leaving_average}
+use Rattle.rtcp_engine.specs.Leaving.{Backoff, Life, present, backing_off, finished, leaving_count, leaving_timing, leaving_average}
 use Rattle.rtcp_engine.specs.Lives.{has_others, lived, moved_since, others_moved_by, out_by}
 use Rattle.rtcp_engine.specs.Steps.{OutValue}
 use Rattle.rtcp_engine.specs.Acts.{Act}
@@ -111,7 +111,7 @@ HasOthers state others = (outcome : Outcome) → Agrees state outcome → others
 -- The numbers of one that backs off.
 pub record Waits (state : State) (outcome : Outcome) (backoff : Backoff) : Type 0 where
   pub timing : state.timing ≡ leaving_timing backoff
-  pub average : state.average ≡ leaving_average state.setup backoff.farewells
+  pub average : state.average ≡ leaving_average state.setup backoff.bye_compounds
   pub still : StandsStill state outcome
 
 -- One step of a participant that backs off, with so many members.
@@ -193,7 +193,7 @@ abbrev pub IsAt : ParticipantValue → Life → Type 0
 IsAt participant (present outcome) = (participant.phase ≡ taking_part) × Agrees participant.presence outcome
 IsAt participant (backing_off outcome backoff) =
     (participant.phase ≡ leaving (leaving_count backoff)) × Waits participant.presence outcome backoff
-IsAt participant (gone outcome) = participant.phase ≡ over
+IsAt participant (finished outcome) = participant.phase ≡ over
 
 -- One that is gone takes no call.
 abbrev pub refusal_in_phase : PhaseValue → Option Refusal → Option Refusal

@@ -5,12 +5,12 @@ use Rattle.rtcp_engine.specs.declared.clock.Clock.{Clock}
 use Rattle.rtcp_engine.specs.declared.config.Config.{Config}
 use Rattle.rtcp_engine.specs.declared.settings.Settings.{Settings}
 use Rattle.rtcp_engine.specs.declared.participant.Phase.{Phase}
-use Rattle.rtcp_engine.specs.declared.participant.Phase.TheVariants.{Present, BackingOff, Gone}
+use Rattle.rtcp_engine.specs.declared.participant.Phase.TheVariants.{Present, BackingOff, Finished}
 use Rattle.rtcp_engine.specs.declared.presence.ticks.NumberedReport.{NumberedReport}
 use Rattle.rtcp_engine.specs.declared.refusal.Refusal.{Refusal}
 use Rattle.rtcp_engine.specs.declared.step.Out.{Out}
 use Rattle.rtcp_engine.specs.declared.step.Step.{Step}
-use Rattle.rtcp_engine.specs.declared.step.Told.{Told}
+use Rattle.rtcp_engine.specs.declared.step.WrittenStep.{WrittenStep}
 use Rattle.rtcp_engine.specs.declared.step.Written.{Written}
 use Rattle.rtcp_engine.specs.declared.arrival.Arrival.{Arrival}
 use Rattle.rtcp_engine.specs.declared.arrival.Arrival.TheVariants.{Rtcp, Rtp}
@@ -27,7 +27,7 @@ use Rattle.rtcp_engine.specs.States.{PhaseValue, taking_part, leaving, over}
 abbrev pub phase_value : Phase → PhaseValue
 phase_value Present = taking_part
 phase_value (BackingOff members) = leaving members
-phase_value Gone = over
+phase_value Finished = over
 
 abbrev pub clock_value : Clock → ClockValue
 clock_value clock = record { payload_type = clock.payload_type; rate = clock.rate }
@@ -112,8 +112,8 @@ pub record LeavesRest (before after : List ℕ) (written : Option Written) : Typ
   pub room : size_written written ≤ length after
   pub rest : drop (size_written written) after ≡ drop (size_written written) before
 
-abbrev pub told_value : (octets : List ℕ) → Told → StepValue
-told_value octets told = record {
+abbrev pub written_step_value : (octets : List ℕ) → WrittenStep → StepValue
+written_step_value octets told = record {
   out = out_in octets told.out;
   members = told.standing.members;
   senders = told.standing.senders;
@@ -123,14 +123,14 @@ told_value octets told = record {
   others_changed = told.others_changed;
 }
 
-abbrev pub reply_value : (octets : List ℕ) → Result Told Refusal → AnswerValue
-reply_value octets (Ok told) = Ok (told_value octets told)
+abbrev pub reply_value : (octets : List ℕ) → Result WrittenStep Refusal → AnswerValue
+reply_value octets (Ok told) = Ok (written_step_value octets told)
 reply_value octets (Err refusal) = Err refusal
 
 -- the compound that a reply tells of
-abbrev pub out_told : Result Told Refusal → Option Written
-out_told (Ok told) = told.out
-out_told (Err refusal) = None
+abbrev pub out_written : Result WrittenStep Refusal → Option Written
+out_written (Ok told) = told.out
+out_written (Err refusal) = None
 
 -- ---- Events
 

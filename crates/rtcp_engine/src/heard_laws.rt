@@ -25,7 +25,7 @@ ghost use Rattle.rtcp_engine.specs.Hearing.{
 };
 
 /// Who was heard within five times Td stays a member (RFC 3550, 6.3.5). A source is a member. In the acts since, no
-/// datagram brings its goodbye, the host does not say that it is gone, and at each tick its newest fact is no older
+/// datagram brings its BYE, the host does not say that it is gone, and at each tick its newest fact is no older
 /// than five of the intervals that the tick's check goes by. Then it is a member still, as long as the participant
 /// takes part. So it is after the check of one more such tick, where the tick decides on a report.
 ///
@@ -49,7 +49,7 @@ pub fn those_heard_stay_members()
 
 /// Whose compound comes is a member (RFC 3550, 6.2.1, 6.3.3). A compound that is taken gives the CNAME of a source, and
 /// may bring it in: it is present, or there is room for it and a source for each fact of others; and it says no
-/// goodbye. Then the source is a member after that, and as long as `those_heard_stay_members` says.
+/// BYE. Then the source is a member after that, and as long as `those_heard_stay_members` says.
 pub fn those_named_become_members()
     ensures joins { (history : History) (moment peer word size ssrc : ℕ) (packets : List RtcpPacket)
         (outcome : Outcome) → life_at history ≡ present outcome → Contains (facts_of packets) (Named ssrc) →

@@ -5,9 +5,9 @@ ghost use Rattle.std.specs.Prelude.{◌≡◌, ◌↔◌, ◌≤◌, ◌^◌, �
 ghost use Rattle.rtcp_wire.specs.Values.{ItemValue};
 ghost use Rattle.rtcp_members.specs.Clocks.{HasOneClock};
 ghost use Rattle.rtcp_members.specs.Traces.{TraceStep};
-ghost use Rattle.rtcp_members.specs.Past.{IsToldBy};
+ghost use Rattle.rtcp_members.specs.Past.{IsKnownBy};
 ghost use Rattle.rtcp_members.specs.Pending.{EntryRow, last_reported};
-ghost use Rattle.rtcp_members.specs.Told.{StateValue};
+ghost use Rattle.rtcp_members.specs.Listings.{StateValue};
 ghost use Rattle.rtcp_report.specs.Traced.{with_blocks};
 ghost use Rattle.rtcp_engine.specs.Setups.{Setup, SettingsValue, IsUsable, keeps_bandwidths, settings_of, with_settings};
 ghost use Rattle.rtcp_engine.specs.Refused.{error_in, settings_error};
@@ -24,7 +24,7 @@ ghost use Rattle.rtcp_engine.specs.Histories.{History, brought_by, last_moment, 
 ghost use Rattle.rtcp_engine.specs.Leaving.{Backoff, Life, present, backing_off, leaving_timing};
 ghost use Rattle.rtcp_engine.specs.Refusals.{refusal_after};
 ghost use Rattle.rtcp_engine.specs.Answers.{answer_of, followed_by};
-ghost use Rattle.rtcp_engine.specs.Lives.{TellsInLife, WalksInLife, next_in_life, own_bye, with_pace_in};
+ghost use Rattle.rtcp_engine.specs.Lives.{ListsInLife, WalksInLife, next_in_life, own_bye, with_pace_in};
 ghost use Rattle.rtcp_engine.specs.Changes.{NewIdentifier, Session, change_by, changed_by, changing_peers, is_taken, new_identifier};
 ghost use Rattle.rtcp_engine.specs.Changed.{KeepsRest};
 ghost use Rattle.rtcp_engine.specs.Identities.{AreApart, IsFirstFree, with_ssrc};
@@ -226,20 +226,20 @@ pub fn sends_in_time()
 {}
 
 /// Whatever is told of a source lies at or before the latest call that was taken, and so at or before 2^50: when it
-/// was last heard, when it said goodbye and when its last sender report came, of one source and of all.
-pub fn told_moments_have_passed()
+/// was last heard, when it sent a BYE and when its last sender report came, of one source and of all.
+pub fn listed_moments_have_passed()
     ensures heard { (history : History) → IsHistory history → (after : Option ℕ) (state : StateValue) →
-        TellsInLife (setup_at history) after (life_at history) (Some state) →
+        ListsInLife (setup_at history) after (life_at history) (Some state) →
         state.heard ≤ last_moment history.acts }
     ensures left { (history : History) → IsHistory history → (after : Option ℕ) (state : StateValue) →
-        TellsInLife (setup_at history) after (life_at history) (Some state) →
+        ListsInLife (setup_at history) after (life_at history) (Some state) →
         IfSome state.left (λ left. left ≤ last_moment history.acts) }
-    ensures told { (history : History) → IsHistory history → (after : Option ℕ) (state : StateValue) →
-        TellsInLife (setup_at history) after (life_at history) (Some state) →
-        IfSome state.told (λ told. told.moment ≤ last_moment history.acts) }
+    ensures last_report { (history : History) → IsHistory history → (after : Option ℕ) (state : StateValue) →
+        ListsInLife (setup_at history) after (life_at history) (Some state) →
+        IfSome state.last_report (λ last_report. last_report.moment ≤ last_moment history.acts) }
     ensures all { (history : History) → IsHistory history → (states : List StateValue) →
         WalksInLife (setup_at history) (life_at history) states →
-        All (IsToldBy (last_moment history.acts)) states }
+        All (IsKnownBy (last_moment history.acts)) states }
     ensures range { (history : History) → IsHistory history → last_moment history.acts ≤ 2 ^ 50 }
 {}
 

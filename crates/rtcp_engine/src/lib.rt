@@ -31,7 +31,7 @@
 //! session the BYE comes later, from a tick (6.3.7).
 //!
 //! Each answer has room for a compound, 1.5 KB. A host with little stack keeps that room itself and calls
-//! [`tick_into`](Participant::tick_into) and its like: they write a compound to the start of it, and return a [`Told`]
+//! [`tick_into`](Participant::tick_into) and its like: they write a compound to the start of it, and return a [`WrittenStep`]
 //! that describes it.
 //!
 //! A call that is refused (`Refusal`) changes nothing. `specs/` defines the answer to each call over everything that
@@ -72,4 +72,4 @@ pub use rtcp_report::Item;
 pub use runs::{Ran, run};
 pub use settings::Settings;
 pub use sink::{Sink, SinkStop};
-pub use step::{Answer, Out, OutKind, Reply, Standing, Step, Told, Written};
+pub use step::{Answer, Out, OutKind, Reply, Standing, Step, Written, WrittenStep};

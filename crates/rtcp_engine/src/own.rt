@@ -97,7 +97,7 @@ impl OwnStream {
     }
 
     /// Whether a report or a packet was sent under the present identifier.
-    pub(crate) fn is_heard(&self) -> bool
+    pub(crate) fn did_send(&self) -> bool
         ensures { result ≡ self.now.heard }
     {
         self.heard

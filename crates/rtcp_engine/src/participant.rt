@@ -6,7 +6,7 @@ ghost use Rattle.rtcp_members.specs.ListViews.{state_value};
 ghost use Rattle.rtcp_engine.specs.declared.config.ConfigError.{ConfigError as Error};
 ghost use Rattle.rtcp_engine.specs.Acts.{forget_asked, leave_asked, packet_sent, rtcp_arrived, rtp_arrived, settings_given, time_passed};
 ghost use Rattle.rtcp_engine.specs.Histories.{History, life_at, setup_at};
-ghost use Rattle.rtcp_engine.specs.Lives.{members_in_life, senders_in_life, entries_in_life, TellsInLife, WalksInLife, next_in_life};
+ghost use Rattle.rtcp_engine.specs.Lives.{members_in_life, senders_in_life, entries_in_life, ListsInLife, WalksInLife, next_in_life};
 ghost use Rattle.rtcp_engine.specs.Refused.{error_in};
 ghost use Rattle.rtcp_engine.specs.States.{KeepsCapacity, StandsAt};
 ghost use Rattle.rtcp_engine.specs.Promises.{Answers};
@@ -39,7 +39,7 @@ pub(crate) enum Phase {
     /// It left, and its BYE is to come: with it, so many leave.
     BackingOff(u32),
     /// It left for good.
-    Gone,
+    Finished,
 }
 
 /// The control half of a participant: it is told what arrives, what is sent and what time it is, and it answers
@@ -129,19 +129,19 @@ impl<T: MemberTable> Participant<T> {
     /// nobody any more.
     pub fn source_above(&self, after: Option<u32>) -> Option<SourceState>
         ensures { (history : History) → StandsAt self.now history →
-            TellsInLife (setup_at history) after (life_at history) (option_map state_value result) }
+            ListsInLife (setup_at history) after (life_at history) (option_map state_value result) }
     {
         match self.phase {
             Phase::Present => self.presence.source_above(after),
-            Phase::BackingOff(_) | Phase::Gone => None,
+            Phase::BackingOff(_) | Phase::Finished => None,
         }
     }
 
     /// [`source_above`](Participant::source_above), for a host that asks for one source after the other: the participant
     /// notes where the one that it tells stands, to find the next one sooner. It is the same after it.
     pub fn next_source(&mut self, after: Option<u32>) -> Option<SourceState>
-        ensures told { (history : History) → StandsAt self.old history →
-            TellsInLife (setup_at history) after (life_at history) (option_map state_value result) }
+        ensures listed { (history : History) → StandsAt self.old history →
+            ListsInLife (setup_at history) after (life_at history) (option_map state_value result) }
         ensures kept { self.new ≡ self.old }
     {
         if let Phase::Present = self.phase {
@@ -293,12 +293,12 @@ impl<T: MemberTable> Participant<T> {
         answer_with(reply, &octets)
     }
 
-    /// Tells that another source is gone, as its host knows by other means, such as signalling. Its entry goes as if
+    /// WritesReply that another source is gone, as its host knows by other means, such as signalling. Its entry goes as if
     /// the source had been silent for too long at the moment `now` (RFC 3550, 6.3.5): it is no member and no sender any
     /// more, the members are counted again (6.3.4), and there is room for another source. Named again, it comes as a
     /// new one.
     ///
-    /// Nothing changes where the source has no entry, said goodbye, or is the participant itself, and in a backoff.
+    /// Nothing changes where the source has no entry, sent a BYE, or is the participant itself, and in a backoff.
     ///
     /// # Errors
     ///

@@ -2,7 +2,7 @@
 
 ghost use Rattle.std.specs.Prelude.{◌≡◌, ◌≢◌, ◌↔◌, ◌≤◌, ◌<◌, ◌*◌, ◌^◌, Option, Some, None, is_some, option_map};
 ghost use Rattle.std.specs.FinMap as map;
-ghost use Rattle.rtcp_members.specs.Told.{state_above, states_above};
+ghost use Rattle.rtcp_members.specs.Listings.{state_above, states_above};
 ghost use Rattle.rtcp_members.specs.ListViews.{state_value};
 ghost use Rattle.rtcp_members.specs.Tables.{no_members};
 ghost use Rattle.rtcp_engine.specs.Refused.{error_in};
@@ -161,7 +161,7 @@ impl<T: MemberTable> Presence<T> {
 
     /// The same. It notes where that source stands, to find the next one sooner.
     pub(crate) fn next_source(&mut self, after: Option<u32>) -> Option<SourceState>
-        ensures told { option_map state_value result ≡ state_above after self.old.table }
+        ensures listed { option_map state_value result ≡ state_above after self.old.table }
         ensures kept { self.new ≡ self.old }
     {
         self.table.source_from(after, &mut self.listed)

@@ -7,7 +7,7 @@ ghost use Rattle.rtcp_wire.specs.Facts.{facts_of, facts_of_chunk, facts_of_packe
 ghost use Rattle.rtcp_wire.specs.Views.{packet_value};
 ghost use Rattle.rtcp_members.specs.Roles.{facts_move};
 ghost use Rattle.rtcp_members.specs.Tables.{after_facts};
-ghost use Rattle.rtcp_engine.specs.Sayings.{facts_of_chunks, facts_of_goodbyes};
+ghost use Rattle.rtcp_engine.specs.Sayings.{facts_of_chunks, facts_of_byes};
 
 use crate::table::apply_said;
 use rtcp_members::MemberTable;
@@ -42,7 +42,7 @@ fn apply_packet<T: MemberTable>(table: &mut T, packet: &PacketView<'_>, t: u64) 
         }
         PacketView::Rr(report) => apply_one(table, Fact::Heard(report.ssrc), t),
         PacketView::Sdes(description) => apply_chunks(table, description.chunks(), t),
-        PacketView::Bye(goodbye) => apply_goodbyes(table, goodbye.ids(), t),
+        PacketView::Bye(goodbye) => apply_byes(table, goodbye.ids(), t),
         PacketView::App(packet) => apply_one(table, Fact::Heard(packet.ssrc), t),
         PacketView::Other(_) => false,
     }
@@ -73,10 +73,10 @@ fn apply_chunk<T: MemberTable>(table: &mut T, chunk: &Chunk<'_>, t: u64) -> bool
     apply_one(table, Fact::Heard(chunk.id()), t)
 }
 
-fn apply_goodbyes<T: MemberTable>(table: &mut T, ids: Ids<'_>, t: u64) -> bool
+fn apply_byes<T: MemberTable>(table: &mut T, ids: Ids<'_>, t: u64) -> bool
     ensures content { T.content table.new
-        ≡ after_facts (facts_of_goodbyes ids.entry) t (T.content table.old) }
-    ensures moved { result ≡ facts_move (facts_of_goodbyes ids.entry) t (T.content table.old) }
+        ≡ after_facts (facts_of_byes ids.entry) t (T.content table.old) }
+    ensures moved { result ≡ facts_move (facts_of_byes ids.entry) t (T.content table.old) }
 {
     let mut moved = false;
     'ids: for id in ids {
@@ -138,7 +138,7 @@ fn describe(chunks: Chunks<'_>, ssrc: u32) -> bool
 
 /// Whether this source is among them.
 fn are_among(ids: Ids<'_>, ssrc: u32) -> bool
-    ensures { result ≡ list_any (λ fact. subject fact == ssrc) (facts_of_goodbyes ids.entry) }
+    ensures { result ≡ list_any (λ fact. subject fact == ssrc) (facts_of_byes ids.entry) }
 {
     'ids: for id in ids {
         if id == ssrc {

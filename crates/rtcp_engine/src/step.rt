@@ -1,7 +1,7 @@
 //! What a participant answers.
 
 ghost use Rattle.std.specs.Prelude.{◌≡◌, ◌≤◌, Some, length, option_map};
-ghost use Rattle.rtcp_engine.specs.Views.{LeavesRest, answer_value, out_in, out_told, out_value, reply_value, size_written};
+ghost use Rattle.rtcp_engine.specs.Views.{LeavesRest, answer_value, out_in, out_written, out_value, reply_value, size_written};
 
 use crate::refusal::Refusal;
 use arrayvec::ArrayVec;
@@ -12,7 +12,7 @@ use rtcp_wire::MAX_COMPOUND;
 pub enum OutKind {
     /// A report (RFC 3550, 6.4).
     Report,
-    /// A goodbye, with an empty report before it (RFC 3550, 6.3.7, 6.6): the participant's, or that of an SSRC
+    /// A BYE, with an empty report before it (RFC 3550, 6.3.7, 6.6): the participant's, or that of an SSRC
     /// that it gives up (8.2).
     Bye,
 }
@@ -103,7 +103,7 @@ pub struct Standing {
 /// compound in place of having it.
 // The flag is first: then a refusal lies over none of the other fields, and the compiler takes none of them apart.
 #[derive(Clone, Copy, Debug, PartialEq, Eq)]
-pub struct Told {
+pub struct WrittenStep {
     /// Whether the call changed the role of another source, as in [`Step::others_changed`].
     pub others_changed: bool,
     /// The participant's new SSRC, where the call changed it, as in [`Step::changed`].
@@ -115,7 +115,7 @@ pub struct Told {
 }
 
 /// What was told, or why the call was refused.
-pub type Reply = Result<Told, Refusal>;
+pub type Reply = Result<WrittenStep, Refusal>;
 
 /// What an act brought, beside what it left of the participant.
 #[derive(Clone, Copy)]
@@ -134,7 +134,7 @@ pub(crate) const NOTHING: Brought = Brought {
 
 /// The answer of a call whose reply is this, and whose compound stands in these octets, if it has one.
 pub(crate) fn answer_with(reply: Reply, octets: &[u8; MAX_COMPOUND]) -> Answer
-    requires { size_written (out_told reply) ≤ 1472 }
+    requires { size_written (out_written reply) ≤ 1472 }
     ensures { answer_value result ≡ reply_value octets.now reply }
 {
     match reply {

@@ -105,7 +105,7 @@ pub(crate) fn apply_said<T: MemberTable>(table: &mut T, fact: Fact, t: u64) -> b
 }
 
 /// How many sources of a table are members, and how many send. A check changes who they are where it changes one of
-/// these numbers, as it adds nobody, and so does a dismissal.
+/// these numbers, as it adds nobody, and so does a forget.
 #[derive(Clone, Copy, PartialEq, Eq)]
 struct RoleCounts {
     members: u32,

@@ -3,7 +3,7 @@ use Rattle.std.proofs.Common.{◌≡◌, ◌<◌, ◌≤◌, ◌+◌, ◌==◌, 
 use Rattle.std.proofs.lemmas.Bool.{and_parts, eqb-true, or_parts}
 use Rattle.std.proofs.lemmas.Bool.Decides.{nat_tests}
 use Rattle.std.proofs.lemmas.List.Sums.{sum_by-cons}
-use Rattle.rtcp_members.specs.Told.{StateValue, RiseAbove}
+use Rattle.rtcp_members.specs.Listings.{StateValue, RiseAbove}
 use Rattle.rtcp_listing.specs.declared.change.Role.{Role}
 use Rattle.rtcp_listing.specs.declared.change.Role.TheVariants.{Away, Member, Sender}
 use Rattle.rtcp_listing.specs.declared.change.Change.{Change}
@@ -273,8 +273,8 @@ rise_after last (state ∷ rest) rise =
     let above : not (nat_lt state.ssrc (suc last)) ≡ true = grind (arith, nat_tests, after) in
     (λ i. above i && rises_from (suc state.ssrc) (map listed_of rest)) ∙ rise_after state.ssrc rest rise.1
 
-pub told_rise : (states : List StateValue) → RiseAbove None states → rises_from 0 (map listed_of states) ≡ true
-told_rise [] rise = refl
-told_rise (state ∷ rest) rise =
+pub listed_rise : (states : List StateValue) → RiseAbove None states → rises_from 0 (map listed_of states) ≡ true
+listed_rise [] rise = refl
+listed_rise (state ∷ rest) rise =
     let above : not (nat_lt state.ssrc 0) ≡ true = grind (arith, nat_tests) in
     (λ i. above i && rises_from (suc state.ssrc) (map listed_of rest)) ∙ rise_after state.ssrc rest rise.1

@@ -1,6 +1,6 @@
 -- What changed between two listings of the sources of a session.
 use Rattle.std.specs.Prelude.{ℕ, ◌≡◌, ◌<◌, ◌==◌, ◌&&◌, ◌++◌, ◌+◌, length, suc, nat_lt, not, Bool, true, false, List, [], ◌∷◌, filter, map, Option, Some, None, option_map, unwrap_or, is_some, if◌then◌else◌}
-use Rattle.rtcp_members.specs.Told.{StateValue}
+use Rattle.rtcp_members.specs.Listings.{StateValue}
 use Rattle.rtcp_listing.specs.declared.change.Role.{Role}
 use Rattle.rtcp_listing.specs.declared.change.Role.TheVariants.{Away, Member, Sender}
 use Rattle.rtcp_listing.specs.declared.change.Change.{Change}
@@ -11,7 +11,7 @@ use Rattle.rtcp_listing.specs.declared.change.Change.{Change}
 pub record ListedValue : Type 0 where
   pub ssrc : ℕ
   pub role : Role
-  -- whether it said goodbye
+  -- whether it sent a BYE
   pub left : Bool
 
 -- one that is not a member does not take part, though it is present

@@ -20,7 +20,7 @@ pub struct Change {
     pub was: Role,
     /// Its role now.
     pub is: Role,
-    /// Whether it said goodbye, as far as is known of it now.
+    /// Whether it sent a BYE, as far as is known of it now.
     pub has_left: bool,
 }
 
@@ -43,7 +43,7 @@ impl Change {
         self.has_left && self.is_gone()
     }
 
-    /// Whether it took part and was dropped without a BYE: silent for too long (6.3.5), or dismissed by its host.
+    /// Whether it took part and was dropped without a BYE: silent for too long (6.3.5), or forgotten by its host.
     pub fn went_without_bye(&self) -> bool
         ensures { result ≡ went_without_bye self.now }
     {
@@ -51,7 +51,7 @@ impl Change {
     }
 
     /// The former name of [`went_without_bye`](Change::went_without_bye), of which it is true only where the host
-    /// dismisses nobody.
+    /// forgets nobody.
     pub fn timed_out(&self) -> bool
         ensures { result ≡ went_without_bye self.now }
     {

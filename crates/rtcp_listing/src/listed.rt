@@ -20,7 +20,7 @@ pub trait Listed {
     fn role(&self) -> Role
         ensures { result ≡ (listed self.now).role };
 
-    /// Whether it said goodbye.
+    /// Whether it sent a BYE.
     fn has_left(&self) -> bool
         ensures { result ≡ (listed self.now).left };
 }

@@ -2,7 +2,7 @@
 
 ghost use Rattle.std.specs.Prelude.{◌<◌};
 
-use rtcp_engine::{Change, OutKind, Reply, Role, Told};
+use rtcp_engine::{Change, OutKind, Reply, Role, WrittenStep};
 use rtcp_members::SourceState;
 use std::fmt;
 use std::fmt::Write;
@@ -77,7 +77,7 @@ impl Digest {
     }
 
     /// Mixes what a call that was taken answered.
-    fn told(&mut self, told: &Told, room: &[u8; 1472]) {
+    fn told(&mut self, told: &WrittenStep, room: &[u8; 1472]) {
         let standing = told.standing;
         self.numbers(&[
             pair(standing.members, standing.senders),

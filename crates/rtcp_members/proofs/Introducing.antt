@@ -70,7 +70,7 @@ still_present : (capacity ssrc moment : ℕ) (fact : Fact) (trace stay : List Tr
 still_present capacity ssrc moment fact trace stay found =
     ap (stay_with capacity (fact_came fact moment) (names trace) (stay_of capacity trace) ssrc) found
 
--- what is no goodbye of a source is none where it is a fact of it
+-- what is no BYE of a source is none where it is a fact of it
 not_gone : (gone own : Bool) → (gone && own) ≡ false → own ≡ true → gone ≡ false
 not_gone true own quiet is = sym (sym quiet ∙ is)
 not_gone false own quiet is = refl
@@ -83,7 +83,7 @@ enough n others capacity room = grind (arith, nat_tests, room)
 module _ (capacity ssrc moment : ℕ) (fact : Fact) (facts : List Fact) (trace : List TraceStep)
     (may : MayBring capacity ssrc (fact ∷ facts) trace) where
   quiet : (is_gone fact && subject fact == ssrc) ≡ false
-  quiet = All-head (λ (fact : Fact). (is_gone fact && subject fact == ssrc) ≡ false) fact facts may.no_goodbye
+  quiet = All-head (λ (fact : Fact). (is_gone fact && subject fact == ssrc) ≡ false) fact facts may.no_bye
 
   room_if_absent : stay_of capacity trace ssrc ≡ None →
       nat_lt (present_in capacity trace + count_of_others ssrc (fact ∷ facts)) capacity ≡ true
@@ -148,8 +148,8 @@ module _ (capacity ssrc moment : ℕ) (fact : Fact) (facts : List Fact) (trace :
 
   may_bring_on : MayBring capacity ssrc facts (fact_came fact moment ∷ trace)
   may_bring_on = record {
-    no_goodbye =
-        All-tail (λ (fact : Fact). (is_gone fact && subject fact == ssrc) ≡ false) fact facts may.no_goodbye;
+    no_bye =
+        All-tail (λ (fact : Fact). (is_gone fact && subject fact == ssrc) ≡ false) fact facts may.no_bye;
     unmarked = next_stay (stay_of capacity trace ssrc) refl may.unmarked;
     room = next_room (stay_of capacity trace ssrc) refl;
   }
@@ -202,7 +202,7 @@ pub named_become_members : (capacity ssrc moment : ℕ) (facts : List Fact) (tra
 named_become_members capacity ssrc moment [] trace (k, inside, is) may = absurd (omega (arith, inside))
 named_become_members capacity ssrc moment (fact ∷ facts) trace (zero, inside, is) may =
     members_through capacity ssrc moment facts (fact_came fact moment ∷ trace)
-    (All-tail (λ (fact : Fact). (is_gone fact && subject fact == ssrc) ≡ false) fact facts may.no_goodbye)
+    (All-tail (λ (fact : Fact). (is_gone fact && subject fact == ssrc) ≡ false) fact facts may.no_bye)
     (named_now capacity ssrc moment fact facts trace may (stay_of capacity trace ssrc) refl may.unmarked is)
 named_become_members capacity ssrc moment (fact ∷ facts) trace (suc k, inside, is) may =
     named_become_members capacity ssrc moment facts (fact_came fact moment ∷ trace) (k, omega (arith, inside), is)

@@ -3,9 +3,9 @@ use Rattle.std.proofs.Common.{◌≡◌, ℕ, ◌≤◌, ◌&&◌, ◌||◌, nat
 use Rattle.std.proofs.lemmas.Bool.{and_parts}
 use Rattle.std.proofs.lemmas.Bool.Decides.{nat_tests}
 use Rattle.std.proofs.lemmas.List.Elements.{All-head, All-tail}
-use Rattle.rtcp_members.specs.Traces.{Horizons, TraceStep, fact_came, check_made, block_taken, source_forgotten, is_naming, names}
+use Rattle.rtcp_members.specs.Traces.{Horizons, TraceStep, fact_came, check_made, block_made_of, source_forgotten, is_naming, names}
 use Rattle.rtcp_members.specs.Stays.{mark_at, mark_of, before_mark, step_moment, last_naming, last_sighting, is_removed, ends_stay, stay_with, stay_of}
-use Rattle.rtcp_members.specs.Lasting.{says_goodbye, is_forgetting, IsLeftAlone, IsHeardAtChecks, LooksBackTo, NamesFrom}
+use Rattle.rtcp_members.specs.Lasting.{says_bye, is_forgetting, IsLeftAlone, IsHeardAtChecks, LooksBackTo, NamesFrom}
 use Rattle.rtcp_members.specs.Entries.{gives_name, is_counted_by, given_of, is_valid, entry_of, entry_at, is_member, is_such}
 use Rattle.rtcp_members.proofs.stays.StayLaws.{stay_is_prefix}
 
@@ -18,7 +18,7 @@ silent_before step = 0
 
 -- A step that ends no stay of a source which was named last at this moment.
 pub record Spares (ssrc naming : ℕ) (step : TraceStep) : Type 0 where
-  pub quiet : says_goodbye ssrc step ≡ false
+  pub quiet : says_bye ssrc step ≡ false
   pub kept : is_forgetting ssrc step ≡ false
   pub heard : silent_before step ≤ naming
 
@@ -43,16 +43,16 @@ spared ssrc (fact_came fact moment) stay none spares = refl
 spared ssrc (check_made horizons) stay none spares =
     (λ i. is_removed horizons (sighted_last ssrc stay none i) (none i))
     ∙ not_silent (last_naming ssrc stay) horizons spares.heard
-spared ssrc (block_taken other) stay none spares = refl
+spared ssrc (block_made_of other) stay none spares = refl
 spared ssrc (source_forgotten other) stay none spares =
     ap (λ (b : Bool). b && is_none (mark_of ssrc stay)) spares.kept
 
-pub unmarked_by : (ssrc : ℕ) (step : TraceStep) (stay : List TraceStep) → says_goodbye ssrc step ≡ false →
+pub unmarked_by : (ssrc : ℕ) (step : TraceStep) (stay : List TraceStep) → says_bye ssrc step ≡ false →
     mark_of ssrc stay ≡ None → mark_of ssrc (step ∷ stay) ≡ None
 unmarked_by ssrc (fact_came fact moment) stay quiet none =
     ap (mark_at ssrc (fact_came fact moment)) none ∙ ap (λ (b : Bool). if b then Some moment else None) quiet
 unmarked_by ssrc (check_made horizons) stay quiet none = ap (mark_at ssrc (check_made horizons)) none
-unmarked_by ssrc (block_taken other) stay quiet none = ap (mark_at ssrc (block_taken other)) none
+unmarked_by ssrc (block_made_of other) stay quiet none = ap (mark_at ssrc (block_made_of other)) none
 unmarked_by ssrc (source_forgotten other) stay quiet none = ap (mark_at ssrc (source_forgotten other)) none
 
 -- ---- The newest naming of a trace is that of the stay
@@ -96,7 +96,7 @@ stays_on capacity ssrc step trace stay is spares =
 left_alone_before : (ssrc : ℕ) (step : TraceStep) (since : List TraceStep) → IsLeftAlone ssrc (step ∷ since) →
     IsLeftAlone ssrc since
 left_alone_before ssrc step since alone = record {
-  no_goodbye = All-tail (λ (step : TraceStep). says_goodbye ssrc step ≡ false) step since alone.no_goodbye;
+  no_bye = All-tail (λ (step : TraceStep). says_bye ssrc step ≡ false) step since alone.no_bye;
   kept = All-tail (λ (step : TraceStep). is_forgetting ssrc step ≡ false) step since alone.kept;
 }
 
@@ -113,7 +113,7 @@ heard_now ssrc step since before heard = omega arith
 spares_now : (ssrc : ℕ) (step : TraceStep) (since before : List TraceStep) → IsLeftAlone ssrc (step ∷ since) →
     IsHeardAtChecks ssrc (step ∷ since) before → Spares ssrc (last_naming ssrc (since ++ before)) step
 spares_now ssrc step since before alone heard = record {
-  quiet = All-head (λ (step : TraceStep). says_goodbye ssrc step ≡ false) step since alone.no_goodbye;
+  quiet = All-head (λ (step : TraceStep). says_bye ssrc step ≡ false) step since alone.no_bye;
   kept = All-head (λ (step : TraceStep). is_forgetting ssrc step ≡ false) step since alone.kept;
   heard = heard_now ssrc step since before heard;
 }

@@ -54,15 +54,15 @@ pub use Rattle.rtcp_members.proofs.turns.Turns.{others_wait as others_stay_pendi
 pub use Rattle.rtcp_members.proofs.turns.NextDue.{next_is_due as first_is_due-answered}
 pub use Rattle.rtcp_members.proofs.turns.NewsOfTraces.{pending_is_traced as turns_follow_traces-rows}
 pub use Rattle.rtcp_members.proofs.turns.NewsOfTraces.{due_at_trace as turns_follow_traces-due}
-pub use Rattle.rtcp_members.proofs.telling.Above.{tells_above as told_follows_traces-told}
-pub use Rattle.rtcp_members.proofs.telling.Above.{told_once as told_follows_traces-only}
-pub use Rattle.rtcp_members.proofs.telling.Above.{walk_rises as walks_tell_each_once-rising}
-pub use Rattle.rtcp_members.proofs.telling.Above.{states_are_walk as tables_tell_walks-walk}
-pub use Rattle.rtcp_members.proofs.telling.Above.{told_more as tables_tell_walks-more, told_none as tables_tell_walks-none}
-pub use Rattle.rtcp_members.proofs.telling.Past.{told_of_past as told_lies_in_the_past-told}
-pub use Rattle.rtcp_members.proofs.telling.Past.{walk_of_past as told_lies_in_the_past-walk}
-pub use Rattle.rtcp_members.proofs.telling.Past.{came_later as told_lies_in_the_past-later}
-pub use Rattle.rtcp_members.proofs.telling.Past.{facts_came as told_lies_in_the_past-facts}
+pub use Rattle.rtcp_members.proofs.listing.Above.{lists_above as listings_follow_traces-listed}
+pub use Rattle.rtcp_members.proofs.listing.Above.{listed_once as listings_follow_traces-only}
+pub use Rattle.rtcp_members.proofs.listing.Above.{walk_rises as walks_list_each_once-rising}
+pub use Rattle.rtcp_members.proofs.listing.Above.{states_are_walk as tables_list_walks-walk}
+pub use Rattle.rtcp_members.proofs.listing.Above.{listed_more as tables_list_walks-more, listed_none as tables_list_walks-none}
+pub use Rattle.rtcp_members.proofs.listing.Past.{listed_of_past as listings_lie_in_the_past-listed}
+pub use Rattle.rtcp_members.proofs.listing.Past.{walk_of_past as listings_lie_in_the_past-walk}
+pub use Rattle.rtcp_members.proofs.listing.Past.{came_later as listings_lie_in_the_past-later}
+pub use Rattle.rtcp_members.proofs.listing.Past.{facts_came as listings_lie_in_the_past-facts}
 pub use Rattle.rtcp_members.proofs.moving.RoleCounts.{step_keeps as roles_move_with_counts-kept}
 pub use Rattle.rtcp_members.proofs.moving.RoleCounts.{same_roles_stay as roles_move_with_counts-moved}
 pub use Rattle.rtcp_members.proofs.moving.RoleCounts.{steps_keep as roles_move_with_counts-within}

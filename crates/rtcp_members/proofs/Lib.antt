@@ -3,7 +3,7 @@
 -- Of finite maps: the rows that pass a test, counted, and rows changed or dropped.
 mod maps
 -- Of lists of entries in any order: the map that a list is, counts and bounds of it, and what a fact, a block, a
--- dismissal and a check make of it.
+-- forget and a check make of it.
 mod lists
 -- Of lists by rising SSRC: where a source stands, and that edits leave the order.
 mod sorted
@@ -12,7 +12,7 @@ mod storage
 -- Which sources have news, and in which order they are reported: over a map, a list and a trace.
 mod turns
 -- What is listed of the sources, one after the other.
-mod telling
+mod listing
 -- That who is a member or sends moves where the counts do.
 mod moving
 -- Of traces alone: names, stays, what a stay says of its source, and senders in other words.

@@ -3,7 +3,7 @@ use Rattle.std.specs.Prelude.{ℕ, ◌≡◌, List}
 use Rattle.std.specs.List.{AllByRecursion}
 use Rattle.rtcp_wire.specs.declared.fact.Fact.{Fact}
 use Rattle.rtcp_wire.specs.declared.fact.Fact.TheVariants.{Heard, Told, Named, Gone, Media}
-use Rattle.rtcp_members.specs.Traces.{TraceStep, fact_came, check_made, block_taken, source_forgotten}
+use Rattle.rtcp_members.specs.Traces.{TraceStep, fact_came, check_made, block_made_of, source_forgotten}
 
 -- An RTP packet counts in units of a clock of this rate.
 abbrev pub HasRate : (rate : ℕ) → Fact → Type 0
@@ -16,7 +16,7 @@ HasRate rate (Media ssrc seq timestamp octets other) = other ≡ rate
 abbrev pub IsAtRate : (rate : ℕ) → TraceStep → Type 0
 IsAtRate rate (fact_came fact moment) = HasRate rate fact
 IsAtRate rate (check_made horizons) = Unit {0}
-IsAtRate rate (block_taken ssrc) = Unit {0}
+IsAtRate rate (block_made_of ssrc) = Unit {0}
 IsAtRate rate (source_forgotten ssrc) = Unit {0}
 
 -- So does each of a trace.

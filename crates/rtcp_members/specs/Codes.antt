@@ -3,7 +3,7 @@ use Rattle.std.specs.Prelude.{ℕ, Bool, Option, refl}
 use Rattle.std.specs.Coded.{Coded, code_by, coded×, coded_ℕ, coded_bool, coded_option}
 use Rattle.std.specs.FinMap as map
 use Rattle.rtcp_source.specs.LastBlocks.{LastBlockValue}
-use Rattle.rtcp_source.specs.Summary.{RunValue, ToldValue, SourceValue}
+use Rattle.rtcp_source.specs.Summary.{RunValue, LastReportValue, SourceValue}
 use Rattle.rtcp_members.specs.Entries.{EntryValue}
 use Rattle.rtcp_members.specs.Tables.{EntryMap, TableValue}
 
@@ -35,8 +35,8 @@ run_code =
     })
     (λ _. refl)
 
-abbrev pub told_code : Coded ToldValue
-told_code =
+abbrev pub last_report_code : Coded LastReportValue
+last_report_code =
     code_by (ℕ × (ℕ × ℕ)) (coded× coded_ℕ (coded× coded_ℕ coded_ℕ)) (λ t. (t.ntp, (t.rtp, t.moment)))
     (λ p. record { ntp = p.0; rtp = p.1.0; moment = p.1.1 })
     (λ _. refl)
@@ -49,11 +49,11 @@ last_block_code =
 
 abbrev pub source_code : Coded SourceValue
 source_code =
-    code_by (ℕ × (Option RunValue × (Option ℕ × (Option ToldValue × Option LastBlockValue))))
+    code_by (ℕ × (Option RunValue × (Option ℕ × (Option LastReportValue × Option LastBlockValue))))
     (coded× coded_ℕ (coded× (coded_option run_code) (coded× (coded_option coded_ℕ)
-    (coded× (coded_option told_code) (coded_option last_block_code)))))
-    (λ s. (s.packets, (s.run, (s.stray, (s.told, s.last_block)))))
-    (λ p. record { packets = p.0; run = p.1.0; stray = p.1.1.0; told = p.1.1.1.0; last_block = p.1.1.1.1 })
+    (coded× (coded_option last_report_code) (coded_option last_block_code)))))
+    (λ s. (s.packets, (s.run, (s.stray, (s.last_report, s.last_block)))))
+    (λ p. record { packets = p.0; run = p.1.0; stray = p.1.1.0; last_report = p.1.1.1.0; last_block = p.1.1.1.1 })
     (λ _. refl)
 
 abbrev pub entry_code : Coded EntryValue

@@ -7,13 +7,13 @@ use Rattle.rtcp_clock.specs.Moments.{media_units}
 use Rattle.rtcp_source.specs.Packets.{Given, packet_came, report_came, block_made, taken_in, is_counted, run_of}
 use Rattle.rtcp_source.specs.Summary.{SourceValue, summary_of}
 use Rattle.rtcp_wire.specs.Facts.{subject}
-use Rattle.rtcp_members.specs.Traces.{Horizons, TraceStep, fact_came, check_made, block_taken, source_forgotten, names}
+use Rattle.rtcp_members.specs.Traces.{Horizons, TraceStep, fact_came, check_made, block_made_of, source_forgotten, names}
 use Rattle.rtcp_members.specs.Stays.{mark_of, before_mark, last_naming, is_before, stay_of}
 
 pub record EntryValue : Type 0 where
   -- whether the source gave its CNAME, or a packet of it was counted
   pub valid : Bool
-  -- when it said goodbye
+  -- when it sent a BYE
   pub mark : Option ℕ
   -- its last sighting
   pub sighting : ℕ
@@ -35,7 +35,7 @@ given_by ssrc (Media other seq timestamp octets rate) moment given =
 abbrev pub given_with : (ssrc : ℕ) → TraceStep → List Given → List Given
 given_with ssrc (fact_came fact moment) given = given_by ssrc fact moment given
 given_with ssrc (check_made horizons) given = given
-given_with ssrc (block_taken other) given = if other == ssrc then block_made ∷ given else given
+given_with ssrc (block_made_of other) given = if other == ssrc then block_made ∷ given else given
 given_with ssrc (source_forgotten other) given = given
 
 -- What a stay gives of a source, with arrivals in units of the media's clock (5.1).
@@ -55,7 +55,7 @@ is_counted_fact ssrc (Media other seq timestamp octets rate) given =
 abbrev pub is_counted_by : (ssrc : ℕ) → TraceStep → List Given → Bool
 is_counted_by ssrc (fact_came fact moment) given = is_counted_fact ssrc fact given
 is_counted_by ssrc (check_made horizons) given = false
-is_counted_by ssrc (block_taken other) given = false
+is_counted_by ssrc (block_made_of other) given = false
 is_counted_by ssrc (source_forgotten other) given = false
 
 abbrev pub gives_name : (ssrc : ℕ) → TraceStep → Bool
@@ -65,7 +65,7 @@ gives_name ssrc (fact_came (Named other) moment) = other == ssrc
 gives_name ssrc (fact_came (Gone other) moment) = false
 gives_name ssrc (fact_came (Media other seq timestamp octets rate) moment) = false
 gives_name ssrc (check_made horizons) = false
-gives_name ssrc (block_taken other) = false
+gives_name ssrc (block_made_of other) = false
 gives_name ssrc (source_forgotten other) = false
 
 -- A source is valid once it gave its name, or a packet of it was counted.
@@ -81,7 +81,7 @@ abbrev pub sending_with : (ssrc : ℕ) → TraceStep → List Given → Option �
 sending_with ssrc (fact_came fact moment) given sending =
     if is_counted_fact ssrc fact given then Some moment else sending
 sending_with ssrc (check_made horizons) given sending = still_sending horizons sending
-sending_with ssrc (block_taken other) given sending = sending
+sending_with ssrc (block_made_of other) given sending = sending
 sending_with ssrc (source_forgotten other) given sending = sending
 
 -- The moment of the last counted packet, as long as no check after it had a later horizon for packets.

@@ -1,28 +1,28 @@
 -- How a source comes to be a member by what is said of it, and steps of a trace in which nothing ends the stay of one
--- that has not said goodbye (RFC 3550, 6.2.1, 6.3.3 to 6.3.5). Traces are newest first.
+-- that has not sent a BYE (RFC 3550, 6.2.1, 6.3.3 to 6.3.5). Traces are newest first.
 use Rattle.std.specs.Prelude.{ℕ, ◌≡◌, ◌+◌, ◌≤◌, ◌==◌, ◌&&◌, ◌||◌, not, nat_lt, Bool, true, false, List, ◌∷◌, ◌++◌, filter, length, All, Option, Some, None, is_some}
 use Rattle.rtcp_wire.specs.declared.fact.Fact.{Fact}
 use Rattle.rtcp_wire.specs.Facts.{subject, is_gone}
-use Rattle.rtcp_members.specs.Traces.{Horizons, TraceStep, fact_came, check_made, block_taken, source_forgotten, is_naming, names}
+use Rattle.rtcp_members.specs.Traces.{Horizons, TraceStep, fact_came, check_made, block_made_of, source_forgotten, is_naming, names}
 use Rattle.rtcp_members.specs.Stays.{last_naming, mark_of, present_among, stay_of, step_moment}
 
--- the goodbye of a source
-abbrev pub says_goodbye : (ssrc : ℕ) → TraceStep → Bool
-says_goodbye ssrc (fact_came fact moment) = is_gone fact && subject fact == ssrc
-says_goodbye ssrc (check_made horizons) = false
-says_goodbye ssrc (block_taken other) = false
-says_goodbye ssrc (source_forgotten other) = false
+-- the BYE of a source
+abbrev pub says_bye : (ssrc : ℕ) → TraceStep → Bool
+says_bye ssrc (fact_came fact moment) = is_gone fact && subject fact == ssrc
+says_bye ssrc (check_made horizons) = false
+says_bye ssrc (block_made_of other) = false
+says_bye ssrc (source_forgotten other) = false
 
 -- The host says that a source is gone.
 abbrev pub is_forgetting : (ssrc : ℕ) → TraceStep → Bool
 is_forgetting ssrc (fact_came fact moment) = false
 is_forgetting ssrc (check_made horizons) = false
-is_forgetting ssrc (block_taken other) = false
+is_forgetting ssrc (block_made_of other) = false
 is_forgetting ssrc (source_forgotten other) = other == ssrc
 
--- A source says no goodbye among these steps, and the host does not say that it is gone.
+-- A source sends no BYE among these steps, and the host does not say that it is gone.
 pub record IsLeftAlone (ssrc : ℕ) (since : List TraceStep) : Type 0 where
-  pub no_goodbye : All (λ step. says_goodbye ssrc step ≡ false) since
+  pub no_bye : All (λ step. says_bye ssrc step ≡ false) since
   pub kept : All (λ step. is_forgetting ssrc step ≡ false) since
 
 -- At each check among these steps, which follow on a trace, the newest fact that names a source came at the check's
@@ -36,7 +36,7 @@ IsHeardAtChecks ssrc since before =
 abbrev pub LooksBackTo : (moment : ℕ) → TraceStep → Type 0
 LooksBackTo moment (fact_came fact at) = Unit {0}
 LooksBackTo moment (check_made horizons) = horizons.silent ≤ moment
-LooksBackTo moment (block_taken other) = Unit {0}
+LooksBackTo moment (block_made_of other) = Unit {0}
 LooksBackTo moment (source_forgotten other) = Unit {0}
 
 -- A step that names a source comes at this moment or later.
@@ -59,9 +59,9 @@ abbrev pub IsUnmarked : (ssrc : ℕ) → Option (List TraceStep) → Type 0
 IsUnmarked ssrc None = Unit {0}
 IsUnmarked ssrc (Some stay) = mark_of ssrc stay ≡ None
 
--- These facts may bring a source in: none is its goodbye, nor did it say goodbye in a stay that lasts still, and it is
+-- These facts may bring a source in: none is its BYE, nor did it send a BYE in a stay that lasts still, and it is
 -- present, or there is room for it and for one more source for each fact of others.
 pub record MayBring (capacity ssrc : ℕ) (facts : List Fact) (trace : List TraceStep) : Type 0 where
-  pub no_goodbye : All (λ fact. (is_gone fact && subject fact == ssrc) ≡ false) facts
+  pub no_bye : All (λ fact. (is_gone fact && subject fact == ssrc) ≡ false) facts
   pub unmarked : IsUnmarked ssrc (stay_of capacity trace ssrc)
   pub room : has_room_beside (count_of_others ssrc facts) capacity ssrc trace ≡ true

@@ -2,7 +2,7 @@
 use Rattle.std.specs.Prelude.{ℕ, ◌&&◌, Bool, min, List, [], ◌∷◌, if◌then◌else◌, Option, Some, None, option_map}
 use Rattle.rtcp_members.specs.Entries.{EntryValue}
 use Rattle.rtcp_members.specs.Pending.{EntryRow, is_above, is_due}
-use Rattle.rtcp_members.specs.Told.{StateValue, state_of}
+use Rattle.rtcp_members.specs.Listings.{StateValue, state_of}
 
 abbrev pub lesser_of : Option ℕ → Option ℕ → Option ℕ
 lesser_of None b = b

@@ -5,7 +5,7 @@ pub mod Entries
 pub mod Tables
 pub mod Pending
 pub mod News
-pub mod Told
+pub mod Listings
 pub mod Past
 pub mod Roles
 pub mod Least

@@ -2,16 +2,16 @@
 use Rattle.std.specs.Prelude.{ℕ, ◌≡◌, Bool, false, List, map, length, filter, not, ◌&&◌, ◌≤◌, if◌then◌else◌, Option, Some, None, is_none, slice_get, option_map}
 use Rattle.std.specs.List.{retain_mut}
 use Rattle.std.specs.FinMap as finite
-use Rattle.rtcp_source.specs.Views.{reception_value, told_value, last_block_value}
+use Rattle.rtcp_source.specs.Views.{reception_value, last_report_value, last_block_value}
 use Rattle.rtcp_members.specs.declared.entry.Entry.{Entry}
 use Rattle.rtcp_members.specs.declared.state.SourceState.{SourceState}
 use Rattle.rtcp_members.specs.Entries.{EntryValue}
 use Rattle.rtcp_members.specs.Traces.{Horizons}
 use Rattle.rtcp_members.specs.Stays.{is_before, is_removed}
 use Rattle.rtcp_members.specs.Tables.{EntryMap, IsApart, TableValue}
-use Rattle.rtcp_members.specs.Told.{StateValue}
+use Rattle.rtcp_members.specs.Listings.{StateValue}
 
--- when an entry's source said goodbye
+-- when an entry's source sent a BYE
 abbrev pub mark_in : Entry → Option ℕ
 mark_in e = if e.left then Some e.mark else None
 
@@ -32,7 +32,7 @@ state_value s =
       left = s.left;
       heard = s.heard;
       reception = option_map reception_value s.reception;
-      told = option_map told_value s.told;
+      last_report = option_map last_report_value s.told;
       last_block = option_map last_block_value s.last_block;
     }
 

@@ -7,7 +7,7 @@ use Rattle.rtcp_wire.specs.declared.fact.Fact.TheVariants.{Heard, Told, Named, G
 use Rattle.rtcp_clock.specs.Moments.{media_units}
 use Rattle.rtcp_source.specs.Packets.{is_counted}
 use Rattle.rtcp_source.specs.Summary.{SourceValue}
-use Rattle.rtcp_source.specs.Steps.{no_source, taken_by, after_packet, after_told}
+use Rattle.rtcp_source.specs.Steps.{no_source, taken_by, after_packet, after_report_came}
 use Rattle.rtcp_members.specs.declared.table.Place.{Place}
 use Rattle.rtcp_members.specs.declared.table.Place.TheVariants.{Kept, Added, NoRoom, Ignored, Left}
 use Rattle.rtcp_wire.specs.Facts.{subject, is_gone}
@@ -45,7 +45,7 @@ counts (Media ssrc seq timestamp octets rate) source = is_counted (taken_by sour
 abbrev pub entry_after : Fact → (moment : ℕ) → EntryValue → EntryValue
 entry_after (Heard ssrc) moment entry = record entry { sighting = moment }
 entry_after (Told ssrc ntp rtp) moment entry =
-    record entry { sighting = moment; source = after_told ntp rtp moment entry.source }
+    record entry { sighting = moment; source = after_report_came ntp rtp moment entry.source }
 entry_after (Named ssrc) moment entry = record entry { valid = true; sighting = moment }
 entry_after (Gone ssrc) moment entry = record entry { mark = Some moment }
 entry_after (Media ssrc seq timestamp octets rate) moment entry =
@@ -143,7 +143,7 @@ after_check horizons table = record table { entries = updated (entry_after_check
 
 -- ---- Sources that are gone
 
--- Whether the source did not say goodbye.
+-- Whether the source did not send a BYE.
 abbrev pub is_unmarked : EntryValue → Bool
 is_unmarked entry = is_none entry.mark
 

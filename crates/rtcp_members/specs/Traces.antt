@@ -23,7 +23,7 @@ pub data TraceStep : Type 0 where
   -- a check, which drops those who are silent for too long
   check_made : (horizons : Horizons) → TraceStep
   -- a report block that was made of a source
-  block_taken : (ssrc : ℕ) → TraceStep
+  block_made_of : (ssrc : ℕ) → TraceStep
   -- the host said that a source is gone
   source_forgotten : (ssrc : ℕ) → TraceStep
 
@@ -31,7 +31,7 @@ pub data TraceStep : Type 0 where
 abbrev pub is_naming : (ssrc : ℕ) → TraceStep → Bool
 is_naming ssrc (fact_came fact moment) = not (is_gone fact) && subject fact == ssrc
 is_naming ssrc (check_made horizons) = false
-is_naming ssrc (block_taken other) = false
+is_naming ssrc (block_made_of other) = false
 is_naming ssrc (source_forgotten other) = false
 
 abbrev pub with_name : Fact → List ℕ → List ℕ
@@ -43,7 +43,7 @@ abbrev pub names : List TraceStep → List ℕ
 names [] = []
 names (fact_came fact moment ∷ earlier) = with_name fact (names earlier)
 names (check_made horizons ∷ earlier) = names earlier
-names (block_taken ssrc ∷ earlier) = names earlier
+names (block_made_of ssrc ∷ earlier) = names earlier
 names (source_forgotten ssrc ∷ earlier) = names earlier
 
 -- the trace once these facts came at one moment, one after the other

@@ -15,7 +15,7 @@ pub struct Bounds {
     silent: u64,
     /// Of the last counted packets of those that did not leave.
     idle: u64,
-    /// Of the goodbyes.
+    /// Of the BYEs.
     gone: u64,
 }
 

@@ -2,7 +2,7 @@
 
 ghost use Rattle.std.specs.Prelude.{◌≡◌, ◌+◌, nat_lt, ◌||◌, ◌<◌, ◌^◌, ℕ, None, Some, Bool, IsTrue, not};
 ghost use Rattle.rtcp_wire.specs.declared.fact.Fact.TheVariants.{Media};
-ghost use Rattle.rtcp_members.specs.Told.{state_of};
+ghost use Rattle.rtcp_members.specs.Listings.{state_of};
 ghost use Rattle.rtcp_members.specs.ListViews.{entry_value, mark_in, sending_in, row_of, state_value, lapses, lapsed, outlasts};
 ghost use Rattle.rtcp_wire.specs.Facts.{is_media};
 ghost use Rattle.rtcp_members.specs.Traces.{horizons_at};
@@ -27,12 +27,12 @@ pub struct Entry {
     pub(crate) ssrc: u32,
     /// Whether it gave its CNAME, or a packet of it was counted.
     pub(crate) valid: bool,
-    /// Whether it said goodbye. This flag and the next stand beside the others, and not in an `Option` of their
+    /// Whether it sent a BYE. This flag and the next stand beside the others, and not in an `Option` of their
     /// moments, so that an entry takes two cache lines.
     pub(crate) left: bool,
     /// Whether a packet of it was counted before the mark, and no check since had a later horizon for packets.
     pub(crate) sends: bool,
-    /// When it said goodbye, if it did, in microseconds.
+    /// When it sent a BYE, if it did, in microseconds.
     pub(crate) mark: u64,
     /// Its last sighting, in microseconds.
     pub(crate) sighting: u64,
@@ -65,7 +65,7 @@ impl Entry {
         }
     }
 
-    /// When it said goodbye, in microseconds.
+    /// When it sent a BYE, in microseconds.
     #[inline(always)]
     pub(crate) fn mark(&self) -> Option<u64>
         ensures { result ≡ mark_in self.now }

@@ -10,7 +10,7 @@ ghost use Rattle.rtcp_members.specs.Lasting.{IsHeardAtChecks, IsLeftAlone, Looks
 ghost use Rattle.rtcp_members.specs.Entries.{entry_at, is_member, is_such};
 
 /// Once the facts of a compound came, with the CNAME of a source among them, the source is a member, if these facts may
-/// bring it in: it is present, or there is room for it and a source for each fact of others; and it says no goodbye
+/// bring it in: it is present, or there is room for it and a source for each fact of others; and it sends no BYE
 /// (RFC 3550, 6.2.1, 6.3.3).
 pub fn those_named_become_members()
     ensures { (capacity ssrc moment : ℕ) (facts : List Fact) (trace : List TraceStep) →
@@ -18,7 +18,7 @@ pub fn those_named_become_members()
         is_such is_member (entry_at capacity (with_facts facts moment trace) ssrc) ≡ true }
 {}
 
-/// Who was heard lately stays (RFC 3550, 6.3.5). A source is present without a mark. Since then it said no goodbye, the
+/// Who was heard lately stays (RFC 3550, 6.3.5). A source is present without a mark. Since then it sent no BYE, the
 /// host did not say that it is gone, and each check found its newest sighting at the horizon for silence or later: then
 /// it still has that stay, with the steps since. So it does where no check since has a horizon later than its last
 /// sighting at first, as long as moments do not fall. And a member is still one.

@@ -5,7 +5,7 @@ ghost use Rattle.std.specs.Prelude.{◌≡◌, ◌<◌, ◌≤◌, ◌+◌, ◌^
 ghost use Rattle.std.specs.FinMap as map;
 ghost use Rattle.rtcp_wire.specs.declared.fact.Fact.{Fact};
 ghost use Rattle.rtcp_wire.specs.Facts.{subject, is_gone, is_media};
-ghost use Rattle.rtcp_members.specs.Traces.{Horizons, TraceStep, fact_came, check_made, block_taken, source_forgotten, names, with_facts};
+ghost use Rattle.rtcp_members.specs.Traces.{Horizons, TraceStep, fact_came, check_made, block_made_of, source_forgotten, names, with_facts};
 ghost use Rattle.rtcp_source.specs.Blocks.{block_over};
 ghost use Rattle.rtcp_members.specs.Stays.{mark_of, present_among, stay_of};
 ghost use Rattle.rtcp_members.specs.Entries.{counted_at, given_of, is_such, members_at, senders_at};
@@ -27,7 +27,7 @@ pub fn tables_follow_traces()
         StandsAt (after_check horizons table) (check_made horizons ∷ trace) }
     ensures block { (table : TableValue) (trace : List TraceStep) (ssrc : ℕ) → IsTrue (is_due_at ssrc table) →
         StandsAt table trace →
-        StandsAt (after_block ssrc table) (block_taken ssrc ∷ trace) }
+        StandsAt (after_block ssrc table) (block_made_of ssrc ∷ trace) }
     ensures forgotten { (table : TableValue) (trace : List TraceStep) (ssrc : ℕ) →
         StandsAt table trace →
         StandsAt (after_forgetting ssrc table) (source_forgotten ssrc ∷ trace) }
@@ -111,7 +111,7 @@ pub fn counts_are_ordered()
 {}
 
 /// To forget a source is to drop it as a check drops one that is silent, and it alone: its entry goes, unless it said
-/// goodbye, and each other entry stays as it is. So who was there without a mark is not there after it, and there are
+/// BYE, and each other entry stays as it is. So who was there without a mark is not there after it, and there are
 /// no more members and senders than before.
 pub fn forgetting_goes_as_silence()
     ensures left { (table : TableValue) (ssrc other : ℕ) →
@@ -127,7 +127,7 @@ pub fn forgetting_goes_as_silence()
         senders_at capacity (source_forgotten ssrc ∷ trace) ≤ senders_at capacity trace }
 {}
 
-/// A fact that is no goodbye never lowers the members of a trace.
+/// A fact that is no BYE never lowers the members of a trace.
 #[tactic(auto, using(crate::proofs::standing::Growing::members_stay))]
 pub fn facts_keep_members()
     ensures { (capacity : ℕ) (trace : List TraceStep) (fact : Fact) (moment : ℕ) → is_gone fact ≡ false →

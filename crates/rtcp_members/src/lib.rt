@@ -34,13 +34,13 @@ mod hints;
 mod index;
 pub mod laws;
 mod list_table;
+pub mod listing_laws;
 pub mod role_laws;
 mod shelf;
 mod sorted_table;
 mod sources;
 mod state;
 mod table;
-pub mod told_laws;
 pub mod trace_laws;
 pub mod turn_laws;
 

@@ -168,7 +168,7 @@ fn drop_silent(entries: &mut ArrayVec<Entry, MAX_CAPACITY>, silent: u64, idle: u
     entries.retain(|entry| entry.check(silent, idle, gone));
 }
 
-/// Drops the entry of a source, which stands at `at`, unless the source said goodbye. Returns whether it dropped it.
+/// Drops the entry of a source, which stands at `at`, unless the source sent a BYE. Returns whether it dropped it.
 fn forget_at(entries: &mut ArrayVec<Entry, MAX_CAPACITY>, at: usize, ssrc: u32) -> bool
     requires apart { IsApart (rows_of entries.old.items) }
     requires rank { IsRankOf ssrc entries.old.items at }

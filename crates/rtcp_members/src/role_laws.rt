@@ -3,7 +3,7 @@
 ghost use Rattle.std.specs.Prelude.{◌≡◌, ℕ, false, List, [], ◌∷◌, None, drop, length};
 ghost use Rattle.rtcp_wire.specs.declared.fact.Fact.{Fact};
 ghost use Rattle.rtcp_wire.specs.declared.fact.Fact.TheVariants.{Heard, Named, Told};
-ghost use Rattle.rtcp_members.specs.Traces.{Horizons, TraceStep, block_taken, check_made, source_forgotten, with_facts};
+ghost use Rattle.rtcp_members.specs.Traces.{Horizons, TraceStep, block_made_of, check_made, source_forgotten, with_facts};
 ghost use Rattle.rtcp_members.specs.Entries.{entry_at, members_at};
 ghost use Rattle.rtcp_members.specs.Tables.{TableValue, StandsAt, after_facts};
 ghost use Rattle.rtcp_members.specs.Roles.{IsSameRole, step_moves, moved_within, facts_move, check_moves, forgetting_moves};
@@ -23,7 +23,7 @@ pub fn roles_move_with_counts()
         moved_within capacity steps trace ≡ false → (ssrc : ℕ) →
         IsSameRole (entry_at capacity (drop steps trace) ssrc) (entry_at capacity trace ssrc) }
     ensures block { (capacity ssrc : ℕ) (trace : List TraceStep) →
-        step_moves capacity (block_taken ssrc) trace ≡ false }
+        step_moves capacity (block_made_of ssrc) trace ≡ false }
     ensures none { (capacity : ℕ) (trace : List TraceStep) → members_at capacity trace ≡ 0 → (ssrc : ℕ) →
         IsSameRole None (entry_at capacity trace ssrc) }
 {}

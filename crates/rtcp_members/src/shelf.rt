@@ -13,7 +13,7 @@ ghost use Rattle.rtcp_members.specs.storage.Shelves.{IsCounted, Joins, LieAsBefo
 ghost use Rattle.rtcp_members.specs.storage.SortedViews.{IsGapFor, Locates};
 ghost use Rattle.rtcp_members.specs.storage.Standing.{AllStandBy, AreCounts, IsMeasured, RulesOut};
 ghost use Rattle.rtcp_members.specs.Tables.{IsFew};
-ghost use Rattle.rtcp_members.specs.Told.{state_of};
+ghost use Rattle.rtcp_members.specs.Listings.{state_of};
 ghost use Rattle.rtcp_members.specs.Traces.{horizons_at};
 
 use crate::blocks::Blocks;
@@ -214,7 +214,7 @@ impl<C: Blocks<Cell>, S: Blocks<Slot>> Shelf<C, S> {
         self.used += 1;
     }
 
-    /// Whether the source of a rank said goodbye.
+    /// Whether the source of a rank sent a BYE.
     #[inline(always)]
     pub(crate) fn is_marked_at(&self, at: usize) -> bool
         requires { at < length self.now.items }

@@ -4,7 +4,7 @@ ghost use Rattle.std.specs.Prelude.{◌≡◌, ℕ, [], ◌<◌, ◌≤◌, ◌^
 ghost use Rattle.std.specs.FinMap as finite;
 ghost use Rattle.rtcp_wire.specs.Facts.{subject};
 ghost use Rattle.rtcp_members.specs.Traces.{horizons_at};
-ghost use Rattle.rtcp_members.specs.Told.{first_state};
+ghost use Rattle.rtcp_members.specs.Listings.{first_state};
 ghost use Rattle.rtcp_members.specs.Entries.{is_such};
 ghost use Rattle.rtcp_members.specs.ListViews.{state_value, rows_of, map_of, table_of, tally_of, IsRankOf};
 ghost use Rattle.rtcp_members.specs.storage.Shelves.{Joins, LieAsBefore, tallies_differ};
@@ -341,7 +341,7 @@ fn add<C: Blocks<Cell>, S: Blocks<Slot>>(
     entries.counts().moved_from(before)
 }
 
-/// Drops the entry of a source, which stands at `at`, unless the source said goodbye. Returns whether it dropped it.
+/// Drops the entry of a source, which stands at `at`, unless the source sent a BYE. Returns whether it dropped it.
 fn forget_at<C: Blocks<Cell>, S: Blocks<Slot>>(
     entries: &mut Shelf<C, S>,
     at: usize,

@@ -3,7 +3,7 @@
 ghost use Rattle.std.specs.Prelude.{◌≡◌, [], None};
 ghost use Rattle.std.specs.Iterator.{YieldsFirstBy, item_count};
 ghost use Rattle.rtcp_members.specs.ListViews.{state_value};
-ghost use Rattle.rtcp_members.specs.Told.{states_above};
+ghost use Rattle.rtcp_members.specs.Listings.{states_above};
 
 use crate::state::SourceState;
 use crate::table::MemberTable;
@@ -20,7 +20,7 @@ pub struct Sources<'a, T: MemberTable> {
 
 impl<'a, T: MemberTable> Model for Sources<'a, T> {
     ghost use Rattle.std.specs.Prelude.{List, option_map};
-    ghost use Rattle.rtcp_members.specs.Told.{StateValue, states_of};
+    ghost use Rattle.rtcp_members.specs.Listings.{StateValue, states_of};
 
     ghost Value = { List StateValue };
 

@@ -12,7 +12,7 @@ pub struct SourceState {
     pub is_member: bool,
     /// Whether it is a sender: a member of which a packet was counted lately.
     pub is_sender: bool,
-    /// When it said goodbye, in microseconds.
+    /// When it sent a BYE, in microseconds.
     pub left: Option<u64>,
     /// When it was last heard before it left, in microseconds.
     pub heard: u64,

@@ -10,7 +10,7 @@ ghost use Rattle.rtcp_wire.specs.Views.{block_value};
 ghost use Rattle.rtcp_wire.specs.Writing.{IsWritableBlock};
 ghost use Rattle.rtcp_members.specs.Pending.{pending, first_ssrc, is_due_at, block_at, after_block};
 ghost use Rattle.rtcp_members.specs.Roles.{counts_differ};
-ghost use Rattle.rtcp_members.specs.Told.{state_above};
+ghost use Rattle.rtcp_members.specs.Listings.{state_above};
 ghost use Rattle.rtcp_members.specs.ListViews.{state_value};
 
 use crate::state::SourceState;
@@ -28,9 +28,9 @@ pub enum Place {
     Added,
     /// The source is not present and the table is full: nothing changed.
     NoRoom,
-    /// The source said goodbye before, or says so without being present: nothing changed.
+    /// The source sent a BYE before, or says so without being present: nothing changed.
     Ignored,
-    /// The source says goodbye. Its entry is held, so that late packets do not bring it back, until a check
+    /// The source sends a BYE. Its entry is held, so that late packets do not bring it back, until a check
     /// drops it.
     Left,
 }
@@ -106,9 +106,9 @@ pub trait MemberTable {
         ensures content { content self.new
             ≡ after_check (horizons_at silent_before data_before gone_before) (content self.old) };
 
-    /// Drops a source that the host knows to be gone, as a check drops one that is silent. One that said goodbye is
+    /// Drops a source that the host knows to be gone, as a check drops one that is silent. One that sent a BYE is
     /// held as before, so that late packets do not bring it back. Returns whether the table had an entry of the source
-    /// without a goodbye; if not, nothing changed.
+    /// without a BYE; if not, nothing changed.
     fn forget(&mut self, ssrc: u32) -> bool
         ensures held { result ≡ is_such is_unmarked (map.get (content self.old).entries ssrc) }
         ensures content { content self.new ≡ after_forgetting ssrc (content self.old) };

@@ -1,4 +1,4 @@
--- The sources of goodbyes that a walk takes: a lemma for each step.
+-- The sources of BYEs that a walk takes: a lemma for each step.
 use Rattle.std.proofs.Common.{◌≡◌, ◌≢◌, ℕ, zero, suc, ◌+◌, ◌-◌, ◌*◌, ◌<◌, ◌≤◌, true, List, [], ◌∷◌, ◌++◌, length, take, drop, flat_map, Option, Some, None, refl, sym, ap, subst, ◌∙◌, append_assoc, append-nil, arith, inl, inr}
 use Rattle.std.proofs.lemmas.List.{drop_at, take-append-drop, take_at}
 use Rattle.byteorder.specs.Endian.{big_number}
@@ -19,9 +19,9 @@ use Rattle.rtcp_parts.proofs.Entering.{left_inside}
 use Rattle.rtcp_parts.proofs.OctetParts.{word_first}
 use Rattle.rtcp_parts.proofs.Rests.{rest_further, rest_size, rest_stands}
 
--- ---- Goodbyes
+-- ---- BYEs
 
--- goodbyes that name at least one source
+-- BYEs that name at least one source
 abbrev pub with_sources : Wanted
 with_sources = record { first = 203; last = 203; least = 1 }
 
@@ -36,7 +36,7 @@ none_in (bye ids reason) h =
     (no_sources ids (λ some. h.4 (omega (arith, h.3.0), omega (arith, h.3.0), omega (arith, some, h.3.1.counted))))
 none_in packet h = refl
 
--- The walk is at the first source of a goodbye.
+-- The walk is at the first source of a BYE.
 pub at_first_source : (datagram : List ℕ) (packet : Packet) (now : Cursor) (from : ℕ) (value : RtcpPacket)
     → IsPlaced datagram from packet → now.place ≡ packet.place → now.end ≡ packet.place + length packet.body.now
     → now.left ≡ packet.count → IsBody value packet.kind packet.count packet.body.now → packet.kind ≡ 203

@@ -52,7 +52,7 @@ IsSpanIn datagram span = span.place + span.size ≤ length datagram
 abbrev pub HasText : List ℕ → PlacedItem → Type 0
 HasText datagram item = IsSpanIn datagram item.text
 
--- the reason of a goodbye, if there is one,
+-- the reason of a BYE, if there is one,
 abbrev pub HasReason : List ℕ → PlacedGoodbye → Type 0
 HasReason datagram goodbye = IfSome goodbye.reason (IsSpanIn datagram)
 

@@ -1,4 +1,4 @@
-//! The sources that the goodbyes of a datagram name, one after the other (RFC 3550, 6.6).
+//! The sources that the BYEs of a datagram name, one after the other (RFC 3550, 6.6).
 
 ghost use Rattle.std.specs.Prelude.{◌≡◌, ◌≤◌, ◌+◌, ◌<◌, ◌^◌, ℕ, List, length, Option, true, IfSome};
 ghost use Rattle.rtcp_wire.specs.Contents.{packet_goodbyes};
@@ -13,7 +13,7 @@ use crate::packet::{Wanted, packet_from};
 use crate::placed::{PlacedGoodbye, Span};
 use crate::walk::Walk;
 
-/// Goodbyes that name at least one source.
+/// BYEs that name at least one source.
 const WITH_SOURCES: Wanted = Wanted {
     first: 203,
     last: 203,
@@ -38,7 +38,7 @@ impl Walk for PlacedGoodbye {
     }
 }
 
-/// A walk at the next source: at the first of another goodbye where it is in none.
+/// A walk at the next source: at the first of another BYE where it is in none.
 #[inline(always)]
 fn ready(datagram: &[u8], cursor: &Cursor) -> Cursor
     requires { is_within (length datagram.now) cursor.now ≡ true }
@@ -59,7 +59,7 @@ fn ready(datagram: &[u8], cursor: &Cursor) -> Cursor
     }
 }
 
-/// Takes the next source of the goodbye that a walk is in.
+/// Takes the next source of the BYE that a walk is in.
 #[inline(always)]
 fn take_source(datagram: &[u8], cursor: &mut Cursor) -> Option<PlacedGoodbye>
     requires { is_within (length datagram.now) cursor.old ≡ true }

@@ -6,7 +6,7 @@ use std::test::*;
 mod elsewhere;
 
 /// A sender report of source 9 with blocks about 13 and 14; a source description of 7, without items, and of 9; a
-/// goodbye of both, with a reason; an application's packet of source 11; and a padded source description of 5.
+/// BYE of both, with a reason; an application's packet of source 11; and a padded source description of 5.
 const CALL: [u8; 152] = [
     0x82, 0xc8, 0, 18, // a sender report of 19 words, with two blocks
     0, 0, 0, 9, // its SSRC
@@ -48,7 +48,7 @@ const CALL: [u8; 152] = [
     0, 0, 0, 8, // padding of eight octets in all
 ];
 
-/// A receiver report of source 7, and its goodbye without a reason, padded.
+/// A receiver report of source 7, and its BYE without a reason, padded.
 const GONE: [u8; 24] = [
     0x80, 0xc9, 0, 1, // a receiver report of two words, with no blocks
     0, 0, 0, 7, // its SSRC

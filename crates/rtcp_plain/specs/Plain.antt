@@ -52,7 +52,7 @@ sender_text s =
     codes " SR" ++ source_text s.ssrc ++ codes " ntp=" ++ seconds_text (ntp_time s.ntp)
     ++ codes " rtp=" ++ decimal s.rtp ++ codes " packets=" ++ decimal s.packets ++ codes " octets=" ++ decimal s.octets
 
--- ---- Descriptions and goodbyes
+-- ---- Descriptions and BYEs
 
 -- the name of an item's type (6.5)
 abbrev pub item_name : (kind : ℕ) → List ℕ
@@ -73,9 +73,9 @@ item_text item = codes " " ++ item_name item.kind ++ codes "=" ++ quoted_text it
 abbrev pub chunk_text : ChunkValue → List ℕ
 chunk_text chunk = source_text chunk.id ++ flat_map item_text chunk.items
 
-abbrev pub goodbye_reason_text : Option (List ℕ) → List ℕ
-goodbye_reason_text None = []
-goodbye_reason_text (Some text) = codes " reason=" ++ quoted_text text
+abbrev pub bye_reason_text : Option (List ℕ) → List ℕ
+bye_reason_text None = []
+bye_reason_text (Some text) = codes " reason=" ++ quoted_text text
 
 -- ---- Packets
 
@@ -84,7 +84,7 @@ packet_text rate (sr sender blocks extension) = sender_text sender ++ report_end
 packet_text rate (rr ssrc blocks extension) =
     codes " RR" ++ source_text ssrc ++ report_end_text rate blocks extension
 packet_text rate (sdes chunks) = codes " SDES" ++ flat_map chunk_text chunks
-packet_text rate (bye ids reason) = codes " BYE" ++ flat_map source_text ids ++ goodbye_reason_text reason
+packet_text rate (bye ids reason) = codes " BYE" ++ flat_map source_text ids ++ bye_reason_text reason
 packet_text rate (app subtype ssrc name content) =
     codes " APP" ++ source_text ssrc ++ codes " subtype=" ++ decimal subtype ++ codes " name=" ++ quoted_text name
     ++ codes " data=" ++ decimal (length content)

@@ -1,10 +1,10 @@
-//! Source descriptions and goodbyes in plain words.
+//! Source descriptions and BYEs in plain words.
 
 ghost use Rattle.std.specs.Prelude.{◌≡◌, ◌++◌, OnOk, option_copied};
 ghost use Rattle.rtcp_wire.specs.Views.{packet_value};
 ghost use Rattle.rtcp_wire.specs.declared.packet.PacketView.TheVariants.{Bye, Sdes};
 ghost use Rattle.rtcp_wire.specs.WriterViews.{item_ref_of};
-ghost use Rattle.rtcp_plain.specs.Plain.{chunk_text, goodbye_reason_text, item_name, item_text, packet_text};
+ghost use Rattle.rtcp_plain.specs.Plain.{chunk_text, bye_reason_text, item_name, item_text, packet_text};
 
 use crate::numbers::push_quoted;
 use crate::packets::push_source;
@@ -69,8 +69,8 @@ fn push_item_name(out: &mut Vec<u8>, kind: u8) -> Result<(), AllocError>
     }
 }
 
-/// Appends a goodbye.
-pub(crate) fn push_goodbye(
+/// Appends a BYE.
+pub(crate) fn push_bye(
     out: &mut Vec<u8>,
     goodbye: &Goodbye<'_>,
     rate: Option<u32>,
@@ -84,10 +84,10 @@ pub(crate) fn push_goodbye(
     push_reason(out, goodbye.reason)
 }
 
-/// Appends a goodbye's reason, if it has one.
+/// Appends a BYE's reason, if it has one.
 fn push_reason(out: &mut Vec<u8>, reason: Option<&[u8]>) -> Result<(), AllocError>
     ensures { OnOk result
-        (out.new.items ≡ out.old.items ++ goodbye_reason_text (option_copied reason.entry)) }
+        (out.new.items ≡ out.old.items ++ bye_reason_text (option_copied reason.entry)) }
 {
     match reason {
         Some(text) => {

@@ -5,7 +5,7 @@ ghost use Rattle.rtcp_wire.specs.Views.{packet_value};
 ghost use Rattle.rtcp_wire.specs.declared.packet.PacketView.TheVariants.{App, Other};
 ghost use Rattle.rtcp_plain.specs.Plain.{packet_text, plain_text, source_text};
 
-use crate::descriptions::{push_description, push_goodbye};
+use crate::descriptions::{push_bye, push_description};
 use crate::numbers::{push_number, push_quoted};
 use crate::reports::{push_receiver_report, push_sender_report};
 use rtcp_text::text::digits::push_word;
@@ -45,7 +45,7 @@ fn push_packet(
         PacketView::Sr(report) => push_sender_report(out, report, rate),
         PacketView::Rr(report) => push_receiver_report(out, report, rate),
         PacketView::Sdes(description) => push_description(out, description, rate),
-        PacketView::Bye(goodbye) => push_goodbye(out, goodbye, rate),
+        PacketView::Bye(goodbye) => push_bye(out, goodbye, rate),
         PacketView::App(packet) => push_application(out, packet, rate),
         PacketView::Other(packet) => push_other(out, packet, rate),
     }

@@ -7,7 +7,7 @@ use Rattle.std.proofs.lemmas.List.Sums.{sum_by-cons}
 use Rattle.rtcp_wire.specs.Values.{ReportBlock, ItemValue}
 use Rattle.rtcp_wire.specs.Writing.{written, written_all}
 use Rattle.rtcp_members.specs.Pending.{EntryRow, blocks_of}
-use Rattle.rtcp_report.specs.Reports.{SentValue, Reporter, cname_item, receiver_named, goodbye, packets_with, bye_of}
+use Rattle.rtcp_report.specs.Reports.{SentValue, Reporter, cname_item, receiver_named, bye_packet, packets_with, bye_of}
 use Rattle.rtcp_report.specs.Sizes.{item_size, description_size, first_report_size, report_size, IsShort, fitting}
 use Rattle.rtcp_report.specs.Views.{items_of}
 use Rattle.rtcp_report.proofs.Prefixes.{size_rises, longest_fitting}
@@ -57,8 +57,8 @@ bye_is_small ssrc cname short =
     omega (
       arith,
       short,
-      ap length (flat_map-append written report (goodbye ssrc ∷ [])),
-      length-append (written_all report) (written_all (goodbye ssrc ∷ [])),
+      ap length (flat_map-append written report (bye_packet ssrc ∷ [])),
+      length-append (written_all report) (written_all (bye_packet ssrc ∷ [])),
       packets_length (receiver_named ssrc cname) [],
       sum_by-cons item_size (cname_item cname) [],
     )

@@ -1,7 +1,7 @@
 -- A table after the blocks of a report.
 use Rattle.std.proofs.Common.{◌≡◌, ℕ, List, [], ◌∷◌, ◌++◌, Option, Some, IsTrue, drop, length, sym}
 use Rattle.std.proofs.lemmas.List.{take-append-drop}
-use Rattle.rtcp_members.specs.Traces.{TraceStep, block_taken}
+use Rattle.rtcp_members.specs.Traces.{TraceStep, block_made_of}
 use Rattle.rtcp_members.specs.Tables.{TableValue, StandsAt, HasFew}
 use Rattle.rtcp_members.specs.Pending.{EntryRow, is_due_at, pending, after_block, after_blocks}
 use Rattle.rtcp_members.proofs.LawLemmas.{first_is_due-due, others_stay_pending, tables_follow_traces-block, packets_are_few-block}
@@ -23,7 +23,7 @@ stands_after_rows : (rows rest : List EntryRow) (last : Option ℕ) (table : Tab
 stands_after_rows [] rest last table trace wait stands = stands
 stands_after_rows (row ∷ rows) rest last table trace wait stands =
     let due : IsTrue (is_due_at row.0 table) = first_is_due-due last table row (rows ++ rest) wait in
-    stands_after_rows rows rest (Some row.0) (after_block row.0 table) (block_taken row.0 ∷ trace)
+    stands_after_rows rows rest (Some row.0) (after_block row.0 table) (block_made_of row.0 ∷ trace)
     (others_stay_pending last table row (rows ++ rest) wait)
     (tables_follow_traces-block table trace row.0 due stands)
 

@@ -52,15 +52,15 @@ packets_with reporter blocks = reports_with reporter.ssrc reporter.sent blocks +
 -- ---- Leaving
 
 -- a BYE of one source, without a reason (6.6)
-abbrev pub goodbye : (ssrc : ℕ) → RtcpPacket
-goodbye ssrc = bye (ssrc ∷ []) None
+abbrev pub bye_packet : (ssrc : ℕ) → RtcpPacket
+bye_packet ssrc = bye (ssrc ∷ []) None
 
 -- who only receives
 abbrev pub receiver_with : (ssrc : ℕ) → List ItemValue → Reporter
 receiver_with ssrc items = record { ssrc = ssrc; sent = None; items = items }
 
-abbrev pub goodbye_with : (ssrc : ℕ) → List ItemValue → List RtcpPacket
-goodbye_with ssrc items = packets_with (receiver_with ssrc items) [] ++ goodbye ssrc ∷ []
+abbrev pub bye_with : (ssrc : ℕ) → List ItemValue → List RtcpPacket
+bye_with ssrc items = packets_with (receiver_with ssrc items) [] ++ bye_packet ssrc ∷ []
 
 -- who only receives, and says nothing of itself but its CNAME
 abbrev pub receiver_named : (ssrc : ℕ) → (cname : List ℕ) → Reporter
@@ -68,4 +68,4 @@ receiver_named ssrc cname = receiver_with ssrc (cname_item cname ∷ [])
 
 -- What a participant sends as it leaves: a report without blocks, and its BYE (6.3.7).
 abbrev pub bye_of : (ssrc : ℕ) → (cname : List ℕ) → List RtcpPacket
-bye_of ssrc cname = goodbye_with ssrc (cname_item cname ∷ [])
+bye_of ssrc cname = bye_with ssrc (cname_item cname ∷ [])

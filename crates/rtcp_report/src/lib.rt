@@ -13,14 +13,14 @@
 //! `specs/` defines what a report holds (`Reports`, `Sizes`); `laws` states properties of these definitions.
 #![tactic(auto)]
 
+mod byes;
 mod compound;
 mod description;
 mod gathering;
-mod goodbye;
 pub mod laws;
 mod sender;
 mod writing;
 
+pub use byes::{bye, bye_size, write_bye};
 pub use compound::{first_size, report, write_report};
-pub use goodbye::{bye, bye_size, write_bye};
 pub use sender::{Item, Sender, SrPart};

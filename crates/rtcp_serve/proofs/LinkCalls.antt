@@ -205,7 +205,8 @@ goes_on : (next s : SessionState) (stage : Stage) → IsUnderWay stage → reste
 goes_on next s resting under_way = absurd under_way
 goes_on next s stage under_way = refl
 
-going_under_way : (reader : Reader) (total : ℕ) (s : SessionState) (stage : Stage) → s.stage ≡ stage → IsUnderWay stage →
+going_under_way : (reader : Reader) (total : ℕ) (s : SessionState) (stage : Stage) → s.stage ≡ stage →
+    IsUnderWay stage →
     going reader total s ≡ s
 going_under_way reader total s stage is under_way = goes_on _ s s.stage (subst IsUnderWay (sym is) under_way)
 
@@ -364,14 +365,18 @@ turns_left s there (inr zero) = zero
 
 -- ---- What comes next
 
-goes_alike : (reader : Reader) (total : ℕ) (s u : SessionState) (calls : List Call) → going reader total s ≡ going reader total u →
+goes_alike : (reader : Reader) (total : ℕ) (s u : SessionState) (calls : List Call) →
+    going reader total s ≡ going reader total u →
     AllFit reader total u calls
     → AllFit reader total s calls × (going reader total (after_calls reader total s calls) ≡ going reader total
     (after_calls reader total u calls))
 goes_alike reader total s u [] same fit = (tt {0}, same)
 goes_alike reader total s u (call ∷ earlier) same (fit, fits) =
-    let (fit', same') = goes_alike reader total s u earlier same fit in
-    ((fit', subst (λ t. Fits call t.stage) (sym same') fits), ap (λ t. going reader total (after_call reader call t)) same')
+    let (fit', same') = goes_alike reader total s u earlier same fit in (
+      (fit', subst (λ t. Fits call t.stage) (sym same') fits),
+      ap (λ t. going reader total (after_call reader call t))
+          same',
+    )
 
 -- From where a part of a session came to, the end comes next.
 abbrev pub IsClosed : {O : Type 0} (run : Run O) (t : SessionState) (to : SessionState → Type 0) → Type 0
@@ -406,7 +411,8 @@ closes {run = run} {s = s} {u = u} same walk (stage, goes, ends) =
 pub closes_on : {O : Type 0} {takes : Notice → O → O → Type 0} {run : Run O} {s : SessionState}
     {before : LinkValue} {mid after : Kept O} {counted counted' : Tally} {at to : SessionState → Type 0}
     {turns : Turns} {pauses : List Pause} (first : Walks takes run s before mid counted at turns)
-    → Closes takes run first.reached mid.link after counted' to pauses → Closes takes run s before after counted' to pauses
+    → Closes takes run first.reached mid.link after counted' to pauses →
+    Closes takes run s before after counted' to pauses
 closes_on {run = run} {s = s} {before = before} {mid = mid} {after = after} first last =
     let calls = first.calls in
     let more = last.calls in
@@ -488,7 +494,8 @@ last_ends : (next : Option ℕ) (otherwise s : SessionState) → otherwise ≡ a
 last_ends None otherwise s same = refl
 last_ends (Some moment) otherwise s same = same
 
-turns_end : (reader : Reader) (total : ℕ) (s : SessionState) → s.stage ≡ resting → (next_at s ≡ None) ⊎ (s.turns ≡ 0) → s.leaving ≡ true
+turns_end : (reader : Reader) (total : ℕ) (s : SessionState) → s.stage ≡ resting → (next_at s ≡ None) ⊎ (s.turns ≡ 0) →
+    s.leaving ≡ true
     → going reader total s ≡ at_stage (ended Done) s
 turns_end reader total s rests (inl none) leaving = gone_ends reader total s rests none
 turns_end reader total s rests (inr none) leaving = rests_at reader total s rests

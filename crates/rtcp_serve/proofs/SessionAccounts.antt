@@ -234,7 +234,8 @@ gone_on_counts : (s : SessionState) → (gone_on s).tally ≡ s.tally
 gone_on_counts s = rested_counts _ s s.stage (turn_counts (next_in_life (life_at s.history)) s.turns _ s refl)
 
 last_counts : (reader : Reader) (total : ℕ) (leaving : Bool) (s : SessionState)
-    → (if leaving then at_stage (ended Done) s else gone_on (left_with reader total (next_u32 s.words) s)).tally ≡ s.tally
+    → (if leaving then at_stage (ended Done) s else gone_on (left_with reader total (next_u32 s.words) s)).tally
+    ≡ s.tally
 last_counts reader total true s = refl
 last_counts reader total false s = gone_on_counts (left_with reader total (next_u32 s.words) s)
 
@@ -246,7 +247,8 @@ going_counts reader total s = rested_counts _ s s.stage
 moved : (a b : ℕ) → a ≡ b → a + 1 ≡ suc b
 moved a b same = omega (arith, same)
 
-clock_counts : (reader : Reader) (moment : ℕ) (stage : Stage) (s : SessionState) (calls : List Call) → AreTotals s.tally calls
+clock_counts : (reader : Reader) (moment : ℕ) (stage : Stage) (s : SessionState) (calls : List Call) →
+    AreTotals s.tally calls
     → AreTotals (after_clock reader moment stage s).tally (clock_read moment ∷ calls)
 clock_counts reader moment beginning s calls totals = totals
 clock_counts reader moment stage s calls totals = totals

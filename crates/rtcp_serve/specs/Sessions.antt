@@ -162,7 +162,8 @@ pub record RunsCut
     (history : History) (before after : Kept O) (result : End) : Type 0 where
   pub made : ℕ
   pub further : ℕ
-  pub runs : RunsSession takes (run_of reader further before.observer) (at_the_start history before.words made) before.link
+  pub runs : RunsSession takes (run_of reader further before.observer) (at_the_start history before.words made)
+      before.link
       after result
   pub heeded : AreHeeded known most made runs.reached.pauses
   -- the moment at which the turns before the leave were over

@@ -12,7 +12,7 @@ use Rattle.rtcp_engine.specs.OwnStreams.{has_sent}
 use Rattle.rtcp_engine.specs.Outcomes.{Outcome, load_of, member_count}
 use Rattle.rtcp_engine.specs.Ticks.{checked, report_due}
 use Rattle.rtcp_engine.specs.Reporting.{bye_octets}
-use Rattle.rtcp_engine.specs.Leaving.{Life, present, backing_off, gone, few_members, is_bye_due, is_unheard, leaving_interval}
+use Rattle.rtcp_engine.specs.Leaving.{Life, present, backing_off, finished, few_members, is_bye_due, sent_nothing, leaving_interval}
 use Rattle.rtcp_engine.specs.Lives.{bye_out, out_by, own_bye, report_out}
 use Rattle.rtcp_engine.specs.Changes.{NewIdentifier, Session, bye_of_change, change_by, changed_by}
 use Rattle.rtcp_engine.specs.Histories.{History, session_of}
@@ -28,9 +28,9 @@ none_of_bye : (t interval : ℕ) (changes due : Bool) (octets : List ℕ) →
 none_of_bye t interval changes true octets = refl
 none_of_bye t interval changes false octets = refl
 
-none_of_leave : (t : ℕ) (unheard few : Bool) (octets : List ℕ)
+none_of_leave : (t : ℕ) (nothing_sent few : Bool) (octets : List ℕ)
     → reports_in (sent_with t 0 false
-    (option_map bye_out (if unheard then None else (if few then Some octets else None)))) ≡ []
+    (option_map bye_out (if nothing_sent then None else (if few then Some octets else None)))) ≡ []
 none_of_leave t true few octets = refl
 none_of_leave t false true octets = refl
 none_of_leave t false false octets = refl
@@ -41,14 +41,14 @@ none_of_change setup t interval changes (present outcome) = none_of_bye t interv
     (bye_octets setup)
 none_of_change setup t interval changes (backing_off outcome backoff) = none_of_bye t interval changes
     (has_sent outcome.own) (bye_octets setup)
-none_of_change setup t interval changes (gone outcome) = refl
+none_of_change setup t interval changes (finished outcome) = refl
 
 none_alone : (setup : Setup) (act : Act) (life : Life) → outcome_by setup act life ≡ None →
     reports_in (sent_with (moment_of act) (interval_by setup act life) false (out_by setup act life)) ≡ []
 none_alone setup (arrived moment peer word datagram) (present outcome) h = refl
 none_alone setup (rtp_sent moment timestamp octets) (present outcome) h = refl
 none_alone setup (ticked moment first_word second_word) (present outcome) h = absurd cc
-none_alone setup (left moment word) (present outcome) h = none_of_leave moment (is_unheard outcome)
+none_alone setup (left moment word) (present outcome) h = none_of_leave moment (sent_nothing outcome)
     (nat_le (member_count setup outcome) few_members) (bye_octets setup)
 none_alone setup (configured moment settings) (present outcome) h = refl
 none_alone setup (forgotten moment ssrc) (present outcome) h = refl
@@ -60,7 +60,7 @@ none_alone setup (ticked moment first_word second_word) (backing_off outcome bac
 none_alone setup (left moment word) (backing_off outcome backoff) h = refl
 none_alone setup (configured moment settings) (backing_off outcome backoff) h = refl
 none_alone setup (forgotten moment ssrc) (backing_off outcome backoff) h = refl
-none_alone setup act (gone outcome) h = refl
+none_alone setup act (finished outcome) h = refl
 
 none_by : (session : Session) (act : Act) (change : Option NewIdentifier) → change_by session act ≡ change →
     outcome_by session.setup act session.life ≡ None → let now = changed_by change session in

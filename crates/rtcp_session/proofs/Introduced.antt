@@ -11,7 +11,7 @@ use Rattle.rtcp_engine.specs.Setups.{Setup}
 use Rattle.rtcp_engine.specs.Acts.{Act, arrived, rtcp, ticked}
 use Rattle.rtcp_engine.specs.Outcomes.{Outcome}
 use Rattle.rtcp_engine.specs.Ticks.{checked}
-use Rattle.rtcp_engine.specs.Leaving.{Life, present, backing_off, gone}
+use Rattle.rtcp_engine.specs.Leaving.{Life, present, backing_off, finished}
 use Rattle.rtcp_engine.specs.Histories.{History, life_at, session_at, setup_at, with_act}
 use Rattle.rtcp_engine.specs.Hearing.{IsHeardAtTicks, LeavesAlone, with_acts}
 use Rattle.rtcp_engine.proofs.Hearing.{checked_stay, heard_before, named_remain}
@@ -28,7 +28,7 @@ decided_such Q setup changes t first_word second_word (present outcome) each =
     all_such Q setup (checked setup t outcome) (each outcome refl) _
 decided_such Q setup changes t first_word second_word (backing_off outcome backoff) each =
     All-nil (λ (decided : Decided). Q decided.setup decided.outcome)
-decided_such Q setup changes t first_word second_word (gone outcome) each =
+decided_such Q setup changes t first_word second_word (finished outcome) each =
     All-nil (λ (decided : Decided). Q decided.setup decided.outcome)
 
 pub named_are_heard : (before : History) (moment peer word size ssrc t first_word second_word : ℕ)

@@ -1,4 +1,4 @@
--- Who gave its CNAME stays a member: as long as there is room for it, it is heard, and it says no goodbye.
+-- Who gave its CNAME stays a member: as long as there is room for it, it is heard, and it sends no BYE.
 use Rattle.std.proofs.Common.{◌≡◌, ℕ, ◌&&◌, ◌||◌, ◌==◌, nat_lt, Bool, true, false, List, [], ◌∷◌, All, Option, Some, None, is_some, is_none, option_map, if◌then◌else◌, refl, sym, ap, ◌∙◌, subst}
 use Rattle.std.proofs.lemmas.Bool.{and_from, and_right, cond_both}
 use Rattle.std.proofs.lemmas.List.Elements.{All-nil, All-cons, All-head, All-tail}
@@ -6,9 +6,9 @@ use Rattle.rtcp_wire.specs.declared.fact.Fact.{Fact}
 use Rattle.rtcp_wire.specs.declared.fact.Fact.TheVariants.{Heard, Told, Named, Gone, Media}
 use Rattle.rtcp_wire.specs.Facts.{subject, is_media}
 use Rattle.rtcp_source.specs.Packets.{Given, taken_in, is_counted, run_of}
-use Rattle.rtcp_members.specs.Traces.{TraceStep, fact_came, check_made, block_taken, is_naming, names, source_forgotten}
+use Rattle.rtcp_members.specs.Traces.{TraceStep, fact_came, check_made, block_made_of, is_naming, names, source_forgotten}
 use Rattle.rtcp_members.specs.Stays.{mark_of, before_mark, present_among, stay_of, stay_with, ends_stay}
-use Rattle.rtcp_members.specs.Lasting.{says_goodbye}
+use Rattle.rtcp_members.specs.Lasting.{says_bye}
 use Rattle.rtcp_members.specs.Entries.{gives_name, given_of, is_counted_fact, is_counted_by, sending_of, still_sending, is_sender, is_valid, entry_of, entry_at, is_member, is_such}
 use Rattle.rtcp_members.proofs.Lasting.{all_before, still_valid, unmarked_by}
 use Rattle.rtcp_session.specs.Deliveries.{brings_rtp, is_named_in, pasts_of, has_room, ends_by, is_dropped, IsKept}
@@ -22,7 +22,7 @@ naming ssrc (fact_came (Named other) moment) is = is
 naming ssrc (fact_came (Gone other) moment) is = absurd cc
 naming ssrc (fact_came (Media other seq timestamp octets rate) moment) is = absurd cc
 naming ssrc (check_made horizons) is = absurd cc
-naming ssrc (block_taken other) is = absurd cc
+naming ssrc (block_made_of other) is = absurd cc
 naming ssrc (source_forgotten other) is = absurd cc
 
 -- ---- Members
@@ -51,7 +51,7 @@ stay_by ssrc step admits None =
 stay_by ssrc step admits (Some stay) = if ends_stay ssrc step stay then None else Some (step ∷ stay)
 
 stays_unmarked : (ssrc : ℕ) (step : TraceStep) (admits : Bool) (stay : Option (List TraceStep)) →
-    says_goodbye ssrc step ≡ false → IsUnmarked ssrc stay → IsUnmarked ssrc (stay_by ssrc step admits stay)
+    says_bye ssrc step ≡ false → IsUnmarked ssrc stay → IsUnmarked ssrc (stay_by ssrc step admits stay)
 stays_unmarked ssrc step admits None quiet none = by (is_naming ssrc step) admits
   where
     by : (named admits : Bool) → IsUnmarked ssrc
@@ -77,7 +77,7 @@ valid_now ssrc step stay gives =
 -- The step that gives the CNAME.
 named_now : (ssrc : ℕ) (step : TraceStep) (stay : Option (List TraceStep)) (admits : Bool) →
     gives_name ssrc step ≡ true → (is_some stay || admits) ≡ true → ends_by ssrc step stay ≡ false →
-    says_goodbye ssrc step ≡ false → IsUnmarked ssrc stay → HasStay ssrc (stay_by ssrc step admits stay)
+    says_bye ssrc step ≡ false → IsUnmarked ssrc stay → HasStay ssrc (stay_by ssrc step admits stay)
 named_now ssrc step None admits gives room lasts quiet none =
     subst (λ (b : Bool). HasStay ssrc (elim b [ false ↦ None | true ↦ if admits then Some (step ∷ []) else None ]))
     (sym (naming ssrc step gives))
@@ -89,7 +89,7 @@ named_now ssrc step (Some stay) admits gives room lasts quiet none =
 
 -- A later one.
 still_there : (ssrc : ℕ) (step : TraceStep) (stay : Option (List TraceStep)) (admits : Bool) →
-    ends_by ssrc step stay ≡ false → says_goodbye ssrc step ≡ false → HasStay ssrc stay →
+    ends_by ssrc step stay ≡ false → says_bye ssrc step ≡ false → HasStay ssrc stay →
     HasStay ssrc (stay_by ssrc step admits stay)
 still_there ssrc step None admits lasts quiet is = absurd is
 still_there ssrc step (Some stay) admits lasts quiet is =
@@ -112,7 +112,7 @@ stay_is capacity ssrc step earlier =
     by named others (Some stay) = refl
 
 abbrev Stays : (ssrc : ℕ) → TraceStep → Type 0
-Stays ssrc step = says_goodbye ssrc step ≡ false
+Stays ssrc step = says_bye ssrc step ≡ false
 
 all_unmarked : (capacity ssrc : ℕ) (trace : List TraceStep) → All (Stays ssrc) trace →
     IsUnmarked ssrc (stay_of capacity trace ssrc)
@@ -159,7 +159,7 @@ named_are_there capacity ssrc (step ∷ earlier) named kept =
     (λ earlier_named. named_are_there capacity ssrc earlier earlier_named before))
   where
     by : (gives : Bool) → gives_name ssrc step ≡ gives → (admits : Bool) →
-        ends_by ssrc step (stay_of capacity earlier ssrc) ≡ false → says_goodbye ssrc step ≡ false →
+        ends_by ssrc step (stay_of capacity earlier ssrc) ≡ false → says_bye ssrc step ≡ false →
         (is_some (stay_of capacity earlier ssrc) || admits) ≡ true → IsUnmarked ssrc (stay_of capacity earlier ssrc) →
         (gives || is_named_in ssrc earlier) ≡ true →
         (is_named_in ssrc earlier ≡ true → HasStay ssrc (stay_of capacity earlier ssrc)) →
@@ -242,8 +242,8 @@ sends_none ssrc (fact_came fact moment ∷ earlier) h =
     ∙ rest
 sends_none ssrc (check_made horizons ∷ earlier) h =
     ap (still_sending horizons) (sends_none ssrc earlier (All-tail (IsQuiet ssrc) (check_made horizons) earlier h))
-sends_none ssrc (block_taken other ∷ earlier) h =
-    sends_none ssrc earlier (All-tail (IsQuiet ssrc) (block_taken other) earlier h)
+sends_none ssrc (block_made_of other ∷ earlier) h =
+    sends_none ssrc earlier (All-tail (IsQuiet ssrc) (block_made_of other) earlier h)
 sends_none ssrc (source_forgotten other ∷ earlier) h =
     sends_none ssrc earlier (All-tail (IsQuiet ssrc) (source_forgotten other) earlier h)
 

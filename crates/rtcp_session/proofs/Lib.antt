@@ -9,7 +9,7 @@
 -- `Crowding` those of the older one; `Compounds` adds the BYEs.
 --
 -- Joins and leaves: `Covering` shows that where each span has room for those that end in it, the window has room for
--- all: the last span leaves those that end before it begins. `Joining` and `Parting` use it.
+-- all: the last span leaves those that end before it begins. `Joining` and `BackoffBye` use it.
 --
 -- Deliveries: `Stretching` shifts the beginning of each wait by the delay. `Announcing`, `Taking` and `Knowing` go from
 -- a report to a member: the report gives a CNAME, a compound that was taken stands in the trace, and who is named and
@@ -31,7 +31,7 @@ mod Waiting
 mod Waited
 mod Sessions
 mod Covering
-mod Parting
+mod BackoffBye
 mod Joining
 mod Crowding
 mod examples

@@ -14,7 +14,7 @@ use Rattle.rtcp_members.specs.Entries.{members_at, senders_at}
 use Rattle.rtcp_members.specs.Tables.{table_at}
 use Rattle.rtcp_members.specs.Pending.{blocks_of}
 use Rattle.rtcp_members.proofs.LawLemmas.{trace_has_one_table-stands, counts_agree-members, counts_agree-senders, counts_are_ordered-senders}
-use Rattle.rtcp_report.specs.Reports.{SentValue, cname_item, receiver_named, goodbye, packets_with}
+use Rattle.rtcp_report.specs.Reports.{SentValue, cname_item, receiver_named, bye_packet, packets_with}
 use Rattle.rtcp_report.specs.Sizes.{first_report_size, description_size, item_size}
 use Rattle.rtcp_report.specs.Views.{items_of}
 use Rattle.rtcp_report.proofs.LawLemmas.{size_is_that_of_the_octets}
@@ -26,7 +26,7 @@ use Rattle.rtcp_engine.specs.OwnStreams.{has_sent, we_sent}
 use Rattle.rtcp_engine.specs.Outcomes.{Outcome, first_size_of, load_of, member_count, one_if}
 use Rattle.rtcp_engine.specs.Ticks.{checked, after_tick, has_come, has_passed, put_off, reported}
 use Rattle.rtcp_engine.specs.Arrivals.{with_datagram}
-use Rattle.rtcp_engine.specs.Leaving.{Life, present, backing_off, gone, few_members, is_bye_due, is_unheard}
+use Rattle.rtcp_engine.specs.Leaving.{Life, present, backing_off, finished, few_members, is_bye_due, sent_nothing}
 use Rattle.rtcp_engine.specs.Lives.{lived, with_new_ssrc}
 use Rattle.rtcp_engine.specs.Changes.{NewIdentifier, Session, change_by, changed_by}
 use Rattle.rtcp_engine.specs.Reporting.{bye_octets, report_octets, reporter_at, reported_at, extra_item}
@@ -144,8 +144,8 @@ bye_is_large setup =
     let report = packets_with (receiver_named setup.ssrc setup.cname) [] in
     omega (
       arith,
-      ap length (flat_map-append written report (goodbye setup.ssrc ∷ [])),
-      length-append (written_all report) (written_all (goodbye setup.ssrc ∷ [])),
+      ap length (flat_map-append written report (bye_packet setup.ssrc ∷ [])),
+      length-append (written_all report) (written_all (bye_packet setup.ssrc ∷ [])),
       size_is_that_of_the_octets (receiver_named setup.ssrc setup.cname) [],
     )
 
@@ -160,7 +160,7 @@ AreLarge least outcome = All (IsLarge least) outcome.sizes
 abbrev AreLargeIn : (least : ℕ) → Life → Type 0
 AreLargeIn least (present outcome) = AreLarge least outcome
 AreLargeIn least (backing_off outcome backoff) = Unit {0}
-AreLargeIn least (gone outcome) = Unit {0}
+AreLargeIn least (finished outcome) = Unit {0}
 
 one_more : (least size : ℕ) (sizes : List ℕ) → IsLarge least size → All (IsLarge least) sizes →
     All (IsLarge least) (size ∷ sizes)
@@ -196,8 +196,8 @@ lived_large least setup (rtp_sent moment timestamp octets) (present outcome) own
 lived_large least setup (ticked moment first_word second_word) (present outcome) own large h =
     ticked_large least setup moment first_word second_word outcome own h
 lived_large least setup (left moment word) (present outcome) own large h =
-    cond_both (is_unheard outcome) (gone outcome) _ (AreLargeIn least) (λ _. tt)
-    (λ _. cond_both (nat_le (member_count setup outcome) few_members) (gone outcome) _ (AreLargeIn least) (λ _. tt)
+    cond_both (sent_nothing outcome) (finished outcome) _ (AreLargeIn least) (λ _. tt)
+    (λ _. cond_both (nat_le (member_count setup outcome) few_members) (finished outcome) _ (AreLargeIn least) (λ _. tt)
     (λ _. tt))
 lived_large least setup (configured moment settings) (present outcome) own large h = h
 lived_large least setup (forgotten moment ssrc) (present outcome) own large h = h
@@ -205,11 +205,11 @@ lived_large least setup (arrived moment peer word (rtcp size reading)) (backing_
 lived_large least setup (arrived moment peer word (rtp reading)) (backing_off outcome backoff) own large h = tt
 lived_large least setup (rtp_sent moment timestamp octets) (backing_off outcome backoff) own large h = tt
 lived_large least setup (ticked moment first_word second_word) (backing_off outcome backoff) own large h =
-    cond_both (is_bye_due setup moment first_word backoff) (gone outcome) _ (AreLargeIn least) (λ _. tt) (λ _. tt)
+    cond_both (is_bye_due setup moment first_word backoff) (finished outcome) _ (AreLargeIn least) (λ _. tt) (λ _. tt)
 lived_large least setup (left moment word) (backing_off outcome backoff) own large h = tt
 lived_large least setup (configured moment settings) (backing_off outcome backoff) own large h = tt
 lived_large least setup (forgotten moment ssrc) (backing_off outcome backoff) own large h = tt
-lived_large least setup act (gone outcome) own large h = tt
+lived_large least setup act (finished outcome) own large h = tt
 
 renamed_large : (least : ℕ) (setup : Setup) (life : Life) → IsLarge least (first_size_of setup) →
     AreLargeIn least life → AreLargeIn least (with_new_ssrc setup life)
@@ -218,7 +218,7 @@ renamed_large least setup (present outcome) own h =
     cond_both (has_sent outcome.own) _ outcome.sizes (All (IsLarge least))
     (λ _. one_more least (length (bye_octets setup)) outcome.sizes (omega (arith, own, bye)) h) (λ _. h)
 renamed_large least setup (backing_off outcome backoff) own h = tt
-renamed_large least setup (gone outcome) own h = tt
+renamed_large least setup (finished outcome) own h = tt
 
 changed_large : (least : ℕ) (session : Session) (change : Option NewIdentifier) →
     IsLarge least (first_size_of session.setup) → AreLargeIn least session.life

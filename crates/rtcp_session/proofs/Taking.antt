@@ -7,7 +7,7 @@ use Rattle.rtcp_wire.specs.declared.fact.Fact.{Fact}
 use Rattle.rtcp_wire.specs.declared.fact.Fact.TheVariants.{Named}
 use Rattle.rtcp_wire.specs.Values.{RtcpPacket}
 use Rattle.rtcp_wire.specs.Facts.{facts_of}
-use Rattle.rtcp_members.specs.Traces.{TraceStep, fact_came, check_made, block_taken, with_facts, source_forgotten}
+use Rattle.rtcp_members.specs.Traces.{TraceStep, fact_came, check_made, block_made_of, with_facts, source_forgotten}
 use Rattle.rtcp_members.specs.Entries.{gives_name, counted_at}
 use Rattle.rtcp_members.specs.Pending.{EntryRow}
 use Rattle.rtcp_report.specs.Traced.{with_blocks}
@@ -22,7 +22,7 @@ use Rattle.rtcp_engine.specs.Outcomes.{Outcome, member_count, check_interval, in
 use Rattle.rtcp_engine.specs.Ticks.{checked, report_due, horizons_of, after_tick, has_come, has_passed, put_off, reported}
 use Rattle.rtcp_engine.specs.Reporting.{reported_at}
 use Rattle.rtcp_engine.specs.Arrivals.{with_datagram, facts_of_media, media_fact, rate_of}
-use Rattle.rtcp_engine.specs.Leaving.{Life, present, backing_off, gone, few_members, is_bye_due, is_unheard}
+use Rattle.rtcp_engine.specs.Leaving.{Life, present, backing_off, finished, few_members, is_bye_due, sent_nothing}
 use Rattle.rtcp_engine.specs.Lives.{lived, report_out, with_new_ssrc}
 use Rattle.rtcp_engine.specs.Changes.{NewIdentifier, Session, change_by, changed_by}
 use Rattle.rtcp_engine.specs.Histories.{History, last_moment, session_at, session_of}
@@ -54,7 +54,7 @@ module _ (ssrc : ℕ) where
   more_blocks : (rows : List EntryRow) (trace : List TraceStep) → Knows trace → Knows (with_blocks rows trace)
   more_blocks [] trace is = is
   more_blocks (row ∷ rows) trace is =
-      more_blocks rows (block_taken row.0 ∷ trace) (one_more (block_taken row.0) trace is)
+      more_blocks rows (block_made_of row.0 ∷ trace) (one_more (block_made_of row.0) trace is)
 
   -- the CNAME among the facts of a compound
   gives : (fact : Fact) (moment : ℕ) → fact ≡ Named ssrc → gives_name ssrc (fact_came fact moment) ≡ true
@@ -75,7 +75,7 @@ module _ (ssrc : ℕ) where
   abbrev KnowsIn : Life → Type 0
   KnowsIn (present outcome) = Knows outcome.trace
   KnowsIn (backing_off outcome backoff) = Unit {0}
-  KnowsIn (gone outcome) = Unit {0}
+  KnowsIn (finished outcome) = Unit {0}
 
   arrived_known : (setup : Setup) (t : ℕ) (datagram : Datagram) (outcome : Outcome) → Knows outcome.trace →
       Knows (with_datagram setup t datagram outcome).trace
@@ -112,8 +112,9 @@ module _ (ssrc : ℕ) where
   lived_known setup (ticked moment first_word second_word) (present outcome) is =
       ticked_known setup moment first_word second_word outcome is
   lived_known setup (left moment word) (present outcome) is =
-      cond_both (is_unheard outcome) (gone outcome) _ KnowsIn (λ _. tt)
-      (λ _. cond_both (nat_le (member_count setup outcome) few_members) (gone outcome) _ KnowsIn (λ _. tt) (λ _. tt))
+      cond_both (sent_nothing outcome) (finished outcome) _ KnowsIn (λ _. tt)
+      (λ _. cond_both (nat_le (member_count setup outcome) few_members) (finished outcome) _ KnowsIn (λ _. tt)
+      (λ _. tt))
   lived_known setup (configured moment settings) (present outcome) is = is
   lived_known setup (forgotten moment ssrc) (present outcome) is =
       one_more (source_forgotten ssrc) outcome.trace is
@@ -121,16 +122,16 @@ module _ (ssrc : ℕ) where
   lived_known setup (arrived moment peer word (rtp reading)) (backing_off outcome backoff) is = tt
   lived_known setup (rtp_sent moment timestamp octets) (backing_off outcome backoff) is = tt
   lived_known setup (ticked moment first_word second_word) (backing_off outcome backoff) is =
-      cond_both (is_bye_due setup moment first_word backoff) (gone outcome) _ KnowsIn (λ _. tt) (λ _. tt)
+      cond_both (is_bye_due setup moment first_word backoff) (finished outcome) _ KnowsIn (λ _. tt) (λ _. tt)
   lived_known setup (left moment word) (backing_off outcome backoff) is = tt
   lived_known setup (configured moment settings) (backing_off outcome backoff) is = tt
   lived_known setup (forgotten moment ssrc) (backing_off outcome backoff) is = tt
-  lived_known setup act (gone outcome) is = tt
+  lived_known setup act (finished outcome) is = tt
 
   renamed_known : (setup : Setup) (life : Life) → KnowsIn life → KnowsIn (with_new_ssrc setup life)
   renamed_known setup (present outcome) is = is
   renamed_known setup (backing_off outcome backoff) is = tt
-  renamed_known setup (gone outcome) is = tt
+  renamed_known setup (finished outcome) is = tt
 
   changed_known : (session : Session) (change : Option NewIdentifier) → KnowsIn session.life →
       KnowsIn (changed_by change session).life
@@ -144,7 +145,7 @@ module _ (ssrc : ℕ) where
   taken_now setup t peer word size packets (present outcome) named =
       named_by_facts (facts_of packets) t outcome.trace named
   taken_now setup t peer word size packets (backing_off outcome backoff) named = tt
-  taken_now setup t peer word size packets (gone outcome) named = tt
+  taken_now setup t peer word size packets (finished outcome) named = tt
 
 -- ---- Moments of reports
 
@@ -178,7 +179,7 @@ call_taken (present outcome) None own none = refl
 call_taken (present outcome) (Some refusal) own none = absurd cc
 call_taken (backing_off outcome backoff) None own none = refl
 call_taken (backing_off outcome backoff) (Some refusal) own none = absurd cc
-call_taken (gone outcome) call own none = absurd cc
+call_taken (finished outcome) call own none = absurd cc
 
 in_order : (back : Bool) (others : Option Refusal) → (if back then Some Backwards else others) ≡ None → back ≡ false
 in_order true others none = absurd cc

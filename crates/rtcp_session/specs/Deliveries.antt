@@ -7,9 +7,9 @@ use Rattle.rtcp_wire.specs.declared.fact.Fact.TheVariants.{Named}
 use Rattle.rtcp_wire.specs.Values.{RtcpPacket}
 use Rattle.rtcp_wire.specs.Facts.{subject, is_media, facts_of}
 use Rattle.rtcp_wire.specs.Writing.{written_all}
-use Rattle.rtcp_members.specs.Traces.{TraceStep, fact_came, check_made, block_taken, names, source_forgotten}
+use Rattle.rtcp_members.specs.Traces.{TraceStep, fact_came, check_made, block_made_of, names, source_forgotten}
 use Rattle.rtcp_members.specs.Stays.{present_among, stay_of, ends_stay}
-use Rattle.rtcp_members.specs.Lasting.{says_goodbye}
+use Rattle.rtcp_members.specs.Lasting.{says_bye}
 use Rattle.rtcp_members.specs.Entries.{gives_name, is_such, is_sender, entry_at}
 use Rattle.rtcp_engine.specs.Acts.{arrived, rtcp}
 use Rattle.rtcp_session.specs.Windows.{Decided, load_at, Joined, decided_within}
@@ -67,24 +67,24 @@ abbrev pub ends_by : (ssrc : ℕ) → TraceStep → Option (List TraceStep) → 
 ends_by ssrc step None = false
 ends_by ssrc step (Some stay) = ends_stay ssrc step stay
 
--- The newest step drops a source that was present: a check, to which it was silent for too long, or said goodbye; or
+-- The newest step drops a source that was present: a check, to which it was silent for too long, or sent a BYE; or
 -- the host, which told that it is gone.
 abbrev pub is_dropped : (capacity ssrc : ℕ) → List TraceStep → Bool
 is_dropped capacity ssrc [] = false
 is_dropped capacity ssrc (step ∷ earlier) = ends_by ssrc step (stay_of capacity earlier ssrc)
 
 -- Nothing in a trace keeps a source out, or takes it away: there was always room for it, no check found it silent for
--- too long, the host did not let it go, and it did not say goodbye (RFC 3550, 6.3.3 to 6.3.5, 6.3.7).
+-- too long, the host did not let it go, and it did not send a BYE (RFC 3550, 6.3.3 to 6.3.5, 6.3.7).
 pub record IsKept (capacity ssrc : ℕ) (trace : List TraceStep) : Type 0 where
   pub room : All (λ past. has_room capacity ssrc past ≡ true) (pasts_of trace)
   pub never_silent : All (λ past. is_dropped capacity ssrc past ≡ false) (pasts_of trace)
-  pub no_bye : All (λ step. says_goodbye ssrc step ≡ false) trace
+  pub no_bye : All (λ step. says_bye ssrc step ≡ false) trace
 
 -- The step is an RTP packet of a source that came.
 abbrev pub brings_rtp : (ssrc : ℕ) → TraceStep → Bool
 brings_rtp ssrc (fact_came fact moment) = is_media fact && subject fact == ssrc
 brings_rtp ssrc (check_made horizons) = false
-brings_rtp ssrc (block_taken other) = false
+brings_rtp ssrc (block_made_of other) = false
 brings_rtp ssrc (source_forgotten other) = false
 
 -- ---- Compounds that come

@@ -2,5 +2,5 @@ pub mod Windows
 pub mod Crowds
 pub mod Waits
 pub mod Joins
-pub mod Partings
+pub mod BackoffByes
 pub mod Deliveries

@@ -66,7 +66,7 @@ pub fn those_who_report_become_members()
 
 /// A source whose compound was taken is heard at a report, in the sense of `AreHeard`: it is a member by what decides
 /// on that report (RFC 3550, 6.2.1, 6.3.3 to 6.3.5). The compound gives its CNAME and may bring it in: there is room
-/// for it, and no goodbye of it. In the acts since, no datagram brings its goodbye, and the host does not say that it
+/// for it, and no BYE of it. In the acts since, no datagram brings its BYE, and the host does not say that it
 /// is gone. At each tick, that of the report among them, its newest fact is no older than five of the intervals that
 /// the tick's check goes by. (`those_named_become_members` of rtcp_engine says the same of any moment.)
 pub fn those_named_are_heard()

@@ -30,7 +30,7 @@ ghost use Rattle.rtcp_session.specs.Joins.{
   JoinsAreCounted,
   began_before,
 };
-ghost use Rattle.rtcp_session.specs.Partings.{parting_load, partings_at, bye_waits_within, ByesAreCounted};
+ghost use Rattle.rtcp_session.specs.BackoffByes.{backoff_bye_load, backoff_byes_at, bye_waits_within, ByesAreCounted};
 
 /// The later reports of a session keep to its RTCP bandwidth, however many participants it has. (The later reports of a
 /// participant in a window are all that it sends there but the oldest.) The average compound sizes from which their
@@ -121,10 +121,10 @@ pub fn joining_together_does_not_flood()
 /// below a size. The BYEs that go out after a participant's leave and up to its own are at most `percent` per cent of
 /// those it counts.
 pub fn leaving_together_does_not_flood()
-    ensures one { (history : History) → IsHistory history → length (partings_at history) ≤ 1 }
+    ensures one { (history : History) → IsHistory history → length (backoff_byes_at history) ≤ 1 }
     ensures intervals { (history : History) → IsHistory history →
-        All (λ parting. (parting.bye.interval ≡ interval_of (parting_load parting))
-        × HalfPasses parting.backoff.since parting.bye.moment parting.bye.interval) (partings_at history) }
+        All (λ backoff_bye. (backoff_bye.bye.interval ≡ interval_of (backoff_bye_load backoff_bye))
+        × HalfPasses backoff_bye.backoff.since backoff_bye.bye.moment backoff_bye.bye.interval) (backoff_byes_at history) }
     ensures byes { (terms : Terms) (from width : ℕ) (all : List Joined) → 1 ≤ terms.size →
         ByesAreCounted terms from width all →
         length (bye_waits_within from width all) ≤ carried_in width terms.receiver_bw terms }

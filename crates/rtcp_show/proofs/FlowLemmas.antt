@@ -1,7 +1,7 @@
 -- What is kept of sources while a listing is gone through: what the sources that are left bring it to.
 use Rattle.std.proofs.Common.{◌≡◌, ℕ, Bool, true, false, List, if◌then◌else◌, nat_eq, is_some, unwrap_or, Option, Some, None, refl, sym, ap, ◌∙◌}
 use Rattle.std.specs.Option.{option_map_or, option_or}
-use Rattle.rtcp_members.specs.Told.{StateValue}
+use Rattle.rtcp_members.specs.Listings.{StateValue}
 use Rattle.rtcp_serve.specs.declared.link.Port.TheVariants.{Rtcp, Rtp}
 use Rattle.rtcp_show.specs.declared.flows.Flow.{Flow}
 use Rattle.rtcp_show.specs.declared.notes.Note.{Note}

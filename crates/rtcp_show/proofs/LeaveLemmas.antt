@@ -4,12 +4,12 @@ use Rattle.std.proofs.lemmas.Bool.{and_parts, false≢true}
 use Rattle.rtcp_engine.specs.Acts.{Act, EventValue, IsActOfEvent, arrived, configured, forgotten, left, rtp_sent, ticked, rtcp_arrived, rtp_arrived, packet_sent, time_passed, leave_asked, settings_given, forget_asked}
 use Rattle.rtcp_engine.specs.Answers.{step_by}
 use Rattle.rtcp_engine.specs.Histories.{History, life_at, session_at, session_for, setup_after, with_act}
-use Rattle.rtcp_engine.specs.Leaving.{Life, present, backing_off, gone, backoff_from, few_members, is_unheard}
+use Rattle.rtcp_engine.specs.Leaving.{Life, present, backing_off, finished, backoff_from, few_members, is_unheard}
 use Rattle.rtcp_engine.specs.Lives.{lived, others_moved_by}
 use Rattle.rtcp_engine.specs.Outcomes.{Outcome, member_count}
 use Rattle.rtcp_engine.specs.Setups.{Setup}
 use Rattle.rtcp_show.specs.Changes.{is_leave, lists_anew}
-use Rattle.rtcp_show.specs.Listings.{takes_part, told_in_life, told_of}
+use Rattle.rtcp_show.specs.Listings.{takes_part, state_in_life, state_at}
 
 -- ---- What says that others changed
 
@@ -32,7 +32,7 @@ moved_present :
     → takes_part (lived setup act life) ≡ true
 moved_present setup act (present outcome) never moved = present_after setup act outcome never
 moved_present setup act (backing_off outcome backoff) never moved = absurd (false≢true moved)
-moved_present setup act (gone outcome) never moved = absurd (false≢true moved)
+moved_present setup act (finished outcome) never moved = absurd (false≢true moved)
 
 no_leave : (event : EventValue) (act : Act) → IsActOfEvent event act → is_leave event ≡ false → is_left act ≡ false
 no_leave (rtcp_arrived moment peer word octets) act is never = ap is_left is.2
@@ -59,23 +59,24 @@ listed_by_participants history event act is anew =
 
 nobody_if :
     (setup other : Setup) (unheard few : Bool) (outcome : Outcome) (waiting : Life) (ssrc : ℕ)
-    → told_in_life other waiting ssrc ≡ None
-    → told_in_life other (if unheard then gone outcome else (if few then gone outcome else waiting)) ssrc ≡ None
+    → state_in_life other waiting ssrc ≡ None
+    → state_in_life other (if unheard then finished outcome else (if few then finished outcome else waiting)) ssrc
+    ≡ None
 nobody_if setup other true few outcome waiting ssrc none = refl
 nobody_if setup other false true outcome waiting ssrc none = refl
 nobody_if setup other false false outcome waiting ssrc none = none
 
 nobody_after :
     (setup other : Setup) (moment word ssrc : ℕ) (life : Life)
-    → told_in_life other (lived setup (left moment word) life) ssrc ≡ None
+    → state_in_life other (lived setup (left moment word) life) ssrc ≡ None
 nobody_after setup other moment word ssrc (present outcome) = nobody_if setup other (is_unheard outcome)
     (nat_le (member_count setup outcome) few_members) outcome
     (backing_off outcome (backoff_from setup moment word outcome)) ssrc refl
 nobody_after setup other moment word ssrc (backing_off outcome backoff) = refl
-nobody_after setup other moment word ssrc (gone outcome) = refl
+nobody_after setup other moment word ssrc (finished outcome) = refl
 
 pub nobody_left :
-    (history : History) (moment word ssrc : ℕ) → told_of (with_act history (left moment word)) ssrc ≡ None
+    (history : History) (moment word ssrc : ℕ) → state_at (with_act history (left moment word)) ssrc ≡ None
 nobody_left history moment word ssrc =
     let now = session_for (session_at history) (left moment word) in
     nobody_after now.setup (setup_after (left moment word) now.setup) moment word ssrc now.life

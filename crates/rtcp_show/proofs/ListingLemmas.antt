@@ -2,14 +2,14 @@
 use Rattle.std.proofs.Common.{◌≡◌, ◌<◌, ◌≤◌, ℕ, true, false, List, [], ◌∷◌, nat_eq, nat_lt, Option, Some, None, option_map, refl, subst, ap, ◌∙◌, arith}
 use Rattle.std.specs.Option.{option_or}
 use Rattle.std.proofs.lemmas.Bool.Decides.{nat_tests}
-use Rattle.rtcp_engine.specs.Leaving.{Life, present, backing_off, gone}
+use Rattle.rtcp_engine.specs.Leaving.{Life, present, backing_off, finished}
 use Rattle.rtcp_engine.specs.Lives.{WalksInLife}
 use Rattle.rtcp_engine.specs.Setups.{Setup}
 use Rattle.rtcp_members.specs.Pending.{is_after}
 use Rattle.rtcp_members.specs.Stays.{stay_of}
-use Rattle.rtcp_members.specs.Told.{IsWalk, StateValue, told_in_stay}
+use Rattle.rtcp_members.specs.Listings.{IsWalk, StateValue, state_in_stay}
 use Rattle.rtcp_members.specs.Traces.{TraceStep}
-use Rattle.rtcp_show.specs.Listings.{state_in, told_in_life}
+use Rattle.rtcp_show.specs.Listings.{state_in, state_in_life}
 
 -- ---- Tests of two SSRCs
 
@@ -46,7 +46,7 @@ none_below capacity trace low ssrc (state ∷ states) below walk =
 walk_has :
     (capacity : ℕ) (trace : List TraceStep) (after : Option ℕ) (ssrc : ℕ) (states : List StateValue)
     → is_after after ssrc ≡ true → IsWalk after capacity trace states
-    → state_in states ssrc ≡ option_map (told_in_stay ssrc) (stay_of capacity trace ssrc)
+    → state_in states ssrc ≡ option_map (state_in_stay ssrc) (stay_of capacity trace ssrc)
 walk_has capacity trace after ssrc [] behind walk = rw (walk ssrc behind) refl
 walk_has capacity trace after ssrc (state ∷ states) behind walk =
     let next = walk.0 in
@@ -56,16 +56,16 @@ walk_has capacity trace after ssrc (state ∷ states) behind walk =
       none_below capacity trace state.ssrc ssrc states low walk.1,
       test,
       subst (λ s. stay_of capacity trace s ≡ Some next.stay) same next.present,
-    ) (ap Some (next.says ∙ ap (λ s. told_in_stay s next.stay) same)))
+    ) (ap Some (next.says ∙ ap (λ s. state_in_stay s next.stay) same)))
     (λ test. by_order state.ssrc ssrc (λ less.
     rw (none_below capacity trace state.ssrc ssrc states (grind arith) walk.1, test, next.least ssrc behind less) refl)
     (λ upto. let behind_it : nat_lt state.ssrc ssrc ≡ true = grind (arith, nat_tests) in
     rw (walk_has capacity trace (Some state.ssrc) ssrc states behind_it walk.1, test) (or_none _)))
 
-pub told_in_walk :
+pub state_in_walk :
     (setup : Setup) (life : Life) (ssrc : ℕ) (states : List StateValue) → WalksInLife setup life states
-    → state_in states ssrc ≡ told_in_life setup life ssrc
-told_in_walk setup (present outcome) ssrc states walk =
+    → state_in states ssrc ≡ state_in_life setup life ssrc
+state_in_walk setup (present outcome) ssrc states walk =
     walk_has setup.capacity outcome.trace None ssrc states refl walk
-told_in_walk setup (backing_off outcome backoff) ssrc states none = rw none refl
-told_in_walk setup (gone outcome) ssrc states none = rw none refl
+state_in_walk setup (backing_off outcome backoff) ssrc states none = rw none refl
+state_in_walk setup (finished outcome) ssrc states none = rw none refl

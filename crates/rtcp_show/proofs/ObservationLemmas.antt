@@ -4,9 +4,9 @@ use Rattle.rtcp_engine.specs.Histories.{setup_at}
 use Rattle.rtcp_wire.specs.About.{blocks_about}
 use Rattle.rtcp_show.specs.declared.printer.Terms.{Terms}
 use Rattle.rtcp_show.specs.declared.printer.Printer.{Printer}
-use Rattle.rtcp_show.specs.Flows.{elapsed_since, flow_told, peer_of_event}
-use Rattle.rtcp_show.specs.Listings.{lists, told_of}
-use Rattle.rtcp_show.specs.Notes.{NoteValue, cnames_of, note_told, noted_after, trips_of}
+use Rattle.rtcp_show.specs.Flows.{elapsed_since, flow_after_event, peer_of_event}
+use Rattle.rtcp_show.specs.Listings.{lists, state_at}
+use Rattle.rtcp_show.specs.Notes.{NoteValue, cnames_of, note_after_event, noted_after, trips_of}
 use Rattle.rtcp_show.specs.Observations.{IsRead, Knows, Observation, are_due, cnames_heard, heard_of, last_look, moment_in, newest_note, note_of, trips_heard}
 use Rattle.rtcp_show.specs.Watchers.{Watches, arrival_at, flow_by, is_due, looked_of, noted_by, second_after, terms_of}
 use Rattle.rtcp_show.proofs.NoteLemmas.{newest-append}
@@ -27,18 +27,22 @@ knows_more seen earlier before after told knows watches =
           ∙ ap (λ second. if is_due second moment then moment else looked_of before) knows.second
           ∙ ap (λ looked. if due then moment else looked) knows.looked;
       notes = λ ssrc. watches.notes seen.packets told.packets ssrc
-          ∙ ap (λ second. note_told (is_due second moment) (listed ssrc)
+          ∙ ap (λ second. note_after_event (is_due second moment) (listed ssrc)
           (arrival_at (terms_of before).ntp_base moment) own seen.packets ssrc (noted_by before ssrc)) knows.second
-          ∙ ap (λ note. note_told due (listed ssrc) (arrival_at (terms_of before).ntp_base moment) own seen.packets ssrc
+          ∙ ap (λ note. note_after_event due (listed ssrc) (arrival_at (terms_of before).ntp_base moment) own
+          seen.packets ssrc
           note) (knows.notes ssrc)
-          ∙ ap (λ (terms : Terms). note_told due (listed ssrc) (arrival_at terms.ntp_base moment) own seen.packets ssrc
+          ∙ ap (λ (terms : Terms). note_after_event due (listed ssrc) (arrival_at terms.ntp_base moment) own
+          seen.packets ssrc
           (note_of terms.ntp_base earlier ssrc)) (sym watches.terms);
       flows = λ ssrc. watches.flows seen.packets seen.media told.packets told.media ssrc
-          ∙ ap (λ second. flow_told (is_due second moment) (elapsed_since (looked_of before) moment)
-          (told_of seen.history ssrc) peer seen.packets seen.media ssrc (flow_by before ssrc)) knows.second
-          ∙ ap (λ looked. flow_told due (elapsed_since looked moment) (told_of seen.history ssrc) peer seen.packets
+          ∙ ap (λ second. flow_after_event (is_due second moment) (elapsed_since (looked_of before) moment)
+          (state_at seen.history ssrc) peer seen.packets seen.media ssrc (flow_by before ssrc)) knows.second
+          ∙ ap (λ looked. flow_after_event due (elapsed_since looked moment) (state_at seen.history ssrc) peer
+          seen.packets
           seen.media ssrc (flow_by before ssrc)) knows.looked
-          ∙ ap (λ flow. flow_told due (elapsed_since (last_look earlier) moment) (told_of seen.history ssrc) peer
+          ∙ ap (λ flow. flow_after_event due (elapsed_since (last_look earlier) moment) (state_at seen.history ssrc)
+          peer
           seen.packets seen.media ssrc flow) (knows.flows ssrc);
     }
 
@@ -62,7 +66,8 @@ note_newest ntp_base ssrc seen heard note is =
 note_held :
     (due listed : Bool) (ntp_base ssrc : ℕ) (seen : Observation) (heard : List Observation) (note : NoteValue)
     → note ≡ newest_note ntp_base heard ssrc
-    → note_told due listed (arrival_at ntp_base (moment_in seen)) (setup_at seen.history).ssrc seen.packets ssrc note
+    → note_after_event due listed (arrival_at ntp_base (moment_in seen)) (setup_at seen.history).ssrc seen.packets ssrc
+    note
     ≡ newest_note ntp_base (if listed then seen ∷ heard else (if due then [] else heard)) ssrc
 note_held true true ntp_base ssrc seen heard note is = note_newest ntp_base ssrc seen heard note is
 note_held false true ntp_base ssrc seen heard note is = note_newest ntp_base ssrc seen heard note is

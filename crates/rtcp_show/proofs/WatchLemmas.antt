@@ -11,10 +11,10 @@ use Rattle.rtcp_wire.specs.Values.{RtcpPacket}
 use Rattle.rtcp_show.specs.declared.board.Board.{Board}
 use Rattle.rtcp_show.specs.declared.page.Page.{Page}
 use Rattle.rtcp_show.specs.declared.printer.Printer.{Printer}
-use Rattle.rtcp_show.specs.Changes.{KeepsListing, ShowsChanges, lists_anew, tells_of_others}
+use Rattle.rtcp_show.specs.Changes.{KeepsListing, ShowsChanges, lists_anew, shows_others}
 use Rattle.rtcp_show.specs.Flows.{IsMediaOf, elapsed_since, flow_in, flow_looked, heard_after, peer_of_event}
 use Rattle.rtcp_show.specs.Lines.{HasPackets, ShowsBothBy, moment_of_event}
-use Rattle.rtcp_show.specs.Listings.{if_listed, lists, told_of}
+use Rattle.rtcp_show.specs.Listings.{if_listed, lists, state_at}
 use Rattle.rtcp_show.specs.Notes.{kept_if, noted_after, noted_in}
 use Rattle.rtcp_show.specs.Watchers.{KeepsRows, LooksIf, Watches, arrival_at, held_on, is_due, listed_in, news_text, second_after, terms_of}
 use Rattle.rtcp_show.specs.Wordings.{shown_in}
@@ -74,7 +74,7 @@ looked_flows :
     (due : Bool) (now : ℕ) (history : History) (before after : Board) → LooksIf due now history before after →
     (ssrc : ℕ)
     → flow_in after.flows ssrc
-    ≡ (if due then flow_looked (elapsed_since before.looked now) (told_of history ssrc)
+    ≡ (if due then flow_looked (elapsed_since before.looked now) (state_at history ssrc)
     (flow_in before.flows ssrc)
     else flow_in before.flows ssrc)
 looked_flows true now history before after looks ssrc = looks.flows ssrc
@@ -95,7 +95,7 @@ pub watched :
     → (lines : List ℕ) × ShowsBothBy (shown_in (terms_of before).wording) (terms_of before).to event answer lines
     × Appends (held_on contents before.page) (held_on contents lined) lines
     → Notes event answer history (arrival_at (terms_of before).ntp_base (moment_of_event event)) before.board noted
-    → (changes : List ℕ) × ShowsChanges (tells_of_others event answer) (moment_of_event event) history
+    → (changes : List ℕ) × ShowsChanges (shows_others event answer) (moment_of_event event) history
     (listed_in before.roles) changes × Appends (held_on contents lined) (held_on contents told) changes
     → KeepsListing (lists_anew event answer) history (listed_in before.roles) (listed_in after.roles)
     → Appends (held_on contents told) (held_on contents after.page)

@@ -8,7 +8,7 @@ use Rattle.rtcp_engine.specs.Steps.{AnswerValue}
 use Rattle.rtcp_listing.specs.declared.change.Change.{Change}
 use Rattle.rtcp_listing.specs.declared.change.Role.TheVariants.{Away, Sender}
 use Rattle.rtcp_listing.specs.Differences.{ListedValue, changes, is_gone, is_same, listed_of, rises_from, went_without_bye}
-use Rattle.rtcp_members.specs.Told.{StateValue}
+use Rattle.rtcp_members.specs.Listings.{StateValue}
 use Rattle.rtcp_text.specs.Text.{hex_word}
 use Rattle.rtcp_show.specs.Numbers.{moment_text}
 
@@ -37,9 +37,9 @@ abbrev pub is_leave : EventValue → Bool
 is_leave (leave_asked moment word) = true
 is_leave event = false
 
-abbrev pub is_dismissal : EventValue → Bool
-is_dismissal (forget_asked moment ssrc) = true
-is_dismissal event = false
+abbrev pub is_forgetting : EventValue → Bool
+is_forgetting (forget_asked moment ssrc) = true
+is_forgetting event = false
 
 abbrev pub others_changed_in : AnswerValue → Bool
 others_changed_in (Ok step) = step.others_changed
@@ -50,15 +50,15 @@ others_changed_in (Err refusal) = false
 abbrev pub lists_anew : EventValue → AnswerValue → Bool
 lists_anew event answer = others_changed_in answer && not (is_leave event)
 
--- Whether lines say who changed. A source that the host dismissed has neither timed out nor said goodbye, and no other
+-- Whether lines say who changed. A source that the host forgot has neither timed out nor sent a BYE, and no other
 -- changes with it, so nothing is said of it.
-abbrev pub tells_of_others : EventValue → AnswerValue → Bool
-tells_of_others event answer = lists_anew event answer && not (is_dismissal event)
+abbrev pub shows_others : EventValue → AnswerValue → Bool
+shows_others event answer = lists_anew event answer && not (is_forgetting event)
 
 -- ---- What is told
 
-abbrev pub told_changes : (told : Bool) → (moment : ℕ) → (before after : List ListedValue) → List ℕ
-told_changes told moment before after = if told then changes_text moment before after else []
+abbrev pub shown_changes : (told : Bool) → (moment : ℕ) → (before after : List ListedValue) → List ℕ
+shown_changes told moment before after = if told then changes_text moment before after else []
 
 -- Nothing, where it is not told that others changed; else what changed between an earlier listing and the sources that
 -- are there after a history.

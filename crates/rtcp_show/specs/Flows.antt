@@ -2,7 +2,7 @@
 use Rattle.std.specs.Prelude.{◌≡◌, ℕ, ℤ, pos, negsuc, ◌+◌, ◌-◌, ◌*◌, ◌/◌, ◌^◌, Bool, false, List, [], ◌∷◌, max, min, if◌then◌else◌, nat_eq, nat_le, is_some, Option, Some, None, Ok, Err, option_map, unwrap_or}
 use Rattle.rtcp_engine.specs.Acts.{EventValue, rtcp_arrived, rtp_arrived}
 use Rattle.rtcp_engine.specs.Steps.{AnswerValue}
-use Rattle.rtcp_members.specs.Told.{StateValue}
+use Rattle.rtcp_members.specs.Listings.{StateValue}
 use Rattle.rtcp_source.specs.Receptions.{ReceptionValue}
 use Rattle.rtcp_wire.specs.RtpHeads.{RtpValue, IsRtpHead}
 use Rattle.rtcp_wire.specs.Values.{RtcpPacket, sr, rr}
@@ -14,7 +14,7 @@ use Rattle.rtcp_show.specs.declared.by_source.BySource.{BySource}
 use Rattle.rtcp_show.specs.declared.flows.Flow.{Flow}
 
 abbrev pub no_flow : Flow
-no_flow = record { rtp_peer = None; rtcp_peer = None; counted = None; loss = None; pace = None }
+no_flow = record { rtp_peer = None; rtcp_peer = None; counted = None; loss = None; packet_rate = None }
 
 -- what is kept of a source
 abbrev pub flow_in : BySource Flow → (ssrc : ℕ) → Flow
@@ -81,10 +81,10 @@ loss_of reception =
 
 -- Packets a second, in tenths and rounded down, by how many were counted before and are now, so many microseconds
 -- later. Where fewer are than were, the count began anew. Its numbers stay below 2^64.
-abbrev pub pace_between : (elapsed : ℕ) → (before now : Option ℕ) → Option ℕ
-pace_between elapsed None now = None
-pace_between elapsed (Some before) None = None
-pace_between elapsed (Some before) (Some now) =
+abbrev pub packet_rate_between : (elapsed : ℕ) → (before now : Option ℕ) → Option ℕ
+packet_rate_between elapsed None now = None
+packet_rate_between elapsed (Some before) None = None
+packet_rate_between elapsed (Some before) (Some now) =
     if nat_le before now then Some (min ((now - before) * 10000000) (2 ^ 64 - 1) / elapsed) else None
 
 abbrev pub counted_in : StateValue → Option ℕ
@@ -95,7 +95,7 @@ abbrev pub looked_at : (elapsed : ℕ) → StateValue → Flow → Flow
 looked_at elapsed state flow = record flow {
   counted = counted_in state;
   loss = option_map loss_of state.reception;
-  pace = pace_between elapsed flow.counted (counted_in state);
+  packet_rate = packet_rate_between elapsed flow.counted (counted_in state);
 }
 
 -- the time since the sources were looked at before, of at least a microsecond
@@ -109,8 +109,8 @@ flow_looked elapsed (Some state) flow = looked_at elapsed state flow
 
 -- What is kept of a source after an event with which a compound or an RTP packet came from a peer, and after which the
 -- rows are due or not.
-abbrev pub flow_told : (due : Bool) → (elapsed : ℕ) → (told : Option StateValue) → (peer : ℕ) → List RtcpPacket
+abbrev pub flow_after_event : (due : Bool) → (elapsed : ℕ) → (told : Option StateValue) → (peer : ℕ) → List RtcpPacket
     → (media : Option ℕ) → (ssrc : ℕ) → Flow → Flow
-flow_told due elapsed told peer packets media ssrc flow =
+flow_after_event due elapsed told peer packets media ssrc flow =
     let heard = if_listed (is_some told) (heard_after peer packets media ssrc) flow in
     if due then flow_looked elapsed told heard else heard

@@ -2,29 +2,29 @@
 use Rattle.std.specs.Prelude.{ℕ, Bool, true, false, List, [], ◌∷◌, if◌then◌else◌, nat_eq, is_some, Option, Some, None, option_map}
 use Rattle.std.specs.Option.{option_or}
 use Rattle.rtcp_engine.specs.Histories.{History, life_at, setup_at}
-use Rattle.rtcp_engine.specs.Leaving.{Life, present, backing_off, gone}
+use Rattle.rtcp_engine.specs.Leaving.{Life, present, backing_off, finished}
 use Rattle.rtcp_engine.specs.Setups.{Setup}
 use Rattle.rtcp_members.specs.Stays.{stay_of}
-use Rattle.rtcp_members.specs.Told.{StateValue, told_in_stay}
+use Rattle.rtcp_members.specs.Listings.{StateValue, state_in_stay}
 
 abbrev pub takes_part : Life → Bool
 takes_part (present outcome) = true
 takes_part (backing_off outcome backoff) = false
-takes_part (gone outcome) = false
+takes_part (finished outcome) = false
 
 -- what is told of a source, if it is listed: of nobody from a leave on
-abbrev pub told_in_life : Setup → Life → (ssrc : ℕ) → Option StateValue
-told_in_life setup (present outcome) ssrc =
-    option_map (told_in_stay ssrc) (stay_of setup.capacity outcome.trace ssrc)
-told_in_life setup (backing_off outcome backoff) ssrc = None
-told_in_life setup (gone outcome) ssrc = None
+abbrev pub state_in_life : Setup → Life → (ssrc : ℕ) → Option StateValue
+state_in_life setup (present outcome) ssrc =
+    option_map (state_in_stay ssrc) (stay_of setup.capacity outcome.trace ssrc)
+state_in_life setup (backing_off outcome backoff) ssrc = None
+state_in_life setup (finished outcome) ssrc = None
 
-abbrev pub told_of : History → (ssrc : ℕ) → Option StateValue
-told_of history ssrc = told_in_life (setup_at history) (life_at history) ssrc
+abbrev pub state_at : History → (ssrc : ℕ) → Option StateValue
+state_at history ssrc = state_in_life (setup_at history) (life_at history) ssrc
 
 -- whether it is listed
 abbrev pub lists : History → (ssrc : ℕ) → Bool
-lists history ssrc = is_some (told_of history ssrc)
+lists history ssrc = is_some (state_at history ssrc)
 
 -- what is kept of a source, which is changed only where it is listed
 abbrev pub if_listed : {A : Type 0} → (listed : Bool) → (change : A → A) → A → A

@@ -80,8 +80,8 @@ abbrev pub kept_if : (listed : Bool) → NoteValue → NoteValue
 kept_if listed note = if listed then note else nothing
 
 -- What is noted of a source after an event with which a compound came, and after which the rows are due or not.
-abbrev pub note_told :
+abbrev pub note_after_event :
     (due listed : Bool) → (arrived own : ℕ) → List RtcpPacket → (ssrc : ℕ) → NoteValue → NoteValue
-note_told due listed arrived own packets ssrc note =
+note_after_event due listed arrived own packets ssrc note =
     let noted = if_listed listed (noted_after arrived own packets ssrc) note in
     if due then kept_if listed noted else noted

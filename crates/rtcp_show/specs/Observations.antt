@@ -7,10 +7,10 @@ use Rattle.rtcp_wire.specs.About.{blocks_about}
 use Rattle.rtcp_wire.specs.Values.{RtcpPacket}
 use Rattle.rtcp_show.specs.declared.flows.Flow.{Flow}
 use Rattle.rtcp_show.specs.declared.printer.Printer.{Printer}
-use Rattle.rtcp_show.specs.Flows.{IsMediaOf, elapsed_since, flow_told, no_flow, peer_of_event}
+use Rattle.rtcp_show.specs.Flows.{IsMediaOf, elapsed_since, flow_after_event, no_flow, peer_of_event}
 use Rattle.rtcp_show.specs.Lines.{HasPackets, moment_of_event}
-use Rattle.rtcp_show.specs.Listings.{lists, told_of}
-use Rattle.rtcp_show.specs.Notes.{NoteValue, cnames_of, newest_of, note_told, nothing, trips_of}
+use Rattle.rtcp_show.specs.Listings.{lists, state_at}
+use Rattle.rtcp_show.specs.Notes.{NoteValue, cnames_of, newest_of, note_after_event, nothing, trips_of}
 use Rattle.rtcp_show.specs.Watchers.{arrival_at, flow_by, is_due, looked_of, noted_by, second_after, second_of, terms_of}
 
 -- What a printer is told at once: an event, its answer, and the participant after it, by its history. With it come the
@@ -50,7 +50,7 @@ last_look (seen ∷ earlier) = if are_due seen earlier then moment_in seen else 
 abbrev pub note_of : (ntp_base : ℕ) → List Observation → (ssrc : ℕ) → NoteValue
 note_of ntp_base [] ssrc = nothing
 note_of ntp_base (seen ∷ earlier) ssrc =
-    note_told (are_due seen earlier) (lists seen.history ssrc) (arrival_at ntp_base (moment_in seen))
+    note_after_event (are_due seen earlier) (lists seen.history ssrc) (arrival_at ntp_base (moment_in seen))
     (setup_at seen.history).ssrc seen.packets ssrc (note_of ntp_base earlier ssrc)
 
 -- What came while a source was listed, since the rows were due last without it: newest first.
@@ -83,8 +83,8 @@ newest_note ntp_base heard ssrc = record {
 abbrev pub flow_of : List Observation → (ssrc : ℕ) → Flow
 flow_of [] ssrc = no_flow
 flow_of (seen ∷ earlier) ssrc =
-    flow_told (are_due seen earlier) (elapsed_since (last_look earlier) (moment_in seen))
-    (told_of seen.history ssrc) (peer_of_event seen.event) seen.packets seen.media ssrc
+    flow_after_event (are_due seen earlier) (elapsed_since (last_look earlier) (moment_in seen))
+    (state_at seen.history ssrc) (peer_of_event seen.event) seen.packets seen.media ssrc
     (flow_of earlier ssrc)
 
 -- ---- Of a printer

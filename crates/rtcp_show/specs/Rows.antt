@@ -4,7 +4,7 @@ use Rattle.std.specs.Fmt.{decimal, signed_decimal}
 use Rattle.std.specs.List.{flat_map}
 use Rattle.rtcp_source.specs.LastBlocks.{LastBlockValue}
 use Rattle.rtcp_source.specs.Receptions.{ReceptionValue}
-use Rattle.rtcp_members.specs.Told.{StateValue}
+use Rattle.rtcp_members.specs.Listings.{StateValue}
 use Rattle.rtcp_text.specs.Text.{hex_word}
 use Rattle.rtcp_show.specs.Notes.{NoteValue}
 use Rattle.rtcp_plain.specs.Numbers.{fixed_text, quoted_text, time_text}
@@ -71,7 +71,7 @@ origin_text None None = []
 abbrev pub flow_text : StateValue → Flow → List ℕ
 flow_text state flow =
     tenths_text (codes " loss=") flow.loss (codes "%") ++ interval_text state.last_block
-    ++ tenths_text (codes " pace=") flow.pace (codes "/s") ++ origin_text flow.rtp_peer flow.rtcp_peer
+    ++ tenths_text (codes " pace=") flow.packet_rate (codes "/s") ++ origin_text flow.rtp_peer flow.rtcp_peer
 
 abbrev pub full_row_text : StateValue → NoteValue → Flow → List ℕ
 full_row_text state note flow = facts_text state note ++ flow_text state flow ++ 10 ∷ []

@@ -4,7 +4,7 @@ use Rattle.std.specs.Io.KnownBytes.{Appends}
 use Rattle.std.specs.Str.{bytes_eq}
 use Rattle.rtcp_listing.specs.Differences.{ListedValue, listed_of}
 use Rattle.rtcp_members.specs.ListViews.{state_value}
-use Rattle.rtcp_members.specs.Told.{StateValue}
+use Rattle.rtcp_members.specs.Listings.{StateValue}
 use Rattle.rtcp_engine.specs.Acts.{EventValue}
 use Rattle.rtcp_engine.specs.Histories.{History, life_at, setup_at}
 use Rattle.rtcp_engine.specs.Lives.{WalksInLife, members_in_life, senders_in_life}
@@ -20,11 +20,11 @@ use Rattle.rtcp_show.specs.declared.page.Page.{Page}
 use Rattle.rtcp_show.specs.declared.printer.Printer.{Printer}
 use Rattle.rtcp_show.specs.declared.printer.Terms.{Terms}
 use Rattle.rtcp_show.specs.declared.watcher.Watcher.{Watcher}
-use Rattle.rtcp_show.specs.Changes.{KeepsListing, ShowsChanges, lists_anew, tells_of_others}
-use Rattle.rtcp_show.specs.Flows.{IsMediaOf, elapsed_since, flow_in, flow_looked, flow_told, peer_of_event}
+use Rattle.rtcp_show.specs.Changes.{KeepsListing, ShowsChanges, lists_anew, shows_others}
+use Rattle.rtcp_show.specs.Flows.{IsMediaOf, elapsed_since, flow_in, flow_looked, flow_after_event, peer_of_event}
 use Rattle.rtcp_show.specs.Lines.{HasPackets, ShowsBothBy, moment_of_event}
-use Rattle.rtcp_show.specs.Listings.{lists, told_of}
-use Rattle.rtcp_show.specs.Notes.{NoteValue, kept_if, note_told, noted_in}
+use Rattle.rtcp_show.specs.Listings.{lists, state_at}
+use Rattle.rtcp_show.specs.Notes.{NoteValue, kept_if, note_after_event, noted_in}
 use Rattle.rtcp_show.specs.Numbers.{moment_text}
 use Rattle.rtcp_show.specs.Rows.{sources_text}
 use Rattle.rtcp_show.specs.Wordings.{shown_in}
@@ -76,7 +76,7 @@ news_text true moment before after = if bytes_eq after before then [] else momen
 pub record LooksAt (now : ℕ) (history : History) (before after : Board) : Type 0 where
   pub notes : (ssrc : ℕ) → noted_in after.notes ssrc ≡ kept_if (lists history ssrc) (noted_in before.notes ssrc)
   pub flows : (ssrc : ℕ) → flow_in after.flows ssrc
-      ≡ flow_looked (elapsed_since before.looked now) (told_of history ssrc) (flow_in before.flows ssrc)
+      ≡ flow_looked (elapsed_since before.looked now) (state_at history ssrc) (flow_in before.flows ssrc)
   pub looked : after.looked ≡ now
 
 -- Where they are not, all is as it was.
@@ -140,7 +140,7 @@ pub record Watches {W : Type 0} (contents : W → Option (List ℕ)) (event : Ev
   pub changes : List ℕ
   pub terms : terms_of after ≡ terms_of before
   pub shows : ShowsBothBy (shown_in (terms_of before).wording) (terms_of before).to event answer lines
-  pub tells : ShowsChanges (tells_of_others event answer) (moment_of_event event) history (listing_of before) changes
+  pub tells : ShowsChanges (shows_others event answer) (moment_of_event event) history (listing_of before) changes
   pub writes : Appends (held_by contents before) (held_by contents after) (lines ++ (changes
       ++ news_text (is_due_at before event) (moment_of_event event) (rows_of before) (rows_of after)))
   pub listing : KeepsListing (lists_anew event answer) history (listing_of before) (listing_of after)
@@ -148,13 +148,13 @@ pub record Watches {W : Type 0} (contents : W → Option (List ℕ)) (event : Ev
   pub second : second_of after ≡ second_after (second_of before) (moment_of_event event)
   pub looked : looked_of after ≡ (if is_due_at before event then moment_of_event event else looked_of before)
   pub notes : (packets : List RtcpPacket) → HasPackets event answer packets → (ssrc : ℕ) →
-      noted_by after ssrc ≡ note_told (is_due_at before event) (lists history ssrc)
+      noted_by after ssrc ≡ note_after_event (is_due_at before event) (lists history ssrc)
       (arrival_at (terms_of before).ntp_base (moment_of_event event)) (setup_at history).ssrc packets ssrc
       (noted_by before ssrc)
   pub flows : (packets : List RtcpPacket) (media : Option ℕ) → HasPackets event answer packets →
       IsMediaOf event answer media → (ssrc : ℕ) →
-      flow_by after ssrc ≡ flow_told (is_due_at before event)
-      (elapsed_since (looked_of before) (moment_of_event event)) (told_of history ssrc) (peer_of_event event) packets
+      flow_by after ssrc ≡ flow_after_event (is_due_at before event)
+      (elapsed_since (looked_of before) (moment_of_event event)) (state_at history ssrc) (peer_of_event event) packets
       media ssrc (flow_by before ssrc)
 
 -- ---- Of a watcher

@@ -8,7 +8,7 @@ ghost use Rattle.rtcp_engine.specs.States.{StandsAt};
 ghost use Rattle.rtcp_listing.specs.Differences.{changes, listed_of, rises_from};
 ghost use Rattle.rtcp_members.specs.ListViews.{state_value};
 ghost use Rattle.rtcp_engine.specs.Views.{answer_value, event_value};
-ghost use Rattle.rtcp_show.specs.Changes.{KeepsListing, ShowsChanges, change_text, changes_text, is_dismissal, is_leave, line_where, lists_anew, tells_of_others, told_changes};
+ghost use Rattle.rtcp_show.specs.Changes.{KeepsListing, ShowsChanges, change_text, changes_text, is_forgetting, is_leave, line_where, lists_anew, shows_others, shown_changes};
 
 use crate::numbers::push_moment;
 use rtcp_engine::{Answer, Event, Participant};
@@ -55,7 +55,7 @@ impl Roles {
     {
         self.next.clear();
         push_listing(&mut self.next, participant)?;
-        push_if_told(out, told, moment, &self.listing, &self.next)?;
+        push_if_shown(out, told, moment, &self.listing, &self.next)?;
         mem::swap(&mut self.listing, &mut self.next);
         Ok(())
     }
@@ -72,11 +72,11 @@ pub(crate) fn lists_anew(event: &Event<'_>, answer: &Answer) -> bool
     }
 }
 
-/// Whether lines say whose roles changed: not where the host dismissed a source.
-pub(crate) fn tells_of_others(event: &Event<'_>, answer: &Answer) -> bool
-    ensures { result ≡ tells_of_others (event_value event.now) (answer_value answer.now) }
+/// Whether lines say whose roles changed: not where the host forgot a source.
+pub(crate) fn shows_others(event: &Event<'_>, answer: &Answer) -> bool
+    ensures { result ≡ shows_others (event_value event.now) (answer_value answer.now) }
 {
-    lists_anew(event, answer) && !is_dismissal(event)
+    lists_anew(event, answer) && !is_forgetting(event)
 }
 
 /// Whether the host asked the participant to leave.
@@ -87,8 +87,8 @@ fn is_leave(event: &Event<'_>) -> bool
 }
 
 /// Whether the host said that a source is gone.
-fn is_dismissal(event: &Event<'_>) -> bool
-    ensures { result ≡ is_dismissal (event_value event.now) }
+fn is_forgetting(event: &Event<'_>) -> bool
+    ensures { result ≡ is_forgetting (event_value event.now) }
 {
     matches!(event, Event::Forget { .. })
 }
@@ -109,7 +109,7 @@ fn push_listing<T: MemberTable>(
 }
 
 /// Appends what changed between two listings, if that is told.
-fn push_if_told(
+fn push_if_shown(
     out: &mut Vec<u8>,
     told: bool,
     moment: u64,
@@ -117,7 +117,7 @@ fn push_if_told(
     after: &[SourceState],
 ) -> Result<(), AllocError>
     ensures { OnOk result (out.new.items ≡ out.old.items
-        ++ told_changes told moment (map (λ state. listed_of (state_value state)) before.now)
+        ++ shown_changes told moment (map (λ state. listed_of (state_value state)) before.now)
         (map (λ state. listed_of (state_value state)) after.now)) }
 {
     if told {
@@ -132,8 +132,8 @@ fn push_if_told(
 /// - `4.500000 joined=00000007`: it is a member, and was none.
 /// - `4.500000 began-sending=00000007`: it is a sender, and was none.
 /// - `4.500000 stopped-sending=00000007`: it was a sender, and is none.
-/// - `4.500000 bye=00000007`: it was a member, and said goodbye.
-/// - `4.500000 timed-out=00000007`: it was a member, and was dropped without a goodbye.
+/// - `4.500000 bye=00000007`: it was a member, and sent a BYE.
+/// - `4.500000 timed-out=00000007`: it was a member, and was dropped without a BYE.
 fn push_changes(
     out: &mut Vec<u8>,
     moment: u64,

@@ -6,7 +6,7 @@ ghost use Rattle.rtcp_engine.specs.States.{StandsAt};
 ghost use Rattle.rtcp_engine.specs.Views.{answer_value, event_value};
 ghost use Rattle.rtcp_members.specs.ListViews.{state_value};
 ghost use Rattle.rtcp_source.specs.Views.{reception_value};
-ghost use Rattle.rtcp_show.specs.Flows.{IsMedia, IsMediaOf, counted_in, flow_in, heard_after, heard_at, looked_at, loss_of, lost_packets, no_flow, pace_between, peer_at, peer_of_event, reporter_of, with_peer};
+ghost use Rattle.rtcp_show.specs.Flows.{IsMedia, IsMediaOf, counted_in, flow_in, heard_after, heard_at, looked_at, loss_of, lost_packets, no_flow, packet_rate_between, peer_at, peer_of_event, reporter_of, with_peer};
 ghost use Rattle.rtcp_show.specs.Listings.{if_listed, lists};
 
 use crate::by_source::BySource;
@@ -30,7 +30,7 @@ pub struct Flow {
     /// The packets lost of all that were expected, in tenths of a per cent.
     pub loss: Option<u64>,
     /// Packets a second since the sources were looked at before, in tenths.
-    pub pace: Option<u64>,
+    pub packet_rate: Option<u64>,
 }
 
 impl Flow {
@@ -43,7 +43,7 @@ impl Flow {
             rtcp_peer: None,
             counted: None,
             loss: None,
-            pace: None,
+            packet_rate: None,
         }
     }
 
@@ -178,7 +178,7 @@ pub(crate) fn looked_at(flow: Flow, state: &SourceState, elapsed: u64) -> Flow
     Flow {
         counted,
         loss: loss_of_source(state),
-        pace: pace_between(elapsed, flow.counted, counted),
+        packet_rate: packet_rate_between(elapsed, flow.counted, counted),
         ..flow
     }
 }
@@ -204,9 +204,9 @@ fn loss_of_source(state: &SourceState) -> Option<u64>
 }
 
 /// Packets a second, in tenths, by how many were counted before and are now, so many microseconds later.
-fn pace_between(elapsed: u64, before: Option<u64>, now: Option<u64>) -> Option<u64>
+fn packet_rate_between(elapsed: u64, before: Option<u64>, now: Option<u64>) -> Option<u64>
     requires { 0 < elapsed }
-    ensures { result ≡ pace_between elapsed before now }
+    ensures { result ≡ packet_rate_between elapsed before now }
 {
     let (Some(before), Some(now)) = (before, now) else {
         return None;

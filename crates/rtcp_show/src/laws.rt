@@ -5,7 +5,7 @@ ghost use Rattle.rtcp_engine.specs.Acts.{Act, EventValue, IsActOfEvent, left};
 ghost use Rattle.rtcp_engine.specs.Answers.{step_by};
 ghost use Rattle.rtcp_engine.specs.Histories.{History, life_at, with_act};
 ghost use Rattle.rtcp_show.specs.Changes.{lists_anew};
-ghost use Rattle.rtcp_show.specs.Listings.{takes_part, told_of};
+ghost use Rattle.rtcp_show.specs.Listings.{takes_part, state_at};
 ghost use Rattle.rtcp_show.specs.Observations.{IsRead, Knows, Observation, heard_of, newest_note, note_of};
 ghost use Rattle.rtcp_show.specs.Watchers.{Watches};
 ghost use Rattle.rtcp_show.specs.declared.printer.Printer.{Printer};
@@ -22,7 +22,7 @@ pub fn listings_are_of_participants()
 /// After a leave nobody is listed.
 pub fn leavers_list_nobody()
     ensures { (history : History) (moment word ssrc : ℕ) →
-        told_of (with_act history (left moment word)) ssrc ≡ None }
+        state_at (with_act history (left moment word)) ssrc ≡ None }
 {}
 
 /// A printer that knew what follows from all that it saw, and that writes and keeps what it should of one more, knows

@@ -5,12 +5,12 @@ ghost use Rattle.std.specs.Io.KnownBytes.{Appends};
 ghost use Rattle.rtcp_engine.specs.Histories.{History};
 ghost use Rattle.rtcp_engine.specs.States.{StandsAt};
 ghost use Rattle.rtcp_engine.specs.Views.{answer_value, event_value};
-ghost use Rattle.rtcp_show.specs.Changes.{KeepsListing, ShowsChanges, lists_anew, tells_of_others};
+ghost use Rattle.rtcp_show.specs.Changes.{KeepsListing, ShowsChanges, lists_anew, shows_others};
 ghost use Rattle.rtcp_show.specs.Lines.{ReadsAs, ShowsBothBy, moment_of_event, unsent_text};
 ghost use Rattle.rtcp_show.specs.Wordings.{shown_in};
 
 use crate::board::Board;
-use crate::changes::{Roles, lists_anew, tells_of_others};
+use crate::changes::{Roles, lists_anew, shows_others};
 use crate::lines::{moment_of, push_read_lines, push_unsent};
 use crate::wording::Wording;
 use rtcp_engine::{Answer, Event, Participant};
@@ -74,7 +74,7 @@ impl<W: Write> Page<W> {
     ) -> Result<(), TextFault>
         ensures written { (history : History) → StandsAt participant.now history →
             OnOk result ((changes : List ℕ)
-            × ShowsChanges (tells_of_others (event_value event.now) (answer_value answer.now))
+            × ShowsChanges (shows_others (event_value event.now) (answer_value answer.now))
             (moment_of_event (event_value event.now)) history (listed_in roles.old) changes
             × Appends (held_on W.contents self.old) (held_on W.contents self.new) changes) }
         ensures keeps { (history : History) → StandsAt participant.now history →
@@ -86,7 +86,7 @@ impl<W: Write> Page<W> {
             return Ok(());
         }
         self.text.clear();
-        let told = tells_of_others(event, answer);
+        let told = shows_others(event, answer);
         match roles.compose(&mut self.text, told, moment_of(event), participant) {
             Ok(()) => self.write(),
             Err(AllocError) => Err(TextFault::Memory),

@@ -99,7 +99,7 @@ impl<W: Write> Printer<W> {
     /// Writes the lines of an event of the session and its answer, a line for each source whose role changed
     /// ([`push_change`](crate::push_change)), and who is there where another second has begun.
     /// `participant` is that of the session, after the event. It lists nobody from its leave on: then no role has
-    /// changed, and of a source that the host dismissed no line says so.
+    /// changed, and of a source that the host forgot no line says so.
     ///
     /// # Errors
     ///

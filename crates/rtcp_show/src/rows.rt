@@ -4,7 +4,7 @@ ghost use Rattle.std.specs.Prelude.{◌≡◌, ◌++◌, ◌∷◌, [], List, On
 ghost use Rattle.std.specs.Fmt.{decimal};
 ghost use Rattle.rtcp_source.specs.Views.{last_block_value, reception_value};
 ghost use Rattle.rtcp_members.specs.ListViews.{state_value};
-ghost use Rattle.rtcp_members.specs.Told.{StateValue};
+ghost use Rattle.rtcp_members.specs.Listings.{StateValue};
 ghost use Rattle.rtcp_engine.specs.Histories.{History, life_at, setup_at};
 ghost use Rattle.rtcp_engine.specs.Lives.{WalksInLife, members_in_life, senders_in_life};
 ghost use Rattle.rtcp_engine.specs.States.{StandsAt};
@@ -100,7 +100,7 @@ pub fn push_flow(out: &mut Vec<u8>, state: &SourceState, flow: Flow) -> Result<(
 {
     push_tenths(out, b" loss=", flow.loss, b"%")?;
     push_interval(out, state.last_block)?;
-    push_tenths(out, b" pace=", flow.pace, b"/s")?;
+    push_tenths(out, b" pace=", flow.packet_rate, b"/s")?;
     push_origin(out, flow.rtp_peer, flow.rtcp_peer)
 }
 

@@ -2,7 +2,7 @@
 use Rattle.std.proofs.Common.{◌≡◌, ℕ, ◌+◌, ◌-◌, ◌%◌, ◌^◌, ◌<◌, unsigned_abs, List, rules}
 use Rattle.std.specs.Int.{cast_signed, w32}
 use Rattle.rtcp_source.specs.Packets.{Given, taken_in, run_of, newest, PacketRun}
-use Rattle.rtcp_source.specs.Summary.{summary_of, last_told, transit_distance}
+use Rattle.rtcp_source.specs.Summary.{summary_of, last_report_of, transit_distance}
 use Rattle.rtcp_source.specs.Blocks.{block_for, block_over}
 use Rattle.rtcp_source.specs.Receptions.{reception_in, reception_over}
 use Rattle.rtcp_source.specs.Steps.{taken_by}
@@ -27,7 +27,7 @@ summary_suffices-taken given seq = let run : PacketRun = run_of given in
 pub summary_suffices-block : (given : List Given) (ssrc t : ℕ) →
     block_for ssrc t (summary_of given) ≡ block_over ssrc t given
 summary_suffices-block given ssrc t = let run : PacketRun = run_of given in
-    same_block run.counted run.reported ssrc t (last_told given)
+    same_block run.counted run.reported ssrc t (last_report_of given)
 
 pub summary_suffices-reception : (given : List Given) → reception_in (summary_of given) ≡ reception_over given
 summary_suffices-reception given = let run : PacketRun = run_of given in same_reception run.counted run.reported

@@ -57,4 +57,4 @@ news_of_summary given = rw (news_of_numbers (run_of given).counted (run_of given
 
 pub since_block : (source : SourceValue) (news : Bool) → news ≡ news_of source.run → (given : List Given) →
     StandsAt source given → news ≡ has_news_since given
-since_block source news told given stands = rw (told, stands) (news_of_summary given)
+since_block source news last_report given stands = rw (last_report, stands) (news_of_summary given)

@@ -4,12 +4,12 @@ use Rattle.rtcp_source.specs.declared.taken.Taken.{Taken}
 use Rattle.rtcp_source.specs.declared.taken.Taken.TheVariants.{Probation, Counted, Became, Restarted, Bad}
 use Rattle.rtcp_source.specs.Packets.{Given, packet_came, block_made, CountedPacket, PacketRun, is_near, follows, newest, taken_in, run_with, transit_of, run_of, greatest_ordinal}
 use Rattle.rtcp_source.specs.LastBlocks.{LastBlockValue, last_block, said_of}
-use Rattle.rtcp_source.specs.Summary.{ToldValue, SourceValue, numbers_of, packet_count, last_told, summary_of, StandsAt}
+use Rattle.rtcp_source.specs.Summary.{LastReportValue, SourceValue, numbers_of, packet_count, last_report_of, summary_of, StandsAt}
 use Rattle.rtcp_source.specs.Steps.{taken_by, source_with, after_packet, run_reported, said_in, after_block_made}
 
 -- what is kept that no packet changes: the last sender report, and what the last block said
 abbrev Kept : Type 0
-Kept = Option ToldValue × Option LastBlockValue
+Kept = Option LastReportValue × Option LastBlockValue
 
 -- what is kept of a run, beside the count of packets
 abbrev summarised : (packets : ℕ) → Kept → PacketRun → SourceValue
@@ -18,7 +18,7 @@ summarised packets kept run =
       packets = packets;
       run = numbers_of run.counted run.reported;
       stray = newest run.strays;
-      told = kept.0;
+      last_report = kept.0;
       last_block = kept.1;
     }
 
@@ -74,7 +74,7 @@ pub packet_moves : (seq timestamp arrival octets rate : ℕ) (given : List Given
     ≡ after_packet seq timestamp arrival octets rate (summary_of given)
 packet_moves seq timestamp arrival octets rate given =
     let run : PacketRun = run_of given in
-    let kept : Kept = (last_told given, last_block given) in
+    let kept : Kept = (last_report_of given, last_block given) in
     rw (same_taking seq (packet_count given) kept run.counted run.reported run.strays)
     (moves seq (transit_of timestamp arrival) octets rate (packet_count given) kept run.counted run.reported run.strays)
 
@@ -96,7 +96,7 @@ block_moves given =
       packets = packet_count given;
       run = numbers;
       stray = newest run.strays;
-      told = last_told given;
+      last_report = last_report_of given;
       last_block = said;
     }) (same_numbers run.counted run.reported) (same_said run.counted run.reported)
 

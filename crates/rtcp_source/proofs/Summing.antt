@@ -3,7 +3,7 @@ use Rattle.std.proofs.Common.{◌≡◌, ℕ, List, [], ◌∷◌, Option, Some,
 use Rattle.rtcp_wire.specs.Values.{ReportBlock}
 use Rattle.rtcp_source.specs.Packets.{Given, CountedPacket, PacketRun, greatest_of, taken_as, run_of}
 use Rattle.rtcp_source.specs.LastBlocks.{said_of}
-use Rattle.rtcp_source.specs.Summary.{ToldValue, SourceValue, numbers_of, last_told, StandsAt}
+use Rattle.rtcp_source.specs.Summary.{LastReportValue, SourceValue, numbers_of, last_report_of, StandsAt}
 use Rattle.rtcp_source.specs.Blocks.{block_for, block_over, lsr_of, dlsr_of, block_of_packets, where_counted, block_of_run}
 use Rattle.rtcp_source.specs.Receptions.{reception_where, reception_of_run, figures_of, figures_in, said_by}
 use Rattle.rtcp_source.specs.Steps.{greatest_in}
@@ -13,11 +13,12 @@ pub same_taken : (counted before : List CountedPacket) (stray : Option ℕ) (seq
 same_taken [] before stray seq = refl
 same_taken (p ∷ earlier) before stray seq = refl
 
-pub same_block : (counted before : List CountedPacket) (ssrc t : ℕ) (told : Option ToldValue)
-    → option_map (block_of_run ssrc (lsr_of told) (dlsr_of told t)) (numbers_of counted before) ≡ where_counted counted
-    (block_of_packets ssrc (lsr_of told) (dlsr_of told t) counted before)
-same_block [] before ssrc t told = refl
-same_block (p ∷ earlier) before ssrc t told = refl
+pub same_block : (counted before : List CountedPacket) (ssrc t : ℕ) (last_report : Option LastReportValue)
+    → option_map (block_of_run ssrc (lsr_of last_report) (dlsr_of last_report t)) (numbers_of counted before)
+    ≡ where_counted counted
+    (block_of_packets ssrc (lsr_of last_report) (dlsr_of last_report t) counted before)
+same_block [] before ssrc t last_report = refl
+same_block (p ∷ earlier) before ssrc t last_report = refl
 
 -- a block made now says what is told of it later
 pub same_said : (counted before : List CountedPacket) (ssrc lsr dlsr : ℕ)
@@ -54,4 +55,4 @@ pub block_of_list : (source : SourceValue) (ssrc t : ℕ) (made : Option ReportB
     → (given : List Given) → StandsAt source given → made ≡ block_over ssrc t given
 block_of_list source ssrc t made by_numbers given stands =
     let run : PacketRun = run_of given in
-    rw (by_numbers, stands) (same_block run.counted run.reported ssrc t (last_told given))
+    rw (by_numbers, stands) (same_block run.counted run.reported ssrc t (last_report_of given))

@@ -5,7 +5,7 @@ use Rattle.rtcp_wire.specs.Values.{ReportBlock}
 use Rattle.rtcp_clock.specs.Moments.{short_seconds}
 use Rattle.rtcp_source.specs.Packets.{Given, CountedPacket, PacketRun, greatest_ordinal, run_of}
 use Rattle.rtcp_source.specs.LastBlocks.{expected_of, fraction_of, fraction_since, highest_of}
-use Rattle.rtcp_source.specs.Summary.{RunValue, ToldValue, SourceValue, jitter_of, last_told}
+use Rattle.rtcp_source.specs.Summary.{RunValue, LastReportValue, SourceValue, jitter_of, last_report_of}
 
 -- ---- The fields
 
@@ -18,14 +18,14 @@ abbrev pub middle_bits : ℕ → ℕ
 middle_bits ntp = ntp / 65536 % 2 ^ 32
 
 -- the middle 32 bits of the last sender report's NTP timestamp, or 0 if there was none
-abbrev pub lsr_of : Option ToldValue → ℕ
+abbrev pub lsr_of : Option LastReportValue → ℕ
 lsr_of None = 0
-lsr_of (Some told) = middle_bits told.ntp
+lsr_of (Some last_report) = middle_bits last_report.ntp
 
 -- the time since the last sender report, in 1/65,536 of a second, or 0 if there was none
-abbrev pub dlsr_of : Option ToldValue → (t : ℕ) → ℕ
+abbrev pub dlsr_of : Option LastReportValue → (t : ℕ) → ℕ
 dlsr_of None t = 0
-dlsr_of (Some told) t = short_seconds (t - told.moment)
+dlsr_of (Some last_report) t = short_seconds (t - last_report.moment)
 
 -- ---- The block, by the packets of the last run
 
@@ -51,8 +51,9 @@ where_counted (p ∷ earlier) block = Some block
 abbrev pub block_over : (ssrc t : ℕ) → List Given → Option ReportBlock
 block_over ssrc t given =
     let run : PacketRun = run_of given in
-    let told : Option ToldValue = last_told given in
-    where_counted run.counted (block_of_packets ssrc (lsr_of told) (dlsr_of told t) run.counted run.reported)
+    let last_report : Option LastReportValue = last_report_of given in
+    where_counted run.counted (block_of_packets ssrc (lsr_of last_report) (dlsr_of last_report t) run.counted
+    run.reported)
 
 -- ---- The block, by what is kept
 
@@ -81,4 +82,4 @@ news_of (Some run) = nat_lt run.received_before run.received
 -- The block of a source `ssrc` at the moment `t`, if some packet of it was counted.
 abbrev pub block_for : (ssrc t : ℕ) → SourceValue → Option ReportBlock
 block_for ssrc t source =
-    option_map (block_of_run ssrc (lsr_of source.told) (dlsr_of source.told t)) source.run
+    option_map (block_of_run ssrc (lsr_of source.last_report) (dlsr_of source.last_report t)) source.run

@@ -9,7 +9,7 @@ use Rattle.rtcp_source.specs.Blocks.{expected_in}
 
 -- a source that was given nothing
 abbrev pub no_source : SourceValue
-no_source = record { packets = 0; run = None; stray = None; told = None; last_block = None }
+no_source = record { packets = 0; run = None; stray = None; last_report = None; last_block = None }
 
 abbrev pub greatest_in : Option RunValue → Option ℕ
 greatest_in None = None
@@ -65,9 +65,9 @@ abbrev pub after_packet : (seq timestamp arrival octets rate : ℕ) → SourceVa
 after_packet seq timestamp arrival octets rate source =
     source_with (taken_by source seq) seq (transit_of timestamp arrival) octets rate source
 
-abbrev pub after_told : (ntp rtp moment : ℕ) → SourceValue → SourceValue
-after_told ntp rtp moment source =
-    record source { told = Some (record { ntp = ntp; rtp = rtp; moment = moment }) }
+abbrev pub after_report_came : (ntp rtp moment : ℕ) → SourceValue → SourceValue
+after_report_came ntp rtp moment source =
+    record source { last_report = Some (record { ntp = ntp; rtp = rtp; moment = moment }) }
 
 abbrev pub run_reported : Option RunValue → Option RunValue
 run_reported None = None

@@ -22,7 +22,7 @@ pub record RunValue : Type 0 where
   pub octets : ℕ
 
 -- The last sender report: its NTP timestamp, its RTP timestamp, and the moment at which it came.
-pub record ToldValue : Type 0 where
+pub record LastReportValue : Type 0 where
   pub ntp : ℕ
   pub rtp : ℕ
   pub moment : ℕ
@@ -34,7 +34,7 @@ pub record SourceValue : Type 0 where
   pub run : Option RunValue
   -- the number of the last stray since it started, if there is one
   pub stray : Option ℕ
-  pub told : Option ToldValue
+  pub last_report : Option LastReportValue
   -- what the last block said
   pub last_block : Option LastBlockValue
 
@@ -114,11 +114,11 @@ packet_count (packet_came seq timestamp arrival octets rate ∷ given) = packet_
 packet_count (report_came ntp rtp moment ∷ given) = packet_count given
 packet_count (block_made ∷ given) = packet_count given
 
-abbrev pub last_told : List Given → Option ToldValue
-last_told [] = None
-last_told (packet_came seq timestamp arrival octets rate ∷ given) = last_told given
-last_told (report_came ntp rtp moment ∷ given) = Some (record { ntp = ntp; rtp = rtp; moment = moment })
-last_told (block_made ∷ given) = last_told given
+abbrev pub last_report_of : List Given → Option LastReportValue
+last_report_of [] = None
+last_report_of (packet_came seq timestamp arrival octets rate ∷ given) = last_report_of given
+last_report_of (report_came ntp rtp moment ∷ given) = Some (record { ntp = ntp; rtp = rtp; moment = moment })
+last_report_of (block_made ∷ given) = last_report_of given
 
 abbrev pub summary_of : List Given → SourceValue
 summary_of given =
@@ -127,7 +127,7 @@ summary_of given =
       packets = packet_count given;
       run = numbers_of run.counted run.reported;
       stray = newest run.strays;
-      told = last_told given;
+      last_report = last_report_of given;
       last_block = last_block given;
     }
 

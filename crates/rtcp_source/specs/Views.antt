@@ -5,7 +5,7 @@ use Rattle.rtcp_source.specs.declared.reception.LastReport.{LastReport}
 use Rattle.rtcp_source.specs.declared.reception.LastBlock.{LastBlock}
 use Rattle.rtcp_source.specs.declared.reception.Reception.{Reception}
 use Rattle.rtcp_source.specs.LastBlocks.{LastBlockValue}
-use Rattle.rtcp_source.specs.Summary.{RunValue, ToldValue}
+use Rattle.rtcp_source.specs.Summary.{RunValue, LastReportValue}
 use Rattle.rtcp_source.specs.Receptions.{ReceptionValue}
 
 abbrev pub run_value : Run → RunValue
@@ -40,8 +40,8 @@ run_kept seq greatest received expected_before received_before transit rate jitt
       octets = octets;
     })
 
-abbrev pub told_value : LastReport → ToldValue
-told_value t = record { ntp = t.ntp; rtp = t.rtp; moment = t.moment }
+abbrev pub last_report_value : LastReport → LastReportValue
+last_report_value t = record { ntp = t.ntp; rtp = t.rtp; moment = t.moment }
 
 abbrev pub reception_value : Reception → ReceptionValue
 reception_value r =

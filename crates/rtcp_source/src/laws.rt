@@ -9,8 +9,8 @@ ghost use Rattle.rtcp_source.specs.Integers.{IsIntegerNear, HasIntegerNear, HasO
 ghost use Rattle.rtcp_source.specs.LastBlocks.{last_block};
 ghost use Rattle.rtcp_source.specs.Blocks.{block_for, block_over, lsr_of, dlsr_of, news_of};
 ghost use Rattle.rtcp_source.specs.Receptions.{reception_in, reception_over, figures_of, figures_in, said_by};
-ghost use Rattle.rtcp_source.specs.Steps.{no_source, taken_by, after_packet, after_told, after_block_made};
-ghost use Rattle.rtcp_source.specs.Summary.{summary_of, last_told, transit_distance, HasOneRate, interarrival_jitter, jitter_of, since_change};
+ghost use Rattle.rtcp_source.specs.Steps.{no_source, taken_by, after_packet, after_report_came, after_block_made};
+ghost use Rattle.rtcp_source.specs.Summary.{summary_of, last_report_of, transit_distance, HasOneRate, interarrival_jitter, jitter_of, since_change};
 
 /// What is kept of a source gives the same results as the list of all that it was given: what a packet is,
 /// whether there is news, how its packets are received, and the report block.
@@ -35,8 +35,8 @@ pub fn reception_is_that_of_blocks()
 /// it; and no block changes that (RFC 3550, 6.4.1).
 pub fn last_report_is_that_of_blocks()
     ensures clock { (ssrc t : ℕ) (given : List Given) (block : ReportBlock) → block_over ssrc t given ≡ Some block →
-        (block.lsr ≡ lsr_of (last_told given)) × (block.dlsr ≡ dlsr_of (last_told given) t) }
-    ensures kept { (given : List Given) → last_told (block_made ∷ given) ≡ last_told given }
+        (block.lsr ≡ lsr_of (last_report_of given)) × (block.dlsr ≡ dlsr_of (last_report_of given) t) }
+    ensures kept { (given : List Given) → last_report_of (block_made ∷ given) ≡ last_report_of given }
 {}
 
 /// What is told of a source's last report block is what that block said, until the next one is made.
@@ -56,7 +56,7 @@ pub fn summary_moves()
         summary_of (packet_came seq timestamp arrival octets rate ∷ given)
         ≡ after_packet seq timestamp arrival octets rate (summary_of given) }
     ensures report { (ntp rtp moment : ℕ) (given : List Given) →
-        summary_of (report_came ntp rtp moment ∷ given) ≡ after_told ntp rtp moment (summary_of given) }
+        summary_of (report_came ntp rtp moment ∷ given) ≡ after_report_came ntp rtp moment (summary_of given) }
     ensures block { (given : List Given) →
         summary_of (block_made ∷ given) ≡ after_block_made (summary_of given) }
 {}

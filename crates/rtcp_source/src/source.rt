@@ -4,13 +4,13 @@ ghost use Rattle.std.specs.Prelude.{◌≡◌, ◌∷◌, [], ◌<◌, ◌≤◌
 ghost use Rattle.rtcp_wire.specs.Views.{block_value};
 ghost use Rattle.rtcp_wire.specs.Writing.{IsWritableBlock};
 ghost use Rattle.rtcp_source.specs.Packets.{Given, packet_came, report_came, block_made, taken_in, run_of, has_news_since};
-ghost use Rattle.rtcp_source.specs.Summary.{StandsAt, StandsWith, last_told};
+ghost use Rattle.rtcp_source.specs.Summary.{StandsAt, StandsWith, last_report_of};
 ghost use Rattle.rtcp_source.specs.Bounds.{IsRunBounded};
 ghost use Rattle.rtcp_source.specs.Blocks.{block_for, block_over, news_of, middle_bits};
 ghost use Rattle.rtcp_source.specs.Receptions.{reception_in, reception_over};
-ghost use Rattle.rtcp_source.specs.Views.{run_value, told_value, reception_value, last_block_value};
+ghost use Rattle.rtcp_source.specs.Views.{run_value, last_report_value, reception_value, last_block_value};
 ghost use Rattle.rtcp_source.specs.LastBlocks.{last_block};
-ghost use Rattle.rtcp_source.specs.Steps.{no_source, taken_by, after_packet, after_told, after_block_made};
+ghost use Rattle.rtcp_source.specs.Steps.{no_source, taken_by, after_packet, after_report_came, after_block_made};
 
 use crate::reception::{LastBlock, LastReport, Reception};
 use crate::run::Run;
@@ -37,7 +37,7 @@ pub struct Source {
     jitter: u64,
     octets: u64,
     ntp: u64,
-    told_at: u64,
+    reported_at: u64,
     transit: u32,
     rate: u32,
     rtp: u32,
@@ -48,8 +48,8 @@ pub struct Source {
     fraction: u8,
     /// Whether there was a stray since the last run started, or at all if none was.
     has_stray: bool,
-    /// Whether a sender report came: `ntp` and `rtp` are its timestamps, `told_at` the moment of the last one.
-    has_told: bool,
+    /// Whether a sender report came: `ntp` and `rtp` are its timestamps, `reported_at` the moment of the last one.
+    has_report: bool,
     /// Whether a block was made: `fraction` and `highest` are those of the last one.
     has_block: bool,
 }
@@ -67,7 +67,7 @@ impl Model for Source {
       run = run_kept s.first s.greatest s.received s.expected_before s.received_before s.transit s.rate s.jitter
           s.octets;
       stray = if s.has_stray then Some s.stray else None;
-      told = if s.has_told then Some (record { ntp = s.ntp; rtp = s.rtp; moment = s.told_at }) else None;
+      last_report = if s.has_report then Some (record { ntp = s.ntp; rtp = s.rtp; moment = s.reported_at }) else None;
       last_block = if s.has_block then Some (record { fraction = s.fraction; highest = s.highest }) else None;
     } };
 
@@ -91,7 +91,7 @@ impl Source {
             jitter: 0,
             octets: 0,
             ntp: 0,
-            told_at: 0,
+            reported_at: 0,
             transit: 0,
             rate: 0,
             rtp: 0,
@@ -100,7 +100,7 @@ impl Source {
             stray: 0,
             fraction: 0,
             has_stray: false,
-            has_told: false,
+            has_report: false,
             has_block: false,
         }
     }
@@ -146,13 +146,13 @@ impl Source {
     /// microseconds (6.4.1). Until another one comes, blocks hold its LSR and the time since, after a restart
     /// too.
     pub fn saw_sr(&mut self, ntp: u64, rtp: u32, t: u64)
-        ensures step { self.new ≡ after_told ntp rtp t self.old }
+        ensures step { self.new ≡ after_report_came ntp rtp t self.old }
         ensures stands { StandsWith self.old self.new (report_came ntp rtp t) }
     {
         self.ntp = ntp;
         self.rtp = rtp;
-        self.told_at = t;
-        self.has_told = true;
+        self.reported_at = t;
+        self.has_report = true;
     }
 
     /// Makes the reception report block of the source, `ssrc`, at the moment `t`, in microseconds (6.4.1,
@@ -170,9 +170,9 @@ impl Source {
         ensures writable { IsWritableBlock (block_value result) }
     {
         let (lsr, dlsr) = match self.last_report() {
-            Some(told) => (
-                middle_bits(told.ntp),
-                short_delay(t.saturating_sub(told.moment)),
+            Some(last_report) => (
+                middle_bits(last_report.ntp),
+                short_delay(t.saturating_sub(last_report.moment)),
             ),
             None => (0, 0),
         };
@@ -208,17 +208,17 @@ impl Source {
 
     /// The last sender report of the source, if one came.
     pub fn last_report(&self) -> Option<LastReport>
-        ensures told { option_map told_value result ≡ self.now.told }
+        ensures last_report { option_map last_report_value result ≡ self.now.last_report }
         ensures of_list { (given : List Given) → StandsAt self.now given →
-            option_map told_value result ≡ last_told given }
+            option_map last_report_value result ≡ last_report_of given }
     {
-        if !self.has_told {
+        if !self.has_report {
             return None;
         }
         Some(LastReport {
             ntp: self.ntp,
             rtp: self.rtp,
-            moment: self.told_at,
+            moment: self.reported_at,
         })
     }
 

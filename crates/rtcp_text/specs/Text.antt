@@ -43,9 +43,9 @@ sender_text s =
     ++ decimal s.packets ++ codes "," ++ decimal s.octets
 
 -- a text as =hex, where there is one
-abbrev pub goodbye_reason_text : Option (List ℕ) → List ℕ
-goodbye_reason_text None = codes "-"
-goodbye_reason_text (Some text) = codes "=" ++ encode_lower text
+abbrev pub bye_reason_text : Option (List ℕ) → List ℕ
+bye_reason_text None = codes "-"
+bye_reason_text (Some text) = codes "=" ++ encode_lower text
 
 -- type=text
 abbrev pub item_text : ItemValue → List ℕ
@@ -62,7 +62,7 @@ packet_text (rr ssrc blocks extension) =
     codes "RR(" ++ hex_word ssrc ++ codes "," ++ report_end_text blocks extension ++ codes ")"
 packet_text (sdes chunks) = codes "SDES([" ++ semicolons (map chunk_text chunks) ++ codes "])"
 packet_text (bye ids reason) =
-    codes "BYE([" ++ semicolons (map hex_word ids) ++ codes "]," ++ goodbye_reason_text reason ++ codes ")"
+    codes "BYE([" ++ semicolons (map hex_word ids) ++ codes "]," ++ bye_reason_text reason ++ codes ")"
 packet_text (app subtype ssrc name content) =
     codes "APP(" ++ decimal subtype ++ codes "," ++ hex_word ssrc ++ codes ","
     ++ encode_lower name ++ codes "," ++ decimal (length content) ++ codes ")"

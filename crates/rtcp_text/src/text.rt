@@ -12,10 +12,10 @@ ghost use Rattle.rtcp_text.specs.Check.{IsAnswerBy};
 ghost use Rattle.rtcp_text.specs.Text.{packet_text, accepted_text, reason_text, fault_text, fault_words};
 
 mod answers;
+mod byes;
 mod descriptions;
 pub mod digits;
 mod events;
-mod goodbyes;
 mod joined;
 mod others;
 mod reports;
@@ -24,10 +24,10 @@ mod tail;
 
 use crate::showing::Showing;
 pub use answers::{push_refusal, push_reply, push_start};
+use byes::push_bye;
 use descriptions::push_description;
 use digits::push_decimal;
 pub use events::push_event;
-use goodbyes::push_goodbye;
 use others::{push_application, push_other};
 use reports::{push_receiver_report, push_sender_report};
 use rtcp_wire::{Compound, FaultReason, PacketView, WireFault};
@@ -69,7 +69,7 @@ pub fn push_packet(out: &mut Vec<u8>, packet: &PacketView<'_>) -> Result<(), All
         PacketView::Sr(report) => push_sender_report(out, report),
         PacketView::Rr(report) => push_receiver_report(out, report),
         PacketView::Sdes(description) => push_description(out, description),
-        PacketView::Bye(goodbye) => push_goodbye(out, goodbye),
+        PacketView::Bye(goodbye) => push_bye(out, goodbye),
         PacketView::App(packet) => push_application(out, packet),
         PacketView::Other(packet) => push_other(out, packet),
     }

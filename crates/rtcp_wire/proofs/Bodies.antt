@@ -47,7 +47,7 @@ same_report i j count bs cs x y body h k =
     let extension : x ≡ y = ends.1 in
     cc
 
--- ---- Goodbyes
+-- ---- BYEs
 
 -- The length octet says where the text ends.
 same_reason : (text other_text octets : List ℕ) → IsReason text octets → IsReason other_text octets → text ≡ other_text
@@ -64,7 +64,7 @@ same_reason_part None (Some text) octets h k = absurd (cons_not_nil (length text
 same_reason_part (Some text) None octets h k = absurd (cons_not_nil (length text) (text ++ h.free) (sym h.parts ∙ k))
 same_reason_part (Some text) (Some other_text) octets h k = ap Some (same_reason text other_text octets h k)
 
--- Under a count a body says one goodbye.
+-- Under a count a body says one BYE.
 same_goodbye : (count : ℕ) (is js : List ℕ) (r q : Option (List ℕ)) (body : List ℕ) → IsGoodbye is r count body →
     IsGoodbye js q count body → bye is r ≡ bye js q
 same_goodbye count is js r q body h k =

@@ -23,7 +23,7 @@ reason_or_not (Some said) (size ∷ text) h bad =
     let sum : length text ≡ length said + length h.free = length_parts text said h.free parts.1 in
     elim bad [ inl few ↦ omega (arith, few, sum, parts.0) | inr more ↦ omega (arith, more, sum, parts.0, h.fill) ]
 
--- what follows the identifiers of a goodbye
+-- what follows the identifiers of a BYE
 pub after_ids : (ids : List ℕ) (reason : Option (List ℕ)) (count : ℕ) (body : List ℕ)
     (h : IsGoodbye ids reason count body) → drop (4 * count) body ≡ h.rest
 after_ids ids reason count body h =

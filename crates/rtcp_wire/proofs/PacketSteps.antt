@@ -20,7 +20,7 @@ pub some_room : (own kind count : ℕ) (body : List ℕ) → kind ≡ own → Is
 some_room own kind count body is h = subst (λ (k : ℕ). least_size k count ≤ length body) is
     (body_room h.0 kind count body h.1)
 
--- An accepted goodbye has a reason or nothing after its identifiers.
+-- An accepted BYE has a reason or nothing after its identifiers.
 pub some_reason : (kind count : ℕ) (body : List ℕ) → kind ≡ 203 → IsSomeBody kind count body →
     IsSomeReason (drop (4 * count) body)
 some_reason kind count body is h = ends h.0 h.1

@@ -1,4 +1,4 @@
--- What packets that can be written hold: their items, goodbyes and blocks can be written too.
+-- What packets that can be written hold: their items, BYEs and blocks can be written too.
 use Rattle.std.proofs.Common.{List, [], ◌∷◌, ℕ, All, Option}
 use Rattle.std.specs.List.{flat_map}
 use Rattle.std.proofs.lemmas.List.Elements.{All-nil, All-append, All-head, All-tail, All-map}
@@ -33,7 +33,7 @@ packet_items_fit (other kind count body) can = All-nil ItemFits
 pub items_fit : (ps : List RtcpPacket) → All IsWritable ps → All (λ item. IsWritableItem item.1) (all_items ps)
 items_fit = all_flat packet_items IsWritable ItemFits packet_items_fit
 
--- ---- Goodbyes
+-- ---- BYEs
 
 abbrev ReasonFits : ℕ × Option (List ℕ) → Type 0
 ReasonFits goodbye = IsWritableReason goodbye.1

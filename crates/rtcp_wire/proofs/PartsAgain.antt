@@ -136,7 +136,7 @@ module _ (chunk : ChunkValue) (octets : List ℕ) (all : AreOctets octets) (h : 
   pub chunk_in_range : IsChunkInRange chunk
   chunk_in_range = id_in_range chunk.id h.id chunk_octets.0 (h.id_size, h.source)
 
--- ---- Goodbyes
+-- ---- BYEs
 
 pub reason_writable : (reason : Option (List ℕ)) (octets : List ℕ) → AreOctets octets → IsReasonPart reason octets →
     IsWritableReason reason

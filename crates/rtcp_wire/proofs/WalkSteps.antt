@@ -55,7 +55,7 @@ own_ids count octets room =
     let counted : length (take (4 * count) octets) / 4 ≡ count = omega (arith, size) in
     ap (λ (n : ℕ). ids_in n (take (4 * count) octets)) counted ∙ own_values 4 count (big_number 4) octets room
 
--- The identifiers of an RTP packet's sources are read as those of a goodbye are.
+-- The identifiers of an RTP packet's sources are read as those of a BYE are.
 pub csrcs_are_ids : (octets : List ℕ) → csrcs_in octets ≡ id_values octets
 csrcs_are_ids [] = refl
 csrcs_are_ids (a ∷ []) = refl

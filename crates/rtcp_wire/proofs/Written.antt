@@ -149,7 +149,7 @@ chunk_written chunk is =
       aligned = chunk_words chunk;
     }
 
--- ---- Goodbyes
+-- ---- BYEs
 
 -- A reason is whole words.
 pub reason_words : (reason : Option (List ℕ)) → length (written_reason reason) % 4 ≡ 0

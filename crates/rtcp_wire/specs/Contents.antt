@@ -1,5 +1,5 @@
 -- What the packets of a compound hold, each part once and in order (RFC 3550, 6.4 to 6.7): senders, report blocks,
--- SDES items, goodbyes and packets of applications.
+-- SDES items, BYEs and packets of applications.
 use Rattle.std.specs.Prelude.{ℕ, List, [], ◌∷◌, Option, map, flat_map}
 use Rattle.rtcp_wire.specs.Values.{SenderValue, ReportBlock, ItemValue, ChunkValue, AppValue, RtcpPacket, sr, rr, sdes, bye, app, other}
 
@@ -56,9 +56,9 @@ packet_items (other kind count body) = []
 abbrev pub all_items : List RtcpPacket → List (ℕ × ItemValue)
 all_items packets = flat_map packet_items packets
 
--- ---- Goodbyes
+-- ---- BYEs
 
--- the sources that one goodbye names, each with its reason
+-- the sources that one BYE names, each with its reason
 abbrev pub goodbyes_by : (reason : Option (List ℕ)) → (ids : List ℕ) → List (ℕ × Option (List ℕ))
 goodbyes_by reason ids = map (λ id. (id, reason)) ids
 
@@ -70,7 +70,7 @@ packet_goodbyes (bye ids reason) = goodbyes_by reason ids
 packet_goodbyes (app subtype source name content) = []
 packet_goodbyes (other kind count body) = []
 
--- the sources that all goodbyes name
+-- the sources that all BYEs name
 abbrev pub all_goodbyes : List RtcpPacket → List (ℕ × Option (List ℕ))
 all_goodbyes packets = flat_map packet_goodbyes packets
 

@@ -15,7 +15,7 @@ fact_if_any (Some fact) = fact ∷ []
 abbrev pub name_in : ChunkValue → List Fact
 name_in chunk = if list_any is_cname chunk.items then Named chunk.id ∷ [] else []
 
--- a fact, the facts of chunks, of a goodbye's sources, and of packets
+-- a fact, the facts of chunks, of a BYE's sources, and of packets
 abbrev pub facts_left : Option Fact → List ChunkValue → (gone : List ℕ) → List RtcpPacket → List Fact
 facts_left first chunks gone packets =
     fact_if_any first ++ (flat_map facts_of_chunk chunks ++ (map Gone gone ++ facts_of packets))

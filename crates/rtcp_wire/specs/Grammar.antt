@@ -128,12 +128,12 @@ pub record IsReason (text octets : List ℕ) : Type 0 where
   pub fill : length free < 4
   pub aligned : length octets % 4 ≡ 0
 
--- what follows the identifiers of a goodbye (6.6): a reason, or nothing
+-- what follows the identifiers of a BYE (6.6): a reason, or nothing
 abbrev pub IsReasonPart : Option (List ℕ) → List ℕ → Type 0
 IsReasonPart None octets = octets ≡ []
 IsReasonPart (Some text) octets = IsReason text octets
 
--- A goodbye (6.6): as many identifiers as the count says, and perhaps a reason.
+-- A BYE (6.6): as many identifiers as the count says, and perhaps a reason.
 pub record IsGoodbye (ids : List ℕ) (reason : Option (List ℕ)) (count : ℕ) (body : List ℕ) : Type 0 where
   pub prefix : List ℕ
   pub rest : List ℕ

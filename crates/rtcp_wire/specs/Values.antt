@@ -43,7 +43,7 @@ pub data RtcpPacket : Type 0 where
   rr : (ssrc : ℕ) (blocks : List ReportBlock) (extension : List ℕ) → RtcpPacket
   -- a source description (6.5)
   sdes : (chunks : List ChunkValue) → RtcpPacket
-  -- a goodbye (6.6): the sources that leave, and the octets of the text that says why
+  -- a BYE (6.6): the sources that leave, and the octets of the text that says why
   bye : (ids : List ℕ) (reason : Option (List ℕ)) → RtcpPacket
   -- a packet that an application defines (6.7): its subtype, its source, its name of four octets, its data
   app : (subtype ssrc : ℕ) (name content : List ℕ) → RtcpPacket

@@ -1,4 +1,4 @@
-//! Goodbyes (RFC 3550, 6.6).
+//! BYEs (RFC 3550, 6.6).
 
 ghost use Rattle.std.specs.Prelude.{◌≡◌, ◌≤◌, ◌*◌, length, take, drop, option_copied};
 ghost use Rattle.rtcp_wire.specs.Validity.{IsSomeReason};
@@ -8,7 +8,7 @@ ghost use Rattle.rtcp_wire.specs.Walks.{ids_in, reason_in};
 use crate::ids::Ids;
 use crate::layout::ID_SIZE;
 
-/// A goodbye: sources leave the session (RFC 3550, 6.6).
+/// A BYE: sources leave the session (RFC 3550, 6.6).
 ///
 /// ```text
 /// +-+-+-+-+-+-+-+-+-+-+-+-+-+-+-+-+-+-+-+-+-+-+-+-+-+-+-+-+-+-+-+-+
@@ -36,7 +36,7 @@ impl<'a> Goodbye<'a> {
     }
 }
 
-/// The goodbye whose body this is, under a header that counts `count` identifiers.
+/// The BYE whose body this is, under a header that counts `count` identifiers.
 pub(crate) fn goodbye_from(count: u8, body: &[u8]) -> Goodbye<'_>
     requires ids { 4 * count ≤ length body.now }
     requires reason { IsSomeReason (drop (4 * count) body.now) }

@@ -14,7 +14,7 @@ pub use remaining::Facts;
 /// - A receiver report, and a packet that an application defines: their source was heard.
 /// - A source description, for each chunk: its source was heard, and gave its CNAME if the chunk has one or
 ///   more.
-/// - A goodbye, for each identifier: the source left.
+/// - A BYE, for each identifier: the source left.
 ///
 /// Report blocks and packets of other types give no facts.
 pub fn facts<'a>(compound: &Compound<'a>) -> Facts<'a>

@@ -24,7 +24,7 @@ pub(crate) const RECEIVER_REPORT: u8 = 201;
 /// The type of a source description (RFC 3550, 6.5).
 pub(crate) const SOURCE_DESCRIPTION: u8 = 202;
 
-/// The type of a goodbye (RFC 3550, 6.6).
+/// The type of a BYE (RFC 3550, 6.6).
 pub(crate) const GOODBYE: u8 = 203;
 
 /// The type of a packet that an application defines (RFC 3550, 6.7).

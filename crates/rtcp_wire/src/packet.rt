@@ -22,7 +22,7 @@ pub enum PacketView<'a> {
     Rr(ReceiverReport<'a>),
     /// A source description, type 202 (RFC 3550, 6.5).
     Sdes(SourceDescription<'a>),
-    /// A goodbye, type 203 (RFC 3550, 6.6).
+    /// A BYE, type 203 (RFC 3550, 6.6).
     Bye(Goodbye<'a>),
     /// A packet that an application defines, type 204 (RFC 3550, 6.7).
     App(Application<'a>),

@@ -95,7 +95,7 @@ fn fewest_octets(kind: u8, count: u8) -> usize
     }
 }
 
-/// Tests what follows the identifiers of a goodbye, whole words: a reason, or nothing. The octets after the
+/// Tests what follows the identifiers of a BYE, whole words: a reason, or nothing. The octets after the
 /// text, up to the end of its last word, are not checked (RFC 3550, 6.6).
 fn check_reason(octets: &[u8]) -> Result<(), FaultReason>
     ensures { MatchResult result

@@ -144,7 +144,7 @@ static FAULTS: [(&[u8], FaultReason, usize); 17] = [
         FaultReason::Body,
         0,
     ),
-    // A goodbye has each identifier that it counts.
+    // A BYE has each identifier that it counts.
     (
         &[
             0x80, 0xc9, 0, 1, 0, 0, 0, 7, // a receiver report of source 7

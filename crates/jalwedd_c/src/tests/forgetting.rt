@@ -23,7 +23,7 @@ const WITH_BOTH: HostStep = HostStep {
     ..WITH_ONE
 };
 
-/// One of two has said goodbye.
+/// One of two has sent a BYE.
 const WITHOUT_SEVEN: HostStep = HostStep {
     members: 2,
     ..WITH_BOTH
@@ -47,7 +47,7 @@ const UNCHANGED: Row<'static> = Row {
     ..ROW
 };
 
-/// HostSource 7 is forgotten, and comes again. Once it has said goodbye its entry stays.
+/// HostSource 7 is forgotten, and comes again. Once it has sent a BYE its entry stays.
 const FORGETTING: &[Row<'static>] = &[
     BEGINS,
     Row {

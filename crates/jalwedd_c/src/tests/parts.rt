@@ -11,7 +11,7 @@ use crate::walks::{
 use std::process::Abort;
 
 /// A sender report of 9, with a block about 0xaa; a receiver report of 7, with one about 0xbb; chunks of 5, with no
-/// items, and of 9; and three goodbyes.
+/// items, and of 9; and three BYEs.
 const ALL_PARTS: [u8; 144] = [
     0x81, 0xc8, 0, 12, 0, 0, 0, 9, 0xb7, 0x10, 0x80, 0, 0, 0, 0, 5, 0, 0, 0x23, 0xf8, 0, 0, 0, 2,
     0, 0, 1, 0x40, // of 9: NTP and RTP timestamps, packets, octets

@@ -35,7 +35,7 @@ record Identifiers : Type 0 where
   changes : answers_to start (report_came 0 7 187 170 ∷ report_came 0 7 187 170 ∷ report_came 0 7 204 187
       ∷ report_came 0 8 170 187 ∷ [])
       ≡ changes_to 1 0 1 1026037 187 ∷ ok 1 0 1 1026037 ∷ Err OwnSsrc ∷ changes_to 1 0 2 1026037 171 ∷ []
-  -- After a report the old identifier says goodbye, and the next report is under the new one.
+  -- After a report the old identifier sends a BYE, and the next report is under the new one.
   after_a_report : answers_to start (ticked 1026037 0 0 ∷ own_report_came 1026037 7 187 ∷ ticked 3078111 0 0 ∷ [])
       ≡ sends 1 0 0 3078111 empty_report ∷ moved (says_bye 2 0 1 3078111 187 bye_of_170) ∷ sends 2 0 1 5130185
       empty_report_of_187 ∷ []

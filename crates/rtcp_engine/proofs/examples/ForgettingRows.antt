@@ -6,10 +6,10 @@ use Rattle.rtcp_engine.specs.Acts.{Act, rtcp, arrived, ticked, forgotten}
 use Rattle.rtcp_engine.specs.Answers.{answers_to}
 use Rattle.rtcp_engine.proofs.examples.Rows.{start, named_came, ok, moved, sends, empty_report}
 
-abbrev goodbye_came : (moment ssrc : ℕ) → Act
-goodbye_came moment ssrc = arrived moment 1 0 (rtcp 16 (Ok (rr ssrc [] [] ∷ bye (ssrc ∷ []) None ∷ [])))
+abbrev bye_came : (moment ssrc : ℕ) → Act
+bye_came moment ssrc = arrived moment 1 0 (rtcp 16 (Ok (rr ssrc [] [] ∷ bye (ssrc ∷ []) None ∷ [])))
 
-record Dismissals : Type 0 where
+record Forgets : Type 0 where
   -- A member is one no more, and its place is free. Named again, it is new.
   one_gone : answers_to start (named_came 0 9 ∷ forgotten 500000 9 ∷ named_came 600000 9 ∷ [])
       ≡ moved (ok 2 0 1 1026037) ∷ moved (ok 1 0 0 1026037) ∷ moved (ok 2 0 1 1026037) ∷ []
@@ -19,13 +19,13 @@ record Dismissals : Type 0 where
   -- Nothing happens where there is no such source, or the participant itself is meant,
   nobody_gone : answers_to start (named_came 0 9 ∷ forgotten 500000 8 ∷ forgotten 500000 170 ∷ [])
       ≡ moved (ok 2 0 1 1026037) ∷ ok 2 0 1 1026037 ∷ ok 2 0 1 1026037 ∷ []
-  -- and where the source said goodbye: its entry is held, so that a late packet does not bring it back.
-  gone_already : answers_to start (named_came 0 9 ∷ goodbye_came 100000 9 ∷ forgotten 500000 9
+  -- and where the source sent a BYE: its entry is held, so that a late packet does not bring it back.
+  gone_already : answers_to start (named_came 0 9 ∷ bye_came 100000 9 ∷ forgotten 500000 9
       ∷ named_came 600000 9 ∷ [])
       ≡ moved (ok 2 0 1 1026037) ∷ moved (ok 1 0 1 1026037) ∷ ok 1 0 1 1026037 ∷ ok 1 0 1 1026037 ∷ []
   -- It is refused as any other call.
   refused : answers_to start (named_came 500000 9 ∷ forgotten 400000 9 ∷ [])
       ≡ moved (ok 2 0 1 1026037) ∷ Err Backwards ∷ []
 
-dismissals : Dismissals
-dismissals = search
+forgets : Forgets
+forgets = search

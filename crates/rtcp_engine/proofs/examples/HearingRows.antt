@@ -6,8 +6,8 @@ use Rattle.rtcp_engine.specs.Hearing.{is_member_at, with_acts}
 use Rattle.rtcp_engine.specs.Histories.{History, with_act}
 use Rattle.rtcp_engine.proofs.examples.Rows.{items_a, named_came, setup, start, start_of}
 
-abbrev goodbye_came : (moment ssrc : ℕ) → Act
-goodbye_came moment ssrc = arrived moment 1 0 (rtcp 16 (Ok (rr ssrc [] [] ∷ bye (ssrc ∷ []) None ∷ [])))
+abbrev bye_came : (moment ssrc : ℕ) → Act
+bye_came moment ssrc = arrived moment 1 0 (rtcp 16 (Ok (rr ssrc [] [] ∷ bye (ssrc ∷ []) None ∷ [])))
 
 abbrev heard : History
 heard = with_act start (named_came 1 7)
@@ -31,9 +31,9 @@ record Members : Type 0 where
   heard_within_five_intervals : is_member_at 7 (with_acts (ticked 12500001 0 0 ∷ []) heard) ≡ true
   silent_for_longer : is_member_at 7 (with_acts (ticked 12500002 0 0 ∷ []) heard) ≡ false
   heard_again_in_between : is_member_at 7 (with_acts (ticked 12500002 0 0 ∷ named_came 2 7 ∷ []) heard) ≡ true
-  said_goodbye : is_member_at 7 (with_act heard (goodbye_came 2 7)) ≡ false
-  another_said_goodbye : is_member_at 7 (with_act heard (goodbye_came 2 9)) ≡ true
-  named_with_a_mark : is_member_at 7 (with_acts (named_came 3 7 ∷ goodbye_came 2 7 ∷ []) heard) ≡ false
+  said_bye : is_member_at 7 (with_act heard (bye_came 2 7)) ≡ false
+  another_said_bye : is_member_at 7 (with_act heard (bye_came 2 9)) ≡ true
+  named_with_a_mark : is_member_at 7 (with_acts (named_came 3 7 ∷ bye_came 2 7 ∷ []) heard) ≡ false
   forgotten_by_the_host : is_member_at 7 (with_act heard (forgotten 2 7)) ≡ false
   another_forgotten : is_member_at 7 (with_act heard (forgotten 2 9)) ≡ true
 

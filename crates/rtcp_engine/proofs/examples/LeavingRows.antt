@@ -18,7 +18,7 @@ says_bye = Ok (step_with (Some
 
 record Leaves : Type 0 where
   -- One that sent nothing leaves silently, and is asked in vain from then on. A tick alone sends nothing.
-  unheard : answers_to start (ticked 0 0 0 ∷ left 0 0 ∷ ticked 0 0 0 ∷ left 0 0 ∷ arrived 0 1 0
+  nothing_sent : answers_to start (ticked 0 0 0 ∷ left 0 0 ∷ ticked 0 0 0 ∷ left 0 0 ∷ arrived 0 1 0
       (rtcp 8 (Ok (rr 7 [] [] ∷ []))) ∷ [])
       ≡ ok 1 0 0 1026037 ∷ silently_gone ∷ Err Left ∷ Err Left ∷ Err Left ∷ []
   -- With few members the BYE goes out at once, after a report or an RTP packet.

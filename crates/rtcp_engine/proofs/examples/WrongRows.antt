@@ -6,15 +6,15 @@ use Rattle.std.proofs.lemmas.List.Elements.{All-head, All-map}
 use Rattle.rtcp_wire.specs.Values.{ChunkValue, rr, sdes, bye}
 use Rattle.rtcp_members.specs.Traces.{TraceStep}
 use Rattle.rtcp_members.specs.Stays.{stay_of}
-use Rattle.rtcp_members.specs.Told.{StateValue, told_in_stay}
+use Rattle.rtcp_members.specs.Listings.{StateValue, state_in_stay}
 use Rattle.rtcp_engine.specs.Setups.{IsUsable}
 use Rattle.rtcp_engine.specs.Acts.{Datagram, rtcp, Act, arrived, rtp_sent, ticked, left}
 use Rattle.rtcp_engine.specs.Answers.{followed_by}
 use Rattle.rtcp_engine.specs.Changes.{is_taken, new_identifier}
 use Rattle.rtcp_engine.specs.Histories.{History, last_moment, life_at, session_at, setup_at}
 use Rattle.rtcp_engine.specs.InTime.{BringsOut, longest_wait}
-use Rattle.rtcp_engine.specs.Leaving.{Backoff, Life, present, backing_off, gone, backoff_from, leaving_timing}
-use Rattle.rtcp_engine.specs.Lives.{TellsInLife}
+use Rattle.rtcp_engine.specs.Leaving.{Backoff, Life, present, backing_off, finished, backoff_from, leaving_timing}
+use Rattle.rtcp_engine.specs.Lives.{ListsInLife}
 use Rattle.rtcp_engine.specs.Outcomes.{Outcome}
 use Rattle.rtcp_engine.specs.Refusals.{refusal_after}
 use Rattle.rtcp_engine.specs.Sent.{Sent, reports_in, sent_at}
@@ -94,7 +94,7 @@ fallen_stands = record {
 abbrev its_outcome : Life → Outcome
 its_outcome (present outcome) = outcome
 its_outcome (backing_off outcome backoff) = outcome
-its_outcome (gone outcome) = outcome
+its_outcome (finished outcome) = outcome
 
 overdue_without_falls : ((history : History) (outcome : Outcome) (moment first_word second_word : ℕ) →
     IsHistory history → life_at history ≡ present outcome →
@@ -201,10 +201,10 @@ abbrev its_stay : List TraceStep
 its_stay = unwrap_or (stay_of 1024 (its_outcome (life_at heard)).trace 0) []
 
 told_only_before_the_latest : ((history : History) → IsHistory history → (after : Option ℕ) (state : StateValue) →
-    TellsInLife (setup_at history) after (life_at history) (Some state) →
+    ListsInLife (setup_at history) after (life_at history) (Some state) →
     state.heard < last_moment history.acts) → ⊥
 told_only_before_the_latest law =
-    let sooner : 0 < 0 = law heard heard_stands None (told_in_stay 0 its_stay)
+    let sooner : 0 < 0 = law heard heard_stands None (state_in_stay 0 its_stay)
     (record {
       above = refl;
       least = λ ssrc is below. absurd (omega (arith, below));

@@ -5,10 +5,10 @@ ghost use Rattle.rtcp_engine.specs.Leaving.{Life};
 ghost use Rattle.rtcp_engine.specs.Lives.{standing_in_life, step_into};
 ghost use Rattle.rtcp_engine.specs.Promises.{SaysStanding};
 ghost use Rattle.rtcp_engine.specs.States.{IsAt, taking_part};
-ghost use Rattle.rtcp_engine.specs.Views.{out_in, told_value};
+ghost use Rattle.rtcp_engine.specs.Views.{out_in, written_step_value};
 
 use super::{Participant, Phase};
-use crate::step::{Brought, Standing, Told};
+use crate::step::{Brought, Standing, WrittenStep};
 use rtcp_members::MemberTable;
 
 impl<T: MemberTable> Participant<T> {
@@ -24,7 +24,7 @@ impl<T: MemberTable> Participant<T> {
         let (members, next) = match self.phase {
             Phase::Present => return self.standing_in_session(),
             Phase::BackingOff(members) => (members, Some(presence.next_moment())),
-            Phase::Gone => (0, None),
+            Phase::Finished => (0, None),
         };
         let ssrc = presence.ssrc();
         Standing {
@@ -56,14 +56,14 @@ impl<T: MemberTable> Participant<T> {
 
     /// The answer of a call that was taken, and handed out nothing, of one that takes part.
     #[inline(always)]
-    pub(super) fn told_in_session(&self, others_changed: bool) -> Told
+    pub(super) fn written_step_in_session(&self, others_changed: bool) -> WrittenStep
         requires { self.now.phase ≡ taking_part }
-        ensures exact { (octets : List ℕ) (life : Life) → IsAt self.now life → told_value octets result
+        ensures exact { (octets : List ℕ) (life : Life) → IsAt self.now life → written_step_value octets result
             ≡ step_into self.now.presence.setup None others_changed life }
         ensures standing { SaysStanding result.standing self.now }
         ensures out { result.out ≡ None }
     {
-        Told {
+        WrittenStep {
             standing: self.standing_in_session(),
             changed: None,
             others_changed,
@@ -73,13 +73,13 @@ impl<T: MemberTable> Participant<T> {
 
     /// The answer of a call that was taken, and brought this.
     #[inline(always)]
-    pub(super) fn told(&self, brought: Brought) -> Told
-        ensures exact { (octets : List ℕ) (life : Life) → IsAt self.now life → told_value octets result
+    pub(super) fn written_step(&self, brought: Brought) -> WrittenStep
+        ensures exact { (octets : List ℕ) (life : Life) → IsAt self.now life → written_step_value octets result
             ≡ step_into self.now.presence.setup (out_in octets brought.out) brought.others_changed life }
         ensures standing { SaysStanding result.standing self.now }
         ensures out { result.out ≡ brought.out }
     {
-        Told {
+        WrittenStep {
             standing: self.standing(),
             changed: None,
             others_changed: brought.others_changed,

@@ -21,12 +21,12 @@ impl<T: MemberTable> Participant<T> {
         ensures within { KeepsCapacity self.new.presence }
         ensures leaves { LeavesRest octets.old octets.new result }
     {
-        if self.presence.is_unheard() {
-            self.phase = Phase::Gone;
+        if self.presence.sent_nothing() {
+            self.phase = Phase::Finished;
             return None;
         }
         if self.presence.member_count() <= FEW_MEMBERS {
-            self.phase = Phase::Gone;
+            self.phase = Phase::Finished;
             return Some(self.presence.write_bye(octets));
         }
         self.presence.back_off(w);
@@ -35,7 +35,7 @@ impl<T: MemberTable> Participant<T> {
     }
 
     /// Counts the BYE packets of a compound, which moves the average if it has some.
-    pub(super) fn count_farewell(&mut self, compound: &Compound<'_>, size: usize, members: u32)
+    pub(super) fn count_byes_of(&mut self, compound: &Compound<'_>, size: usize, members: u32)
         requires phase { self.old.phase ≡ leaving members }
         requires size { size ≤ 65535 }
         requires within { KeepsCapacity self.old.presence }
@@ -47,7 +47,7 @@ impl<T: MemberTable> Participant<T> {
         if byes == 0 {
             return;
         }
-        self.presence.hear_farewell(size);
+        self.presence.hear_byes(size);
         self.phase = Phase::BackingOff(MAX_LEAVING.min(members + byes));
     }
 
@@ -68,7 +68,7 @@ impl<T: MemberTable> Participant<T> {
         if !self.presence.expire_backoff(w1, members) {
             return None;
         }
-        self.phase = Phase::Gone;
+        self.phase = Phase::Finished;
         Some(self.presence.write_bye(octets))
     }
 }

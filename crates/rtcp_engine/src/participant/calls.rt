@@ -6,13 +6,13 @@ ghost use Rattle.rtcp_engine.specs.Acts.{arrived, forget_asked, leave_asked, pac
 ghost use Rattle.rtcp_engine.specs.Changes.{is_about};
 ghost use Rattle.rtcp_engine.specs.Promises.{Replies, SaysStanding, Takes};
 ghost use Rattle.rtcp_engine.specs.States.{Admits, KeepsCapacity, refusal_by};
-ghost use Rattle.rtcp_engine.specs.Views.{datagram_of, out_told, settings_value, size_of, told_value};
+ghost use Rattle.rtcp_engine.specs.Views.{datagram_of, out_written, settings_value, size_of, written_step_value};
 
 use super::{Participant, Phase};
 use crate::arrival::Arrival;
 use crate::refusal::Refusal;
 use crate::settings::Settings;
-use crate::step::{Brought, NOTHING, Reply, Told};
+use crate::step::{Brought, NOTHING, Reply, WrittenStep};
 use rtcp_members::MemberTable;
 use rtcp_wire::{Compound, MAX_COMPOUND, RtpHead};
 
@@ -88,14 +88,14 @@ impl<T: MemberTable> Participant<T> {
         octets: &mut [u8; MAX_COMPOUND],
     ) -> Reply
         ensures replies { Replies self.old (packet_sent now rtp_ts size) octets.old octets.new result self.new }
-        ensures empty { out_told result ≡ None }
+        ensures empty { out_written result ≡ None }
     {
         if let Some(refusal) = self.refusal(now) {
             return Err(refusal);
         }
         self.take_call(now);
         self.take_sent(now, rtp_ts, size);
-        Ok(self.told(NOTHING))
+        Ok(self.written_step(NOTHING))
     }
 
     /// [`tick`](Participant::tick), with a report or the BYE in `octets`.
@@ -117,7 +117,7 @@ impl<T: MemberTable> Participant<T> {
         }
         self.take_call(now);
         let brought = self.take_tick(w1, w2, octets);
-        Ok(self.told(brought))
+        Ok(self.written_step(brought))
     }
 
     /// [`leave`](Participant::leave), with the BYE in `octets`.
@@ -133,7 +133,7 @@ impl<T: MemberTable> Participant<T> {
         }
         self.take_call(now);
         let brought = self.take_leave(w, octets);
-        Ok(self.told(brought))
+        Ok(self.written_step(brought))
     }
 
     /// [`configure`](Participant::configure), which never has a compound.
@@ -149,7 +149,7 @@ impl<T: MemberTable> Participant<T> {
     ) -> Reply
         ensures replies { Replies self.old (settings_given now (settings_value settings.now)) octets.old octets.new
             result self.new }
-        ensures empty { out_told result ≡ None }
+        ensures empty { out_written result ≡ None }
     {
         if let Some(refusal) = self.refusal(now) {
             return Err(refusal);
@@ -159,7 +159,7 @@ impl<T: MemberTable> Participant<T> {
         }
         self.take_call(now);
         self.take_settings(settings);
-        let told = self.told(NOTHING);
+        let told = self.written_step(NOTHING);
         Ok(told)
     }
 
@@ -170,14 +170,14 @@ impl<T: MemberTable> Participant<T> {
     /// The first of E1 to E4 that applies. Then the participant is unchanged.
     pub fn forget_into(&mut self, now: u64, ssrc: u32, octets: &mut [u8; MAX_COMPOUND]) -> Reply
         ensures replies { Replies self.old (forget_asked now ssrc) octets.old octets.new result self.new }
-        ensures empty { out_told result ≡ None }
+        ensures empty { out_written result ≡ None }
     {
         if let Some(refusal) = self.refusal(now) {
             return Err(refusal);
         }
         self.take_call(now);
         let others_changed = self.take_forget(ssrc);
-        Ok(self.told(Brought {
+        Ok(self.written_step(Brought {
             out: None,
             others_changed,
         }))
@@ -191,7 +191,7 @@ impl<T: MemberTable> Participant<T> {
     {
         match self.phase {
             Phase::Present | Phase::BackingOff(_) => self.presence.refusal(now),
-            Phase::Gone => Some(Refusal::Left),
+            Phase::Finished => Some(Refusal::Left),
         }
     }
 
@@ -208,13 +208,13 @@ impl<T: MemberTable> Participant<T> {
     // Inlined, so that a call goes on with the datagram at hand, and writes its answer once, into its caller's
     // room for that: what answers otherwise has returned before. The phase is asked once for the most frequent one.
     #[inline(always)]
-    fn arrive_as_other(&mut self, now: u64, arrival: &Arrival<'_>) -> Told
+    fn arrive_as_other(&mut self, now: u64, arrival: &Arrival<'_>) -> WrittenStep
         requires other { is_about self.old.presence.setup.ssrc (datagram_of arrival.now) ≡ false }
         requires admitted { refusal_by now self.old ≡ None }
         requires in_order { Admits self.old.presence now }
         requires size { size_of arrival.now ≤ 65535 }
         ensures takes { (peer w : ℕ) (room : List ℕ) → w < 2 ^ 32 →
-            Takes self.old (arrived now peer w (datagram_of arrival.now)) (Ok (told_value room result)) self.new }
+            Takes self.old (arrived now peer w (datagram_of arrival.now)) (Ok (written_step_value room result)) self.new }
         ensures empty { result.out ≡ None }
         ensures standing { SaysStanding result.standing self.new }
         ensures within { KeepsCapacity self.new.presence }
@@ -222,10 +222,10 @@ impl<T: MemberTable> Participant<T> {
         self.take_call(now);
         if let Phase::Present = self.phase {
             let others_changed = self.take_in_session(now, arrival);
-            return self.told_in_session(others_changed);
+            return self.written_step_in_session(others_changed);
         }
         let others_changed = self.take_datagram(now, arrival);
-        self.told(Brought {
+        self.written_step(Brought {
             out: None,
             others_changed,
         })

@@ -6,7 +6,7 @@ ghost use Rattle.rtcp_engine.specs.Acts.{arrived};
 ghost use Rattle.rtcp_engine.specs.Changes.{Session, changed_to, identifiers, is_about, is_taken as is_taken_of, new_identifier};
 ghost use Rattle.rtcp_engine.specs.Histories.{History, session_at};
 ghost use Rattle.rtcp_engine.specs.Lives.{own_bye};
-ghost use Rattle.rtcp_engine.specs.Promises.{Spares, Takes, Tells};
+ghost use Rattle.rtcp_engine.specs.Promises.{Spares, Takes, WritesReply};
 ghost use Rattle.rtcp_engine.specs.States.{Admits, IsIn, KeepsCapacity, StandsAt, over, refusal_by};
 ghost use Rattle.rtcp_engine.specs.Views.{LeavesRest, NamesFewer, datagram_of, out_in, reply_value, size_of};
 
@@ -41,7 +41,7 @@ impl<T: MemberTable> Participant<T> {
         ensures takes { Takes self.old (arrived now peer w (datagram_of arrival.entry))
             (reply_value octets.new result) self.new }
         ensures spares { Spares self.old result self.new }
-        ensures tells { Tells octets.old octets.new result self.new }
+        ensures writes { WritesReply octets.old octets.new result self.new }
     {
         if !self.changes.allows(peer) {
             return Err(Refusal::OwnSsrc);
@@ -70,13 +70,13 @@ impl<T: MemberTable> Participant<T> {
         ensures takes { Takes self.old (arrived now peer w (datagram_of arrival.entry))
             (reply_value octets.new result) self.new }
         ensures spares { Spares self.old result self.new }
-        ensures tells { Tells octets.old octets.new result self.new }
+        ensures writes { WritesReply octets.old octets.new result self.new }
     {
         let ssrc = self.free_ssrc(w, &arrival);
         let out = self.change(peer, ssrc, octets);
         self.take_call(now);
         let others_changed = self.take_datagram(now, &arrival);
-        let mut told = self.told(Brought {
+        let mut told = self.written_step(Brought {
             out,
             others_changed,
         });

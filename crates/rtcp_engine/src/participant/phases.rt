@@ -43,11 +43,11 @@ impl<T: MemberTable> Participant<T> {
             Phase::Present => self.take_in_session(now, arrival),
             Phase::BackingOff(members) => {
                 if let Arrival::Rtcp(compound, size) = arrival {
-                    self.count_farewell(compound, *size, members);
+                    self.count_byes_of(compound, *size, members);
                 }
                 false
             }
-            Phase::Gone => false,
+            Phase::Finished => false,
         }
     }
 
@@ -75,7 +75,7 @@ impl<T: MemberTable> Participant<T> {
         match self.phase {
             Phase::Present => self.presence.take_sent(now, rtp_ts, octets),
             Phase::BackingOff(_) => {}
-            Phase::Gone => {}
+            Phase::Finished => {}
         }
     }
 
@@ -93,7 +93,7 @@ impl<T: MemberTable> Participant<T> {
                 out: self.try_bye(w1, members, octets),
                 others_changed: false,
             },
-            Phase::Gone => NOTHING,
+            Phase::Finished => NOTHING,
         }
     }
 
@@ -113,7 +113,7 @@ impl<T: MemberTable> Participant<T> {
                 }
             }
             Phase::BackingOff(_) => NOTHING,
-            Phase::Gone => NOTHING,
+            Phase::Finished => NOTHING,
         }
     }
 
@@ -136,7 +136,7 @@ impl<T: MemberTable> Participant<T> {
         match self.phase {
             Phase::Present => self.presence.forget(ssrc),
             Phase::BackingOff(_) => false,
-            Phase::Gone => false,
+            Phase::Finished => false,
         }
     }
 }

@@ -38,19 +38,19 @@ impl<T: MemberTable> Presence<T> {
         ensures new { self.new ≡ after_change ssrc self.old }
         ensures within { KeepsCapacity self.new }
     {
-        let bye = self.bye_if_heard(octets);
+        let bye = self.bye_if_sent(octets);
         self.config.ssrc = ssrc;
         self.own.count_anew();
         bye
     }
 
     /// Writes the BYE of the present SSRC, if something was sent under it. It moves the average.
-    fn bye_if_heard(&mut self, octets: &mut [u8; MAX_COMPOUND]) -> Option<Written>
+    fn bye_if_sent(&mut self, octets: &mut [u8; MAX_COMPOUND]) -> Option<Written>
         ensures bye { out_in octets.new result ≡ option_map bye_out (own_bye_in self.old) }
         ensures leaves { LeavesRest octets.old octets.new result }
         ensures new { self.new ≡ with_own_bye self.old }
     {
-        if !self.own.is_heard() {
+        if !self.own.did_send() {
             return None;
         }
         let bye = self.write_bye(octets);

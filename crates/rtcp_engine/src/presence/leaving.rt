@@ -1,7 +1,7 @@
 //! What a participant does as it leaves (RFC 3550, 6.3.7).
 
 ghost use Rattle.std.specs.Prelude.{◌≡◌, ◌≤◌, ◌<◌, ◌*◌, ◌^◌, ℕ, Some, length};
-ghost use Rattle.rtcp_engine.specs.Leaving.{Backoff, after_wait, backoff_from, is_bye_due, is_unheard, leaving_count, leaving_interval, leaving_load, with_farewell_of};
+ghost use Rattle.rtcp_engine.specs.Leaving.{Backoff, after_wait, backoff_from, is_bye_due, sent_nothing, leaving_count, leaving_interval, leaving_load, with_byes_of};
 ghost use Rattle.rtcp_engine.specs.Lives.{bye_out};
 ghost use Rattle.rtcp_engine.specs.Outcomes.{Outcome};
 ghost use Rattle.rtcp_engine.specs.Reporting.{bye_octets};
@@ -18,10 +18,10 @@ use rtcp_wire::MAX_COMPOUND;
 
 impl<T: MemberTable> Presence<T> {
     /// Whether neither a report nor an RTP packet was sent under the present SSRC.
-    pub(crate) fn is_unheard(&self) -> bool
-        ensures { (outcome : Outcome) → Agrees self.now outcome → result ≡ is_unheard outcome }
+    pub(crate) fn sent_nothing(&self) -> bool
+        ensures { (outcome : Outcome) → Agrees self.now outcome → result ≡ sent_nothing outcome }
     {
-        !self.own.is_heard()
+        !self.own.did_send()
     }
 
     /// Writes the compound with the participant's BYE.
@@ -49,11 +49,11 @@ impl<T: MemberTable> Presence<T> {
     }
 
     /// Moves the average by a compound of `size` octets with BYE packets.
-    pub(crate) fn hear_farewell(&mut self, size: usize)
+    pub(crate) fn hear_byes(&mut self, size: usize)
         requires { size ≤ 65535 }
         ensures stays { Stays self.old self.new }
         ensures waits { (outcome : Outcome) (backoff : Backoff) (byes : ℕ) → Waits self.old outcome backoff →
-            Waits self.new outcome (with_farewell_of byes size backoff) }
+            Waits self.new outcome (with_byes_of byes size backoff) }
         ensures within { KeepsCapacity self.new }
     {
         self.average.add(size as u32);
@@ -86,7 +86,7 @@ impl<T: MemberTable> Presence<T> {
     /// What that interval depends on: the participant counts as one that joins, and does not send.
     fn backoff_load(&self, members: u32) -> Load
         ensures exact { (outcome : Outcome) (backoff : Backoff) → Waits self.now outcome backoff →
-            result ≡ leaving_load self.now.setup members backoff.farewells }
+            result ≡ leaving_load self.now.setup members backoff.bye_compounds }
         ensures members { result.members ≡ members }
         ensures average { result.avg ≤ 256 * 65563 }
         ensures some_for_senders { 16 ≤ result.sender_bw }

@@ -21,7 +21,7 @@ const SENDER_REPORT_OF_BB: &[u8] = &[
     0x00, 0x00, 0x00, 0xbb, 0x01, 0x01, 0x61, 0x00,
 ];
 
-/// A report of the participant, and a goodbye of sources 000000bb and 000000bc.
+/// A report of the participant, and a BYE of sources 000000bb and 000000bc.
 const GOODBYE_OF_TWO: &[u8] = &[
     0x80, 0xc9, 0, 1, 0, 0, 0, 0xaa, 0x82, 0xcb, 0, 2, 0, 0, 0, 0xbb, 0, 0, 0, 0xbc,
 ];

@@ -45,7 +45,7 @@ pub(crate) static NAMES: Part = Part {
     reports: 206,
 };
 
-/// Padding: of the first packet, and of a goodbye.
+/// Padding: of the first packet, and of a BYE.
 pub(crate) static PADDING: Part = Part {
     samples: &[
         &[0xa0, 0xc9, 0, 2, 0, 0, 0, 7, 0, 0, 0, 4],
@@ -80,7 +80,7 @@ pub(crate) static CUT_SHORT: Part = Part {
     reports: 341,
 };
 
-/// RTP packets, a goodbye, and a packet of an application.
+/// RTP packets, a BYE, and a packet of an application.
 pub(crate) static PACKETS: Part = Part {
     samples: &[
         PACKET,
@@ -95,7 +95,7 @@ pub(crate) static PACKETS: Part = Part {
     reports: 196,
 };
 
-/// Goodbyes with a reason, with an empty one, and of nobody.
+/// BYEs with a reason, with an empty one, and of nobody.
 pub(crate) static GOODBYES: Part = Part {
     samples: &[
         &[
@@ -148,7 +148,7 @@ fn small() -> Config {
     }
 }
 
-/// While a participant backs off, until both say goodbye.
+/// While a participant backs off, until both send a BYE.
 pub(crate) fn backing_off<T: InlineTable + Drop>(rt: &impl Abort, part: &Part) {
     let harmed = leaving::backing_off::<T>(rt);
     let spared = leaving::backing_off::<T>(rt);

@@ -25,8 +25,8 @@ fn packet_of(ssrc: u8) -> [u8; 12] {
 }
 
 /// What is told where nobody sends, the identifier is the first one, and the others have the roles that they had.
-fn told(out: Option<Written>, members: u32, entries: u32, next: Option<u64>) -> Told {
-    Told {
+fn told(out: Option<Written>, members: u32, entries: u32, next: Option<u64>) -> WrittenStep {
+    WrittenStep {
         others_changed: false,
         changed: None,
         out,
@@ -41,7 +41,7 @@ fn told(out: Option<Written>, members: u32, entries: u32, next: Option<u64>) -> 
 }
 
 /// The same where another source has another role.
-fn moved(mut told: Told) -> Told {
+fn moved(mut told: WrittenStep) -> WrittenStep {
     told.others_changed = true;
     told
 }

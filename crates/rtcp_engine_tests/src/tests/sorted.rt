@@ -55,14 +55,14 @@ fn damaged_cut_short(rt: HostRuntime) {
     damage::backing_off::<SortedTable>(&rt, &damage::CUT_SHORT);
 }
 
-/// Damaged RTP packets, a goodbye, and a packet of an application.
+/// Damaged RTP packets, a BYE, and a packet of an application.
 #[test]
 fn damaged_packets(rt: HostRuntime) {
     damage::present::<SortedTable>(&rt, &damage::PACKETS);
     damage::backing_off::<SortedTable>(&rt, &damage::PACKETS);
 }
 
-/// Damaged goodbyes with a reason, with an empty one, and of nobody.
+/// Damaged BYEs with a reason, with an empty one, and of nobody.
 #[test]
 fn damaged_goodbyes(rt: HostRuntime) {
     damage::present::<SortedTable>(&rt, &damage::GOODBYES);

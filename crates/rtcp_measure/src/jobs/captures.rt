@@ -146,7 +146,7 @@ fn full_kind(random: &mut Random) -> Kind {
     kind_of(&datagram)
 }
 
-/// A sender report with 31 blocks, a receiver report with 17, eight descriptions and a goodbye.
+/// A sender report with 31 blocks, a receiver report with 17, eight descriptions and a BYE.
 fn several_kind(random: &mut Random) -> Kind {
     let mut datagram = Datagram::new();
     put_full(&mut datagram, random);

@@ -59,7 +59,7 @@ pub fn run(alloc: Global, seconds: u32, seed: u32) -> Result<Digest, AllocError>
 }
 
 impl Traffic {
-    /// What comes to a session in a second: descriptions of most, packets of some, and a goodbye now and then.
+    /// What comes to a session in a second: descriptions of most, packets of some, and a BYE now and then.
     fn second(&mut self, second: u32, number: u32, host: &mut Host, digest: &mut Digest) {
         let now = u64::from(second) * 1_000_000;
         let count = if second == 0 { SOURCES } else { 60 };

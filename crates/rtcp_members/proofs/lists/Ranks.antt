@@ -3,13 +3,13 @@ use Rattle.std.proofs.Common.{◌≡◌, ◌<◌, ◌+◌, ℕ, Bool, true, fals
 use Rattle.std.proofs.lemmas.List.{drop_more}
 use Rattle.rtcp_members.specs.declared.entry.Entry.{Entry}
 use Rattle.rtcp_members.specs.Pending.{EntryRow, is_due, first_ssrc}
-use Rattle.rtcp_members.specs.Told.{state_of, first_state}
+use Rattle.rtcp_members.specs.Listings.{state_of, first_state}
 use Rattle.rtcp_members.specs.ListViews.{entry_value, row_of, rows_of}
 
 -- what is told at a rank is told of the first row there
-pub told_rank : (xs : List Entry) (i : ℕ) (d x : Entry) → i < length xs → x ≡ slice_index_or xs i d →
+pub listed_rank : (xs : List Entry) (i : ℕ) (d x : Entry) → i < length xs → x ≡ slice_index_or xs i d →
     Some (state_of (row_of x)) ≡ first_state (rows_of (drop i xs))
-told_rank xs i d x within is = ap (λ y. Some (state_of (row_of y))) is
+listed_rank xs i d x within is = ap (λ y. Some (state_of (row_of y))) is
     ∙ sym (ap (λ ys. first_state (rows_of ys)) (drop_more xs i d within))
 
 abbrev pub due_rows_of : List Entry → List EntryRow

@@ -4,7 +4,7 @@ use Rattle.std.proofs.lemmas.Bool.{eqb-true, or_parts}
 use Rattle.std.proofs.lemmas.Bool.Decides.{nat_tests}
 use Rattle.rtcp_wire.specs.declared.fact.Fact.{Fact}
 use Rattle.rtcp_wire.specs.Facts.{subject, is_gone}
-use Rattle.rtcp_members.specs.Traces.{TraceStep, fact_came, check_made, block_taken, source_forgotten, names}
+use Rattle.rtcp_members.specs.Traces.{TraceStep, fact_came, check_made, block_made_of, source_forgotten, names}
 use Rattle.rtcp_members.specs.Stays.{stay_of}
 use Rattle.rtcp_members.specs.Entries.{EntryValue, entry_of, entry_at, is_member, is_sender, is_such, count_at, members_at, senders_at}
 use Rattle.rtcp_members.specs.Pending.{reported_entry}
@@ -203,10 +203,10 @@ module _ (test : EntryValue → Bool) (capacity : ℕ) where
 block_keeps_role : (test : EntryValue → Bool) → ((e : EntryValue) → test (reported_entry e) ≡ test e) →
     (capacity reported : ℕ) (trace : List TraceStep) (ssrc : ℕ)
     → is_such test (entry_at capacity trace ssrc) ≡ is_such test
-    (entry_at capacity (block_taken reported ∷ trace) ssrc)
+    (entry_at capacity (block_made_of reported ∷ trace) ssrc)
 block_keeps_role test stays capacity reported trace ssrc =
     elim (reported == ssrc) as (λ b. (reported == ssrc) ≡ b → is_such test (entry_at capacity trace ssrc)
-    ≡ is_such test (entry_at capacity (block_taken reported ∷ trace) ssrc)) [
+    ≡ is_such test (entry_at capacity (block_made_of reported ∷ trace) ssrc)) [
       | true ↦ λ own. sym (ap (is_such test)
           (own_stay capacity ssrc reported trace own (stay_of capacity trace ssrc))
           ∙ mapped (entry_at capacity trace ssrc))
@@ -268,7 +268,7 @@ module _ (capacity : ℕ) where
             (λ other is. checked_sender horizons (entry trace other)
             (ap (is_such is_sender) (sym (checked_entry_at capacity other horizons trace)) ∙ is)) counts.1 ssrc,
       )
-  step_keeps (block_taken reported) trace still ssrc = (
+  step_keeps (block_made_of reported) trace still ssrc = (
     block_keeps_role is_member (λ e. refl) capacity reported trace ssrc,
     block_keeps_role is_sender (λ e. refl) capacity reported trace ssrc,
   )
@@ -279,10 +279,10 @@ module _ (capacity : ℕ) where
       )
 
   -- A block moves nobody.
-  pub block_moves_none : (reported : ℕ) (trace : List TraceStep) → step_moves capacity (block_taken reported) trace
+  pub block_moves_none : (reported : ℕ) (trace : List TraceStep) → step_moves capacity (block_made_of reported) trace
       ≡ false
   block_moves_none reported trace =
-      same_roles_stay (block_taken reported) trace
+      same_roles_stay (block_made_of reported) trace
       (λ ssrc. (
         block_keeps_role is_member (λ e. refl) capacity reported trace ssrc,
         block_keeps_role is_sender (λ e. refl) capacity reported trace ssrc,

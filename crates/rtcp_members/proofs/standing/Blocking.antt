@@ -5,7 +5,7 @@ use Rattle.std.specs.Cmp.{nat_cmp_total, unsigned_tied}
 use Rattle.std.specs.FinMap as map
 use Rattle.rtcp_source.specs.Blocks.{news_of}
 use Rattle.rtcp_source.proofs.LawLemmas.{summary_moves-block}
-use Rattle.rtcp_members.specs.Traces.{TraceStep, block_taken, names}
+use Rattle.rtcp_members.specs.Traces.{TraceStep, block_made_of, names}
 use Rattle.rtcp_members.specs.Stays.{mark_of, stay_with, stay_of}
 use Rattle.rtcp_members.specs.Entries.{EntryValue, given_of, is_such, is_valid, sending_of, entry_of, entry_at}
 use Rattle.rtcp_members.specs.Stays.{last_naming}
@@ -19,7 +19,7 @@ use Rattle.rtcp_members.proofs.stays.Staying.{entry_with, moved_entry, entry_unm
 -- ---- What is said of a source
 
 own_block : (ssrc other : ℕ) (stay : List TraceStep) → (other == ssrc) ≡ true →
-    moved_entry ssrc (block_taken other) stay ≡ reported_entry (entry_with ssrc stay None)
+    moved_entry ssrc (block_made_of other) stay ≡ reported_entry (entry_with ssrc stay None)
 own_block ssrc other stay own =
     rw own (ap (λ source. record {
       valid = is_valid ssrc stay;
@@ -30,7 +30,7 @@ own_block ssrc other stay own =
     }) (summary_moves-block (given_of ssrc stay)))
 
 other_block : (ssrc other : ℕ) (stay : List TraceStep) → (other == ssrc) ≡ false →
-    moved_entry ssrc (block_taken other) stay ≡ entry_with ssrc stay None
+    moved_entry ssrc (block_made_of other) stay ≡ entry_with ssrc stay None
 other_block ssrc other stay apart = rw apart refl
 
 -- an entry after a block of its source, if it has no mark
@@ -40,7 +40,7 @@ reported_if entry = if is_some entry.mark then entry else reported_entry entry
 module _ (capacity ssrc other : ℕ) (trace : List TraceStep) where
   abbrev pub said_after_block : Option (List TraceStep) → Option EntryValue
   said_after_block stay = option_map (entry_of ssrc)
-      (stay_with capacity (block_taken other) (names trace) (stay_of capacity trace) ssrc stay)
+      (stay_with capacity (block_made_of other) (names trace) (stay_of capacity trace) ssrc stay)
 
   pub own_stay : (other == ssrc) ≡ true → (stay : Option (List TraceStep)) →
       said_after_block stay ≡ option_map reported_if (option_map (entry_of ssrc) stay)
@@ -49,9 +49,9 @@ module _ (capacity ssrc other : ℕ) (trace : List TraceStep) where
       elim (mark_of ssrc stay) as (λ m. mark_of ssrc stay ≡ m →
       said_after_block (Some stay) ≡ Some
       (if is_some m then entry_of ssrc stay else reported_entry (entry_of ssrc stay))) [
-        | None ↦ λ unmarked. ap Some (entry_moves ssrc (block_taken other) stay unmarked
+        | None ↦ λ unmarked. ap Some (entry_moves ssrc (block_made_of other) stay unmarked
             ∙ own_block ssrc other stay own ∙ ap reported_entry (sym (entry_unmarked ssrc stay unmarked)))
-        | Some mark ↦ λ marked. ap Some (entry_marked ssrc (block_taken other) stay mark marked)
+        | Some mark ↦ λ marked. ap Some (entry_marked ssrc (block_made_of other) stay mark marked)
       ] refl
 
   pub other_stay : (other == ssrc) ≡ false → (stay : Option (List TraceStep)) →
@@ -60,9 +60,9 @@ module _ (capacity ssrc other : ℕ) (trace : List TraceStep) where
   other_stay apart (Some stay) =
       elim (mark_of ssrc stay) as (λ m. mark_of ssrc stay ≡ m →
       said_after_block (Some stay) ≡ Some (entry_of ssrc stay)) [
-        | None ↦ λ unmarked. ap Some (entry_moves ssrc (block_taken other) stay unmarked
+        | None ↦ λ unmarked. ap Some (entry_moves ssrc (block_made_of other) stay unmarked
             ∙ other_block ssrc other stay apart ∙ sym (entry_unmarked ssrc stay unmarked))
-        | Some mark ↦ λ marked. ap Some (entry_marked ssrc (block_taken other) stay mark marked)
+        | Some mark ↦ λ marked. ap Some (entry_marked ssrc (block_made_of other) stay mark marked)
       ] refl
 
 -- ---- The table
@@ -81,7 +81,7 @@ module _ (table : TableValue) (trace : List TraceStep) (stands : StandsAt table 
   abbrev next : TableValue
   next = with_reported reported table (Some entry)
 
-  at_reported : map.get next.entries reported ≡ entry_at table.capacity (block_taken reported ∷ trace)
+  at_reported : map.get next.entries reported ≡ entry_at table.capacity (block_made_of reported ∷ trace)
       reported
   at_reported =
       map.get-insert nat_cmp_total table.entries reported (reported_entry entry) reported
@@ -93,7 +93,7 @@ module _ (table : TableValue) (trace : List TraceStep) (stands : StandsAt table 
       (stay_of table.capacity trace reported))
 
   at_other : (ssrc : ℕ) → (reported == ssrc) ≡ false → map.get next.entries ssrc ≡ entry_at table.capacity
-      (block_taken reported ∷ trace) ssrc
+      (block_made_of reported ∷ trace) ssrc
   at_other ssrc apart =
       map.get-insert nat_cmp_total table.entries reported (reported_entry entry) ssrc
       ∙ ap (λ b. cond b (Some (reported_entry entry)) (map.get table.entries ssrc))
@@ -101,21 +101,21 @@ module _ (table : TableValue) (trace : List TraceStep) (stands : StandsAt table 
       ∙ stands ssrc
       ∙ sym (other_stay table.capacity ssrc reported trace apart (stay_of table.capacity trace ssrc))
 
-  block_stands : StandsAt next (block_taken reported ∷ trace)
+  block_stands : StandsAt next (block_made_of reported ∷ trace)
   block_stands ssrc =
       elim (reported == ssrc) as (λ b. (reported == ssrc) ≡ b →
-      map.get next.entries ssrc ≡ entry_at table.capacity (block_taken reported ∷ trace) ssrc) [
+      map.get next.entries ssrc ≡ entry_at table.capacity (block_made_of reported ∷ trace) ssrc) [
         | true ↦ λ own. subst (λ s. map.get next.entries s ≡ entry_at table.capacity
-            (block_taken reported ∷ trace) s) (eqb-true reported ssrc own) at_reported
+            (block_made_of reported ∷ trace) s) (eqb-true reported ssrc own) at_reported
         | false ↦ λ apart. at_other ssrc apart
       ] refl
 
 -- After a block of a source that has news, a table stands at the trace with that block.
 pub block_follows : (table : TableValue) (trace : List TraceStep) (ssrc : ℕ) → IsTrue (is_due_at ssrc table) →
-    StandsAt table trace → StandsAt (after_block ssrc table) (block_taken ssrc ∷ trace)
+    StandsAt table trace → StandsAt (after_block ssrc table) (block_made_of ssrc ∷ trace)
 block_follows table trace ssrc due stands =
     elim (map.get table.entries ssrc) as (λ o. map.get table.entries ssrc ≡ o → IsTrue (is_such is_due o) →
-    StandsAt (with_reported ssrc table o) (block_taken ssrc ∷ trace)) [
+    StandsAt (with_reported ssrc table o) (block_made_of ssrc ∷ trace)) [
       | None ↦ λ found t. absurd cc
       | Some entry ↦ λ found t. block_stands table trace stands ssrc entry found (due_unmarked entry t)
     ] refl due

@@ -1,4 +1,4 @@
--- What a fact that is no goodbye leaves of the members, and how the counts of a table lie to each other.
+-- What a fact that is no BYE leaves of the members, and how the counts of a table lie to each other.
 use Rattle.std.proofs.Common.{◌≡◌, ◌≤◌, ℕ, suc, Bool, true, false, true≢false, cond, if◌then◌else◌, ◌||◌, ◌==◌, ◌&&◌, List, [], ◌∷◌, length, filter, Option, Some, None, is_some, is_none, option_and_then, arith, refl, sym, ap, subst, ◌∙◌, le_refl}
 use Rattle.std.proofs.lemmas.Bool.{and_parts, or_right}
 use Rattle.std.specs.FinMap as finite

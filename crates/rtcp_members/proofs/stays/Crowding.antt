@@ -1,6 +1,6 @@
 -- At most as many sources are present as there is room for.
 use Rattle.std.proofs.Common.{◌≡◌, ◌≤◌, ℕ, true, is_some, List, [], ◌∷◌, length, filter, Option, Some, None, refl, ap, arith}
-use Rattle.rtcp_members.specs.Traces.{TraceStep, fact_came, check_made, block_taken, source_forgotten, names}
+use Rattle.rtcp_members.specs.Traces.{TraceStep, fact_came, check_made, block_made_of, source_forgotten, names}
 use Rattle.rtcp_members.specs.Stays.{present_among, stay_with, stay_of}
 use Rattle.rtcp_members.specs.Tables.{after_fact, after_check, table_at}
 use Rattle.rtcp_members.proofs.standing.Capacity.{fact_keeps_bounds, check_keeps_bounds, fact_keeps_capacity, check_keeps_capacity}
@@ -10,7 +10,7 @@ use Rattle.rtcp_members.proofs.standing.TraceTables.{table_stands}
 
 -- a block leaves present who is
 still_there : (capacity reported : ℕ) (earlier : List TraceStep) (ssrc : ℕ) (stay : Option (List TraceStep))
-    → is_some (stay_with capacity (block_taken reported) (names earlier) (stay_of capacity earlier) ssrc stay)
+    → is_some (stay_with capacity (block_made_of reported) (names earlier) (stay_of capacity earlier) ssrc stay)
     ≡ is_some stay
 still_there capacity reported earlier ssrc None = refl
 still_there capacity reported earlier ssrc (Some stay) = refl
@@ -53,8 +53,8 @@ present_fit capacity (check_made horizons ∷ earlier) =
       ap (λ (c : ℕ). present_among (names (check_made horizons ∷ earlier)) (stay_of c (check_made horizons ∷ earlier)))
           same,
     )
-present_fit capacity (block_taken reported ∷ earlier) =
-    let others : present_among (names earlier) (stay_of capacity (block_taken reported ∷ earlier)) ≡ present_among
+present_fit capacity (block_made_of reported ∷ earlier) =
+    let others : present_among (names earlier) (stay_of capacity (block_made_of reported ∷ earlier)) ≡ present_among
     (names earlier) (stay_of capacity earlier) =
     λ i. length (filter (λ (ssrc : ℕ). still_there capacity reported earlier ssrc (stay_of capacity earlier ssrc) i)
     (names earlier)) in

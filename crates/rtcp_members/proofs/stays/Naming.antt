@@ -3,7 +3,7 @@ use Rattle.std.proofs.Common.{◌≡◌, ℕ, Bool, true, false, true≢false, c
 use Rattle.std.proofs.lemmas.Bool.{eqb-true, or_parts, and_parts, or_left, or_right, not-true}
 use Rattle.rtcp_wire.specs.declared.fact.Fact.{Fact}
 use Rattle.rtcp_wire.specs.Facts.{subject, is_gone}
-use Rattle.rtcp_members.specs.Traces.{TraceStep, fact_came, check_made, block_taken, source_forgotten, is_naming, with_name, names}
+use Rattle.rtcp_members.specs.Traces.{TraceStep, fact_came, check_made, block_made_of, source_forgotten, is_naming, with_name, names}
 use Rattle.rtcp_members.specs.Stays.{present_among, stay_with, stay_of}
 use Rattle.rtcp_members.proofs.maps.Counting.{has, IsOnce}
 
@@ -21,7 +21,7 @@ pub names_are_once : (trace : List TraceStep) → IsOnce (names trace)
 names_are_once [] = tt
 names_are_once (fact_came fact moment ∷ trace) = once_with fact (names trace) (names_are_once trace)
 names_are_once (check_made horizons ∷ trace) = names_are_once trace
-names_are_once (block_taken ssrc ∷ trace) = names_are_once trace
+names_are_once (block_made_of ssrc ∷ trace) = names_are_once trace
 names_are_once (source_forgotten ssrc ∷ trace) = names_are_once trace
 
 named_with : (fact : Fact) (ssrc : ℕ) (named : List ℕ) → is_gone fact ≡ false → (subject fact == ssrc) ≡ true →

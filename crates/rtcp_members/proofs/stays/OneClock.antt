@@ -5,7 +5,7 @@ use Rattle.rtcp_wire.specs.declared.fact.Fact.{Fact}
 use Rattle.rtcp_wire.specs.declared.fact.Fact.TheVariants.{Told, Media}
 use Rattle.rtcp_source.specs.Packets.{Given}
 use Rattle.rtcp_source.specs.Summary.{HasOneRate}
-use Rattle.rtcp_members.specs.Traces.{TraceStep, fact_came, check_made, block_taken, source_forgotten}
+use Rattle.rtcp_members.specs.Traces.{TraceStep, fact_came, check_made, block_made_of, source_forgotten}
 use Rattle.rtcp_members.specs.Stays.{before_mark, mark_of, stay_of}
 use Rattle.rtcp_members.specs.Entries.{given_by, given_of}
 use Rattle.rtcp_members.specs.Clocks.{HasOneClock, HasRate}
@@ -40,7 +40,7 @@ given_has rate ssrc [] has = tt
 given_has rate ssrc (fact_came fact moment ∷ earlier) has =
     by_fact rate ssrc fact moment (given_of ssrc earlier) has.0 (given_has rate ssrc earlier has.1)
 given_has rate ssrc (check_made horizons ∷ earlier) has = given_has rate ssrc earlier has.1
-given_has rate ssrc (block_taken other ∷ earlier) has =
+given_has rate ssrc (block_made_of other ∷ earlier) has =
     let before = given_has rate ssrc earlier has.1 in
     cond_both (other == ssrc) _ (given_of ssrc earlier) (HasOneRate rate) (λ _. before) (λ _. before)
 given_has rate ssrc (source_forgotten other ∷ earlier) has = given_has rate ssrc earlier has.1

@@ -3,7 +3,7 @@ use Rattle.std.proofs.Common.{◌≡◌, ℕ, ◌≤◌, Bool, true, false, true
 use Rattle.std.proofs.lemmas.Bool.{ltb-false, and_parts, or_left, or_right}
 use Rattle.std.proofs.lemmas.Bool.Decides.{nat_tests}
 use Rattle.rtcp_wire.specs.declared.fact.Fact.{Fact}
-use Rattle.rtcp_members.specs.Traces.{Horizons, TraceStep, fact_came, check_made, block_taken, source_forgotten}
+use Rattle.rtcp_members.specs.Traces.{Horizons, TraceStep, fact_came, check_made, block_made_of, source_forgotten}
 use Rattle.rtcp_members.specs.Stays.{mark_of, before_mark, stay_of}
 use Rattle.rtcp_members.specs.Entries.{given_of, is_counted_fact, is_counted_by, gives_name, is_valid, still_sending, sending_of, entry_of, entry_at, is_sender, is_such, IsSendingSince, IsSenderAt}
 use Rattle.rtcp_members.proofs.stays.Staying.{entry_with, entry_unmarked}
@@ -18,7 +18,7 @@ module _ (ssrc : ℕ) where
   abbrev IsQuiet : TraceStep → List TraceStep → (moment : ℕ) → Type 0
   IsQuiet (fact_came fact at) earlier moment = is_counted_fact ssrc fact (given_of ssrc earlier) ≡ false
   IsQuiet (check_made horizons) earlier moment = horizons.idle ≤ moment
-  IsQuiet (block_taken other) earlier moment = Unit {0}
+  IsQuiet (block_made_of other) earlier moment = Unit {0}
   IsQuiet (source_forgotten other) earlier moment = Unit {0}
 
   newest_later : (moment : ℕ) (step : TraceStep) (since : List TraceStep) (packet : Fact) (before : List TraceStep) →
@@ -110,7 +110,7 @@ module _ (ssrc : ℕ) where
                   still
             ] refl
       ] refl found
-  kept_is_newest (block_taken other ∷ earlier) moment found = one_step_later (block_taken other) earlier moment
+  kept_is_newest (block_made_of other ∷ earlier) moment found = one_step_later (block_made_of other) earlier moment
       (kept_is_newest earlier moment found) tt
   kept_is_newest (source_forgotten other ∷ earlier) moment found = one_step_later (source_forgotten other) earlier
       moment (kept_is_newest earlier moment found) tt
@@ -124,7 +124,7 @@ module _ (ssrc : ℕ) where
   still_kept (check_made horizons) earlier moment quiet kept =
       let recent : nat_lt moment horizons.idle ≡ false = grind (arith, nat_tests, quiet) in
       ap (still_sending horizons) kept ∙ ap (λ late. if late then None else Some moment) recent
-  still_kept (block_taken other) earlier moment quiet kept = kept
+  still_kept (block_made_of other) earlier moment quiet kept = kept
   still_kept (source_forgotten other) earlier moment quiet kept = kept
 
   quiet_first : (moment : ℕ) (packet : Fact) (before : List TraceStep) (step : TraceStep) (since : List TraceStep)
@@ -136,7 +136,7 @@ module _ (ssrc : ℕ) where
       → IsQuiet step (since ++ fact_came packet moment ∷ before) moment
   quiet_first moment packet before (fact_came fact at) since newest recent = newest [] fact at since refl
   quiet_first moment packet before (check_made horizons) since newest recent = recent [] horizons since refl
-  quiet_first moment packet before (block_taken other) since newest recent = tt
+  quiet_first moment packet before (block_made_of other) since newest recent = tt
   quiet_first moment packet before (source_forgotten other) since newest recent = tt
 
   kept_since : (moment : ℕ) (packet : Fact) (before : List TraceStep) →

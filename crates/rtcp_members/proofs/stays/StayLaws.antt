@@ -2,7 +2,7 @@
 use Rattle.std.proofs.Common.{◌≡◌, ℕ, ◌<◌, true, false, true≢false, if◌then◌else◌, nat_lt, List, [], ◌∷◌, ◌++◌, Option, Some, None, refl, sym, ap, subst, ◌∙◌, arith}
 use Rattle.std.proofs.lemmas.Bool.{ltb-true}
 use Rattle.std.proofs.lemmas.Bool.Decides.{nat_tests}
-use Rattle.rtcp_members.specs.Traces.{TraceStep, fact_came, check_made, block_taken, source_forgotten, is_naming, names}
+use Rattle.rtcp_members.specs.Traces.{TraceStep, fact_came, check_made, block_made_of, source_forgotten, is_naming, names}
 use Rattle.rtcp_members.specs.Stays.{ends_stay, present_among, stay_with, stay_of, OutlastsChecks, NeverForgotten, IsStay}
 
 none_is_no_stay : {X : Type 0} (stay : X) → None ≡ Some stay → ⊥
@@ -44,7 +44,7 @@ stays_on : (ssrc : ℕ) (step : TraceStep) (stay : List TraceStep) → OutlastsC
     NeverForgotten ssrc (step ∷ stay) → ends_stay ssrc step stay ≡ false
 stays_on ssrc (fact_came fact moment) stay all kept = refl
 stays_on ssrc (check_made horizons) stay all kept = all [] horizons stay refl
-stays_on ssrc (block_taken other) stay all kept = refl
+stays_on ssrc (block_made_of other) stay all kept = refl
 stays_on ssrc (source_forgotten other) stay all kept = kept [] other stay refl
 
 -- ---- A stay is a prefix of the trace

@@ -36,7 +36,7 @@ pub(crate) static ROOMS: [Script; 3] = [
             ),
         ],
     },
-    // A goodbye is no sighting.
+    // A BYE is no sighting.
     Script {
         name: "a source is dropped where its last sighting lies before the horizon, and not at it",
         capacity: 2,

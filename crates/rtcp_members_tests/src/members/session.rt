@@ -155,7 +155,7 @@ impl<T: MemberTable> Session<T> {
         self.table.check(t, silent, data, gone)
     }
 
-    /// The host says that a source is gone. Returns whether it was there without a goodbye.
+    /// The host says that a source is gone. Returns whether it was there without a BYE.
     pub(crate) fn forget(&mut self, ssrc: u32) -> bool
         ensures { self.new.facts ≡ self.old.facts }
     {

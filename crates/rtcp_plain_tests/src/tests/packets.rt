@@ -110,7 +110,7 @@ fn description(rt: HostRuntime) -> Result<(), Fail> {
     shows(&rt, rt.alloc(), &datagram, None, want)
 }
 
-/// Goodbyes with and without a reason, of two sources and of none.
+/// BYEs with and without a reason, of two sources and of none.
 #[test]
 fn goodbyes(rt: HostRuntime) -> Result<(), Fail> {
     let datagram = [

@@ -1,6 +1,6 @@
 //! What an observer is told, as a test reads it.
 
-use rtcp_engine::{Answer, Event, Participant, Reply, Standing, Told, Written};
+use rtcp_engine::{Answer, Event, Participant, Reply, Standing, Written, WrittenStep};
 use rtcp_members::MemberTable;
 use rtcp_serve::{Observer, Port};
 use std::alloc::{AllocError, Global};
@@ -163,7 +163,7 @@ fn reply_of(alloc: Global, answer: &Answer) -> Result<(Reply, Vec<u8>), AllocErr
         ssrc: 0,
         next: step.next,
     };
-    let told = Told {
+    let told = WrittenStep {
         others_changed: step.others_changed,
         changed: step.changed,
         out,

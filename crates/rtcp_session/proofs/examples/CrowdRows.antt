@@ -285,7 +285,7 @@ record Crowds : Type 0 where
   -- Each leaves room for two compounds of 48 octets, and no room is left.
   share_of_two : shares_within 2462496 2462489 (who_hears 187 170) ≡ 24576
   room_for_two : 2 * 121828 * 2462489 * (256 * 16) / (100000 * 1000000) ≡ 24576
-  is_heard : map (λ decided. is_such is_member (entry_at 1024 decided.outcome.trace 187))
+  did_send : map (λ decided. is_such is_member (entry_at 1024 decided.outcome.trace 187))
       (later_within 2462496 2462489 (who_hears 187 170)) ≡ true ∷ []
   four_of_both : total_reports 0 5000000 mixed ≡ 4
   ten_allowed : length mixed + carried_in 5000000 (terms.sender_bw + terms.receiver_bw) terms ≡ 10

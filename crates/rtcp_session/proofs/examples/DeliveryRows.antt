@@ -6,7 +6,7 @@ use Rattle.rtcp_wire.specs.declared.fact.Fact.{Fact}
 use Rattle.rtcp_wire.specs.declared.fact.Fact.TheVariants.{Heard, Told, Named, Gone, Media}
 use Rattle.rtcp_wire.specs.Facts.{facts_of}
 use Rattle.rtcp_members.specs.Traces.{TraceStep}
-use Rattle.rtcp_members.specs.Lasting.{says_goodbye}
+use Rattle.rtcp_members.specs.Lasting.{says_bye}
 use Rattle.rtcp_members.specs.Entries.{entry_at, is_such, is_sender}
 use Rattle.rtcp_engine.specs.Acts.{Act, arrived, rtcp, rtp, rtp_sent, ticked, left, configured, forgotten}
 use Rattle.rtcp_session.specs.Windows.{Joined, load_at}
@@ -140,7 +140,7 @@ abbrev pub never_drops : (capacity ssrc : ℕ) → List TraceStep → Bool
 never_drops capacity ssrc trace = list_all (λ past. not (is_dropped capacity ssrc past)) (pasts_of trace)
 
 abbrev pub takes_no_bye : (ssrc : ℕ) → List TraceStep → Bool
-takes_no_bye ssrc trace = list_all (λ step. not (says_goodbye ssrc step)) trace
+takes_no_bye ssrc trace = list_all (λ step. not (says_bye ssrc step)) trace
 
 -- the same of the report that ends a wait, and of the source of another
 abbrev pub has_room_for : (wait its : Wait) → Bool
@@ -192,10 +192,10 @@ never_dropped_of capacity ssrc trace =
     (λ past. not_so (is_dropped capacity ssrc past)) (pasts_of trace)
 
 pub no_bye_of : (ssrc : ℕ) (trace : List TraceStep) → takes_no_bye ssrc trace ≡ true →
-    All (λ step. says_goodbye ssrc step ≡ false) trace
+    All (λ step. says_bye ssrc step ≡ false) trace
 no_bye_of ssrc trace =
-    each (λ (step : TraceStep). not (says_goodbye ssrc step)) (λ (step : TraceStep). says_goodbye ssrc step ≡ false)
-    (λ step. not_so (says_goodbye ssrc step)) trace
+    each (λ (step : TraceStep). not (says_bye ssrc step)) (λ (step : TraceStep). says_bye ssrc step ≡ false)
+    (λ step. not_so (says_bye ssrc step)) trace
 
 pub kept_of : (wait its : Wait) → keeps wait its ≡ true →
     IsKept wait.next.setup.capacity its.next.setup.ssrc wait.next.outcome.trace

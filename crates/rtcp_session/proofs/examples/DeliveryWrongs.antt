@@ -8,7 +8,7 @@ use Rattle.rtcp_wire.specs.declared.fact.Fact.TheVariants.{Heard, Named, Gone, M
 use Rattle.rtcp_wire.specs.Values.{RtcpPacket, rr, sdes, bye}
 use Rattle.rtcp_wire.specs.Facts.{facts_of}
 use Rattle.rtcp_members.specs.Traces.{TraceStep, fact_came, check_made, horizons_at}
-use Rattle.rtcp_members.specs.Lasting.{says_goodbye}
+use Rattle.rtcp_members.specs.Lasting.{says_bye}
 use Rattle.rtcp_members.specs.Entries.{entry_at, is_member, is_sender, is_such}
 use Rattle.rtcp_engine.specs.Acts.{Act, arrived, rtcp, ticked}
 use Rattle.rtcp_engine.specs.Taken.{IsHistory}
@@ -30,7 +30,7 @@ two_named = fact_came (Named 2) 200 ∷ fact_came (Named 1) 100 ∷ []
 
 without_room : ((capacity ssrc : ℕ) (trace : List TraceStep) → is_named_in ssrc trace ≡ true →
     All (λ past. is_dropped capacity ssrc past ≡ false) (pasts_of trace) →
-    All (λ step. says_goodbye ssrc step ≡ false) trace →
+    All (λ step. says_bye ssrc step ≡ false) trace →
     is_such is_member (entry_at capacity trace ssrc) ≡ true) → ⊥
 without_room law =
     both_ways (is_such is_member (entry_at 1 two_named 2)) refl
@@ -42,23 +42,23 @@ fell_silent = check_made (horizons_at 1000 1000 0) ∷ fact_came (Named 1) 100 �
 
 without_hearing : ((capacity ssrc : ℕ) (trace : List TraceStep) → is_named_in ssrc trace ≡ true →
     All (λ past. has_room capacity ssrc past ≡ true) (pasts_of trace) →
-    All (λ step. says_goodbye ssrc step ≡ false) trace →
+    All (λ step. says_bye ssrc step ≡ false) trace →
     is_such is_member (entry_at capacity trace ssrc) ≡ true) → ⊥
 without_hearing law =
     both_ways (is_such is_member (entry_at 8 fell_silent 1)) refl
     (law 8 1 fell_silent refl (room_of 8 1 fell_silent refl) (no_bye_of 1 fell_silent refl))
 
--- nor one that said goodbye,
-abbrev said_goodbye : List TraceStep
-said_goodbye = fact_came (Gone 1) 200 ∷ fact_came (Named 1) 100 ∷ []
+-- nor one that sent a BYE,
+abbrev said_bye : List TraceStep
+said_bye = fact_came (Gone 1) 200 ∷ fact_came (Named 1) 100 ∷ []
 
 without_staying : ((capacity ssrc : ℕ) (trace : List TraceStep) → is_named_in ssrc trace ≡ true →
     All (λ past. has_room capacity ssrc past ≡ true) (pasts_of trace) →
     All (λ past. is_dropped capacity ssrc past ≡ false) (pasts_of trace) →
     is_such is_member (entry_at capacity trace ssrc) ≡ true) → ⊥
 without_staying law =
-    both_ways (is_such is_member (entry_at 8 said_goodbye 1)) refl
-    (law 8 1 said_goodbye refl (room_of 8 1 said_goodbye refl) (never_dropped_of 8 1 said_goodbye refl))
+    both_ways (is_such is_member (entry_at 8 said_bye 1)) refl
+    (law 8 1 said_bye refl (room_of 8 1 said_bye refl) (never_dropped_of 8 1 said_bye refl))
 
 -- nor one that was only heard.
 abbrev only_heard : List TraceStep
@@ -268,7 +268,7 @@ record Dropped (joined : Joined) (wait its : Wait) : Type 0 where
   rest : Unkept joined wait its
   room : All (λ past. has_room wait.next.setup.capacity its.next.setup.ssrc past ≡ true)
       (pasts_of wait.next.outcome.trace)
-  no_bye : All (λ step. says_goodbye its.next.setup.ssrc step ≡ false) wait.next.outcome.trace
+  no_bye : All (λ step. says_bye its.next.setup.ssrc step ≡ false) wait.next.outcome.trace
 
 abbrev dropped : Joined → (wait its : Wait) → Bool
 dropped joined wait its = unkept joined wait its && (has_room_for wait its && takes_no_bye_of wait its)

@@ -7,11 +7,11 @@ use Rattle.rtcp_wire.specs.Values.{rr, sdes, bye, ChunkValue}
 use Rattle.rtcp_timer.specs.Averages.{with_headers}
 use Rattle.rtcp_engine.specs.Acts.{Act, arrived, rtcp, rtp_sent, ticked, left}
 use Rattle.rtcp_engine.specs.Reporting.{bye_octets}
-use Rattle.rtcp_engine.specs.Leaving.{Farewell, leaving_count}
+use Rattle.rtcp_engine.specs.Leaving.{ByeCompound, leaving_count}
 use Rattle.rtcp_engine.specs.Taken.{IsHistory}
 use Rattle.rtcp_session.specs.Windows.{Joined}
 use Rattle.rtcp_session.specs.Crowds.{Terms, HasAtMost, carried_in}
-use Rattle.rtcp_session.specs.Partings.{ByeWait, all_bye_waits, bye_during, bye_waits_within, CountsByes, HasByeSizes, ByesAreCounted}
+use Rattle.rtcp_session.specs.BackoffByes.{ByeWait, all_bye_waits, bye_during, bye_waits_within, CountsByes, HasByeSizes, ByesAreCounted}
 use Rattle.rtcp_session.proofs.examples.CrowdRows.{joined_with, each, stands, is_history, has_at_most, bandwidth_of}
 
 -- a compound that names fifty, as of a mixer
@@ -39,7 +39,7 @@ abbrev leaving : Terms
 leaving = record { sender_bw = 16; receiver_bw = 16; size = 56; percent = 100 }
 
 -- The second counts the BYE of the first, and sends its own when half of twice the interval has passed.
-two_leave : map (λ leave. leave.since ∷ leave.until ∷ leaving_count leave.parting.backoff ∷ []) (all_bye_waits both)
+two_leave : map (λ leave. leave.since ∷ leave.until ∷ leaving_count leave.backoff_bye.backoff ∷ []) (all_bye_waits both)
     ≡ (20007 ∷ 1456460 ∷ 1 ∷ []) ∷ (20007 ∷ 2892912 ∷ 2 ∷ []) ∷ []
 two_leave = refl
 
@@ -57,40 +57,41 @@ module _ (terms : Terms) (from width : ℕ) (all : List Joined) where
 
   abbrev counts : ByeWait → Bool
   counts leave = nat_le (100 * length (filter (bye_during leave) leaves))
-      (terms.percent * leaving_count leave.parting.backoff)
+      (terms.percent * leaving_count leave.backoff_bye.backoff)
 
   counted : list_all counts leaves ≡ true → All (CountsByes terms.percent leaves) leaves
   counted = each counts (CountsByes terms.percent leaves)
       (λ leave. leb-true (100 * length (filter (bye_during leave) leaves))
-      (terms.percent * leaving_count leave.parting.backoff))
+      (terms.percent * leaving_count leave.backoff_bye.backoff))
       leaves
 
   abbrev is_large : (size : ℕ) → Bool
   is_large size = nat_le terms.size (with_headers size)
 
   abbrev are_large : ByeWait → Bool
-  are_large leave = is_large (length (bye_octets leave.parting.setup))
-      && list_all (λ farewell. is_large farewell.size) leave.parting.backoff.farewells
+  are_large leave = is_large (length (bye_octets leave.backoff_bye.setup))
+      && list_all (λ bye_compound. is_large bye_compound.size) leave.backoff_bye.backoff.bye_compounds
 
   large : list_all are_large leaves ≡ true → All (HasByeSizes terms.size) leaves
   large = each are_large (HasByeSizes terms.size)
       (λ leave is.
-      let own = length (bye_octets leave.parting.setup) in
-      let parts = and_parts (is_large own) (list_all (λ farewell. is_large farewell.size)
-      leave.parting.backoff.farewells) is in
+      let own = length (bye_octets leave.backoff_bye.setup) in
+      let parts = and_parts (is_large own) (list_all (λ bye_compound. is_large bye_compound.size)
+      leave.backoff_bye.backoff.bye_compounds) is in
       record {
         own = leb-true terms.size (with_headers own) parts.0;
-        sizes = each (λ (farewell : Farewell). is_large farewell.size)
-            (λ (farewell : Farewell). terms.size ≤ with_headers farewell.size)
-            (λ farewell. leb-true terms.size (with_headers farewell.size)) leave.parting.backoff.farewells parts.1;
+        sizes = each (λ (bye_compound : ByeCompound). is_large bye_compound.size)
+            (λ (bye_compound : ByeCompound). terms.size ≤ with_headers bye_compound.size)
+            (λ bye_compound. leb-true terms.size (with_headers bye_compound.size))
+            leave.backoff_bye.backoff.bye_compounds parts.1;
       }) leaves
 
   abbrev within_bandwidth : ByeWait → Bool
-  within_bandwidth leave = has_at_most terms leave.parting.setup
+  within_bandwidth leave = has_at_most terms leave.backoff_bye.setup
 
-  bounded : list_all within_bandwidth leaves ≡ true → All (λ leave. HasAtMost terms leave.parting.setup) leaves
-  bounded = each within_bandwidth (λ (leave : ByeWait). HasAtMost terms leave.parting.setup)
-      (λ leave. bandwidth_of terms leave.parting.setup) leaves
+  bounded : list_all within_bandwidth leaves ≡ true → All (λ leave. HasAtMost terms leave.backoff_bye.setup) leaves
+  bounded = each within_bandwidth (λ (leave : ByeWait). HasAtMost terms leave.backoff_bye.setup)
+      (λ leave. bandwidth_of terms leave.backoff_bye.setup) leaves
 
   stand : list_all (λ joined. is_history joined.history) all ≡ true → All (λ joined. IsHistory joined.history) all
   stand = each (λ (joined : Joined). is_history joined.history) (λ (joined : Joined). IsHistory joined.history)
@@ -145,7 +146,7 @@ leaves_as_if_counted law =
 
 uncounted_leaves : ((terms : Terms) (from width : ℕ) (all : List Joined) → 1 ≤ terms.size →
     All (λ joined. IsHistory joined.history) all →
-    All (λ leave. HasAtMost terms leave.parting.setup) (bye_waits_within from width all) →
+    All (λ leave. HasAtMost terms leave.backoff_bye.setup) (bye_waits_within from width all) →
     All (HasByeSizes terms.size) (bye_waits_within from width all) →
     length (bye_waits_within from width all) ≤ carried_in width terms.receiver_bw terms) → ⊥
 uncounted_leaves law =
@@ -156,7 +157,7 @@ uncounted_leaves law =
 
 leaves_of_any_size : ((terms : Terms) (from width : ℕ) (all : List Joined) → 1 ≤ terms.size →
     All (λ joined. IsHistory joined.history) all →
-    All (λ leave. HasAtMost terms leave.parting.setup) (bye_waits_within from width all) →
+    All (λ leave. HasAtMost terms leave.backoff_bye.setup) (bye_waits_within from width all) →
     All (CountsByes terms.percent (bye_waits_within from width all)) (bye_waits_within from width all) →
     length (bye_waits_within from width all) ≤ carried_in width terms.receiver_bw terms) → ⊥
 leaves_of_any_size law =

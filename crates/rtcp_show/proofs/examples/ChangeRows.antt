@@ -2,7 +2,7 @@
 use Rattle.std.specs.Prelude.{◌≡◌, ◌++◌, Bool, true, false, [], ◌∷◌, Some, None, Ok}
 use Rattle.rtcp_engine.specs.Acts.{forget_asked, leave_asked, time_passed}
 use Rattle.rtcp_engine.specs.Steps.{AnswerValue}
-use Rattle.rtcp_show.specs.Changes.{lists_anew, tells_of_others}
+use Rattle.rtcp_show.specs.Changes.{lists_anew, shows_others}
 use Rattle.rtcp_show.specs.Watchers.{is_due, news_text, second_after}
 use Rattle.rtcp_show.specs.Numbers.{moment_text}
 
@@ -19,14 +19,14 @@ answered others_changed = Ok (record {
 
 record ChangesShown : Type 0 where
   -- A tick at which others timed out.
-  ticked : tells_of_others (time_passed 5 0 0) (answered true) ≡ true
+  ticked : shows_others (time_passed 5 0 0) (answered true) ≡ true
   nobody : lists_anew (time_passed 5 0 0) (answered false) ≡ false
   -- The leave among many, after which there is a next moment: that of the BYE.
-  left : tells_of_others (leave_asked 5 0) (answered true) ≡ false
+  left : shows_others (leave_asked 5 0) (answered true) ≡ false
   left_listing : lists_anew (leave_asked 5 0) (answered true) ≡ false
-  -- A source that the host dismissed is not listed any more, and no line says so.
-  dismissed : tells_of_others (forget_asked 5 7) (answered true) ≡ false
-  dismissed_listing : lists_anew (forget_asked 5 7) (answered true) ≡ true
+  -- A source that the host forgot is not listed any more, and no line says so.
+  forgotten : shows_others (forget_asked 5 7) (answered true) ≡ false
+  forgotten_listing : lists_anew (forget_asked 5 7) (answered true) ≡ true
   -- The rows are due once a second, and written if they are others than before.
   second_one : is_due 0 1000000 ≡ true
   too_early : is_due 0 999999 ≡ false

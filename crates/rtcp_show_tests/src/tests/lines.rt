@@ -83,7 +83,7 @@ fn media(rt: HostRuntime) -> Result<(), Fail> {
     )
 }
 
-/// So are settings and dismissals.
+/// So are settings and forgets.
 #[test]
 fn hosts(rt: HostRuntime) -> Result<(), Fail> {
     let settings = Settings {

@@ -120,7 +120,7 @@ fn flows(rt: HostRuntime) -> Result<(), Fail> {
     let all = Flow {
         rtp_peer: Some(0x0a00_0001 * 65_536 + 5_004),
         loss: Some(125),
-        pace: Some(500),
+        packet_rate: Some(500),
         ..rtcp
     };
     push_flow(&mut text, &state, all)?;

@@ -96,7 +96,7 @@ const BLOCK: [u8; 32] = [
     0, 0x80, 0,
 ];
 
-/// An empty report of source 7, and its goodbye.
+/// An empty report of source 7, and its BYE.
 const GOODBYE: [u8; 16] = [0x80, 0xc9, 0, 1, 0, 0, 0, 7, 0x81, 0xcb, 0, 1, 0, 0, 0, 7];
 
 const SESSION: &str = "\
@@ -172,7 +172,7 @@ fn leaves_many(rt: HostRuntime) -> Result<(), Fail> {
     Ok(())
 }
 
-const DISMISSED: &str = "\
+const FORGOTTEN: &str = "\
 0.100000 in 127.0.0.1:5007 ok RR(00000007,[],0) SDES([00000007{1=61}])
 0.100000 joined=00000007
 1.000000 members=2 senders=0
@@ -180,16 +180,16 @@ source=00000007 sends=no cname=\"a\" peer=127.0.0.1:5007
 2.000000 members=1 senders=0
 ";
 
-/// A source that the host dismissed has not timed out: it is not listed any more.
+/// A source that the host forgot has not timed out: it is not listed any more.
 #[test]
-fn dismissed(rt: HostRuntime) -> Result<(), Fail> {
+fn forgotten(rt: HostRuntime) -> Result<(), Fail> {
     let mut printed = Printed::new(rt.alloc(), Vec::new(rt.alloc()))?;
     printed.rtcp(100_000, &named(7));
     printed.tick(1_000_000);
     printed.forget(1_000_001, 7);
     printed.forget(2_000_000, 7);
     let text = printed.printer.into_inner();
-    same(&rt, &text, DISMISSED.as_bytes(), "dismissed");
+    same(&rt, &text, FORGOTTEN.as_bytes(), "forgotten");
     Ok(())
 }
 

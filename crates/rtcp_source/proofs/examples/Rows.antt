@@ -45,7 +45,7 @@ switched =
 record Reports : Type 0 where
   none_counted : Gives 0 (numbers (10 ∷ [])) None
   -- 5.25 seconds after a sender report
-  told : Gives 6250000 (report_came 201232639590400 0 1000000 ∷ numbers (2 ∷ 1 ∷ []))
+  last_report : Gives 6250000 (report_came 201232639590400 0 1000000 ∷ numbers (2 ∷ 1 ∷ []))
       (Some (record { ssrc = 9; fraction = 0; lost = pos 0; highest = 2; jitter = 0; lsr = 3070566400; dlsr = 344064 }))
   -- Half of the packets since the last block were lost, and none before it.
   half_lost : Gives 0 (with_numbers (9 ∷ 7 ∷ 5 ∷ []) (block_made ∷ numbers (3 ∷ 2 ∷ 1 ∷ []))) (plain_block 128 3 9)

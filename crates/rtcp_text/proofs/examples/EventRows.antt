@@ -116,14 +116,14 @@ settings : Settings
 unfolding decode_pairs
 settings = search
 
--- ---- Dismissals
+-- ---- Forgets
 
-record Dismissals : Type 0 where
-  dismissal : event_in (codes "forget 18446744073709551615 0000000A") ≡ Ok (forget_asked 18446744073709551615 10)
-  dismissal_without_ssrc : event_in (codes "forget 0") ≡ Err Words
-  dismissal_of_two : event_in (codes "forget 0 0000000A 0000000B") ≡ Err Words
-  dismissal_with_seven_digits : event_in (codes "forget 0 000000A") ≡ Err Hex
+record Forgets : Type 0 where
+  forget : event_in (codes "forget 18446744073709551615 0000000A") ≡ Ok (forget_asked 18446744073709551615 10)
+  forget_without_ssrc : event_in (codes "forget 0") ≡ Err Words
+  forget_of_two : event_in (codes "forget 0 0000000A 0000000B") ≡ Err Words
+  forget_with_seven_digits : event_in (codes "forget 0 000000A") ≡ Err Hex
 
-dismissals : Dismissals
+forgets : Forgets
 unfolding decode_pairs
-dismissals = search
+forgets = search

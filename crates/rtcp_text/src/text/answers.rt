@@ -1,7 +1,7 @@
 //! The text of what a participant answers, as `rtcp replay` shows it.
 
 ghost use Rattle.std.specs.Prelude.{◌≡◌, ◌+◌, ◌≤◌, ◌++◌, Err, Ok, OnOk, Some, codes, drop};
-ghost use Rattle.rtcp_engine.specs.Views.{out_in, out_told, reply_value, size_written, told_value};
+ghost use Rattle.rtcp_engine.specs.Views.{out_in, out_written, reply_value, size_written, written_step_value};
 ghost use Rattle.rtcp_engine.specs.declared.refusal.Refusal.TheVariants.{Settings};
 ghost use Rattle.rtcp_text.specs.AnswerText.{answer_text, changed_text, counts_text, kind_text, next_text, out_text, refusal_text, rtp_fault_text, start_text};
 
@@ -9,7 +9,7 @@ use super::digits::{push_octets, push_word};
 use super::push_fault_words;
 use super::tail::Tail;
 use crate::fault::config_name;
-use rtcp_engine::{ConfigError, OutKind, Refusal, Reply, Told, Written};
+use rtcp_engine::{ConfigError, OutKind, Refusal, Reply, Written, WrittenStep};
 use rtcp_wire::{MAX_COMPOUND, RtpFault};
 use std::alloc::AllocError;
 
@@ -30,7 +30,7 @@ pub fn push_reply(
     reply: &Reply,
     octets: &[u8; MAX_COMPOUND],
 ) -> Result<(), AllocError>
-    requires { size_written (out_told reply.now) ≤ 1472 }
+    requires { size_written (out_written reply.now) ≤ 1472 }
     ensures { OnOk result (out.new.items ≡ out.old.items ++ answer_text (reply_value octets.now reply.now)) }
 {
     match reply {
@@ -40,9 +40,13 @@ pub fn push_reply(
 }
 
 /// Appends the line for a call that was taken, whose compound, if it has one, stands at the start of these octets.
-fn push_told(out: &mut Vec<u8>, told: &Told, octets: &[u8; MAX_COMPOUND]) -> Result<(), AllocError>
+fn push_told(
+    out: &mut Vec<u8>,
+    told: &WrittenStep,
+    octets: &[u8; MAX_COMPOUND],
+) -> Result<(), AllocError>
     requires { size_written told.now.out ≤ 1472 }
-    ensures { OnOk result (out.new.items ≡ out.old.items ++ answer_text (Ok (told_value octets.now told.now))) }
+    ensures { OnOk result (out.new.items ≡ out.old.items ++ answer_text (Ok (written_step_value octets.now told.now))) }
 {
     let standing = told.standing;
     push_taken(out, standing.members, standing.senders, standing.next)?;

@@ -105,7 +105,7 @@ static FAULTS: [(&str, LineFault); 93] = [
         "configure 0 16 16 - 2:,3:,4:,5:,6:,7:,8:,2:",
         LineFault::Hex,
     ),
-    // Dismissals.
+    // Forgets.
     ("forget 0", LineFault::Words),
     ("forget 0 0000000a 0000000b", LineFault::Words),
     ("forget 0 000000a", LineFault::Hex),
@@ -248,7 +248,7 @@ fn most_settings(rt: HostRuntime) -> Result<(), Fail> {
 }
 
 #[test]
-fn dismissals(rt: HostRuntime) -> Result<(), Fail> {
+fn forgets(rt: HostRuntime) -> Result<(), Fail> {
     let mut buffers = EventBuffers::new(rt.alloc());
     match read_event(b"forget 18446744073709551615 0000000A", &mut buffers)? {
         Event::Forget { now, ssrc } => assert_eq!(rt; (now, ssrc), (u64::MAX, 10)),

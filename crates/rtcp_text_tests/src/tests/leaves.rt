@@ -43,7 +43,7 @@ static TEXTS: [(&str, &str); 4] = [
         refused E1 Left\nrefused E1 Left\nrefused E1 Left\n\
         refused E1 Left\nrefused E1 Left\nrefused E1 Left\n",
     ),
-    // One that sent a report says goodbye,
+    // One that sent a report sends a BYE,
     (
         "tick 1026037 00000000 00000000\n\
         leave 10000000 00000000\n",

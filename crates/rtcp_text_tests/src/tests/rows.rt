@@ -86,7 +86,7 @@ static ANSWERS: [(&str, &str); 29] = [
         "80c80006000000090000b705200000000000000a00000003000001e0",
         "ok SR(00000009,0000b70520000000,0000000a,3,480,[],0)\n",
     ),
-    // goodbyes: with a reason, with an empty one, and of nobody
+    // BYEs: with a reason, with an empty one, and of nobody
     (
         "80c900010000000781cb00020000000702616200",
         "ok RR(00000007,[],0) BYE([00000007],=6162)\n",

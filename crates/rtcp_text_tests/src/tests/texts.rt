@@ -112,7 +112,7 @@ static TEXTS: [(Said, &str); 50] = [
         Said::Packet(&[&HEARS_ONE, &REPEATED, &[0; 4]]),
         "SR(deadbeef,ffffffffffffffff,00000000,4294967295,0,[0000000a/25/-1/11/0/b7052000/00054000],4)",
     ),
-    // a goodbye with a reason, with an empty one, and with none
+    // a BYE with a reason, with an empty one, and with none
     (
         Said::Packet(&[
             &EMPTY_REPORT,

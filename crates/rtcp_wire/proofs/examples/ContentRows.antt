@@ -81,7 +81,7 @@ name_place = record { before = take 26 datagram; after = drop 28 datagram; parts
 note_place : StandsIn 30 [] datagram
 note_place = record { before = take 30 datagram; after = drop 30 datagram; parts = refl; counted = refl }
 
--- The goodbye begins at octet 32, and its reason after two identifiers and the octet of the size.
+-- The BYE begins at octet 32, and its reason after two identifiers and the octet of the size.
 reason_place : StandsIn 45 (0x63 ∷ []) datagram
 reason_place = record { before = take 45 datagram; after = drop 46 datagram; parts = refl; counted = refl }
 

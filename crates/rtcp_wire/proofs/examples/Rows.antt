@@ -39,7 +39,7 @@ empty_spelled last =
       },
     )
 
--- A goodbye of source 7 has a reason where one follows the identifier.
+-- A BYE of source 7 has a reason where one follows the identifier.
 pub of_seven : (reason : Option (List ℕ)) (rest : List ℕ) → IsReasonPart reason rest →
     IsGoodbye (7 ∷ []) reason 1 (0 ∷ 0 ∷ 0 ∷ 7 ∷ rest)
 of_seven reason rest ends = record {
@@ -103,7 +103,7 @@ description_spelled = unpadded (sdes (source ∷ [])) description refl refl refl
   ),
 )
 
--- a goodbye of source 7 with four octets of padding
+-- a BYE of source 7 with four octets of padding
 abbrev pub padded : List ℕ
 padded = 161 ∷ 203 ∷ 0 ∷ 2 ∷ 0 ∷ 0 ∷ 0 ∷ 7 ∷ 0 ∷ 0 ∷ 0 ∷ 4 ∷ []
 

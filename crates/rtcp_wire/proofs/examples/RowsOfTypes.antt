@@ -1,4 +1,4 @@
--- Worked examples: sender reports, goodbyes and applications' packets, octet by octet.
+-- Worked examples: sender reports, BYEs and applications' packets, octet by octet.
 use Rattle.std.proofs.Common.{ℕ, List, [], ◌∷◌, ◌++◌, drop, Some, None, refl, arith, inl, inr}
 use Rattle.rtcp_wire.specs.declared.fault.FaultReason.TheVariants.{Body, Reason}
 use Rattle.rtcp_wire.specs.Values.{SenderValue, sr, rr, bye, app}
@@ -34,7 +34,7 @@ sending_spelled = unpadded (sr sender [] []) sending refl refl refl (
 pub sending_accepted : IsAccepted sending (sr sender [] [] ∷ [])
 sending_accepted = alone_accepted (sr sender [] []) sending sending_spelled (omega arith) (inl refl, refl)
 
--- ---- Goodbyes
+-- ---- BYEs
 
 -- 81cb0002 00000007 02616200
 abbrev leaving : List ℕ
@@ -64,7 +64,7 @@ silent_spelled = unpadded (bye (7 ∷ []) (Some [])) silent refl refl refl (
 abbrev nobody : List ℕ
 nobody = 128 ∷ 203 ∷ 0 ∷ 0 ∷ []
 
--- A goodbye may name no source.
+-- A BYE may name no source.
 pub nobody_spelled : IsSpelling (bye [] None) nobody
 nobody_spelled = unpadded (bye [] None) nobody refl refl refl
     (refl, record { prefix = []; rest = []; parts = refl; counted = refl; each = refl; ends = refl })
@@ -120,7 +120,7 @@ word_more_refused =
 abbrev one_id_short : List ℕ
 one_id_short = 130 ∷ 203 ∷ 0 ∷ 1 ∷ 0 ∷ 0 ∷ 0 ∷ 7 ∷ []
 
--- A goodbye that counts two identifiers has them.
+-- A BYE that counts two identifiers has them.
 pub one_id_short_refused : IsFirstFault (report ++ one_id_short) (record { reason = Body; place = 8 })
 one_id_short_refused =
     refused_later Body one_id_short (omega arith) (omega arith) refl (omega arith) refl (inl (omega arith))

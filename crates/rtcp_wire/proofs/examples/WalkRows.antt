@@ -26,10 +26,10 @@ record Readings : Type 0 where
             ∷ [];
       }
       ∷ record { id = 8; items = [] } ∷ []) ∷ []
-  -- a goodbye with four octets of padding
+  -- a BYE with four octets of padding
   padded : packets_in (report ++ 0xa1 ∷ 0xcb ∷ 0 ∷ 2 ∷ 0 ∷ 0 ∷ 0 ∷ 7 ∷ 0xff ∷ 0xff ∷ 0xff ∷ 4 ∷ [])
       ≡ rr 7 [] [] ∷ bye (7 ∷ []) None ∷ []
-  -- goodbyes with a reason, with one that has no text, and with no source
+  -- BYEs with a reason, with one that has no text, and with no source
   with_reason : packets_in (report ++ 0x81 ∷ 0xcb ∷ 0 ∷ 2 ∷ 0 ∷ 0 ∷ 0 ∷ 7 ∷ 2 ∷ 0x61 ∷ 0x62 ∷ 0 ∷ [])
       ≡ rr 7 [] [] ∷ bye (7 ∷ []) (Some (0x61 ∷ 0x62 ∷ [])) ∷ []
   empty_reason : packets_in (report ++ 0x81 ∷ 0xcb ∷ 0 ∷ 2 ∷ 0 ∷ 0 ∷ 0 ∷ 7 ∷ 0 ∷ 0 ∷ 0 ∷ 0 ∷ []) ≡ rr 7 [] [] ∷ bye

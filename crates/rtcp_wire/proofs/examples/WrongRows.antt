@@ -240,7 +240,7 @@ lost_of_any_numbers law =
     (7, block_in wide_block) [] (law wide_loss lossy wide_loss_accepted)).1 in
     omega (arith, few)
 
--- a goodbye whose reason has 256 octets
+-- a BYE whose reason has 256 octets
 abbrev reason_of_256 : List ℕ
 reason_of_256 = replicate 256 97
 

@@ -19,7 +19,7 @@ pub struct Facts<'a> {
     first: Option<Fact>,
     /// The chunks of the source description that was reached.
     chunks: Chunks<'a>,
-    /// The sources of the goodbye that was reached.
+    /// The sources of the BYE that was reached.
     gone: Ids<'a>,
     packets: Packets<'a>,
 }

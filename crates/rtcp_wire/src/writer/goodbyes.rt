@@ -1,4 +1,4 @@
-//! The bodies of goodbyes (RFC 3550, 6.6), appended.
+//! The bodies of BYEs (RFC 3550, 6.6), appended.
 
 ghost use Rattle.std.specs.Prelude.{◌≡◌, ◌+◌, ◌≤◌, ◌<◌, ◌^◌, ◌++◌, ◌∷◌, [], All, length, option_copied};
 ghost use Rattle.std.specs.List.{flat_map};
@@ -9,7 +9,7 @@ use crate::writer::MAX_COMPOUND;
 use crate::writer::append::{append, append_fill, append_u32};
 use arrayvec::ArrayVec;
 
-/// Appends the identifiers of a goodbye.
+/// Appends the identifiers of a BYE.
 pub(super) fn append_ids(buffer: &mut ArrayVec<u8, MAX_COMPOUND>, ids: &[u32])
     requires { array_vec_len buffer.old + length (flat_map written_word ids.now) ≤ 1472 }
     ensures octets { buffer.new.items ≡ buffer.old.items ++ flat_map written_word ids.now }

@@ -37,7 +37,7 @@ pub enum PacketRef<'a> {
         /// At most 31 chunks.
         chunks: &'a [ChunkRef<'a>],
     },
-    /// A goodbye (RFC 3550, 6.6).
+    /// A BYE (RFC 3550, 6.6).
     Bye {
         /// The SSRCs and CSRCs of the sources that leave: at most 31, perhaps none.
         ids: &'a [u32],

@@ -20,7 +20,7 @@ static CHANGES: [(usize, Option<(FaultReason, usize)>, u32); 40] = [
     (3, Some((FaultReason::Length, 0)), 251),
     (3, None, 2),
     // The header of the source description: read as another type, its body of two words is too short for a report's
-    // block, and a goodbye has room for its source and a reason of one octet.
+    // block, and a BYE has room for its source and a reason of one octet.
     (8, Some((FaultReason::Version, 8)), 192),
     (8, Some((FaultReason::Padding, 8)), 32),
     (8, Some((FaultReason::Body, 8)), 31),

@@ -4,7 +4,7 @@ ghost use Rattle.rtcp_wire.specs.Facts.{facts_of};
 use super::*;
 
 /// A sender report of source 9 with a block about source 13; a source description of 9, with two CNAMEs, and
-/// of 7, with a NAME alone; a goodbye of both; an application's packet of source 11; and a packet of type
+/// of 7, with a NAME alone; a BYE of both; an application's packet of source 11; and a packet of type
 /// 205.
 const CALL: [u8; 108] = [
     0x81, 0xc8, 0, 12, // a sender report of 13 words, with one block
@@ -62,7 +62,7 @@ fn fact_count(compound: &Compound<'_>) -> usize
     rtcp_wire::facts(compound).count()
 }
 
-/// A source description of no chunks and a goodbye of no identifiers, between other packets and at the end.
+/// A source description of no chunks and a BYE of no identifiers, between other packets and at the end.
 const EMPTY_PACKETS: [u8; 36] = [
     0x80, 0xc9, 0, 1, // a receiver report of two words
     0, 0, 0, 7, // its SSRC

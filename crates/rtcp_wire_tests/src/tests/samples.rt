@@ -70,7 +70,7 @@ pub(super) const PACKET: &[u8] = &[0x80, 0, 0, 10, 0, 0, 0, 0, 0, 0, 0, 9];
 /// The packet after it.
 pub(super) const NEXT_PACKET: &[u8] = &[0x80, 0, 0, 11, 0, 0, 0, 0, 0, 0, 0, 9];
 
-/// A goodbye of source 1.
+/// A BYE of source 1.
 pub(super) const GOODBYE: &[u8] = &[
     0x80, 0xc9, 0, 1, // a receiver report of two words, with no blocks
     0, 0, 0, 1, // its SSRC
@@ -88,7 +88,7 @@ pub(super) const APPLICATION: &[u8] = &[
     1, 2, 3, 4, // its data
 ];
 
-/// A goodbye with a reason.
+/// A BYE with a reason.
 pub(super) const GOODBYE_WITH_REASON: &[u8] = &[
     0x80, 0xc9, 0, 1, // a receiver report of two words, with no blocks
     0, 0, 0, 7, // its SSRC
@@ -97,7 +97,7 @@ pub(super) const GOODBYE_WITH_REASON: &[u8] = &[
     2, 0x61, 0x62, 0, // a reason of two octets, and its fill
 ];
 
-/// A goodbye with a reason that has no text.
+/// A BYE with a reason that has no text.
 pub(super) const GOODBYE_WITH_EMPTY_REASON: &[u8] = &[
     0x80, 0xc9, 0, 1, // a receiver report of two words, with no blocks
     0, 0, 0, 7, // its SSRC
@@ -106,7 +106,7 @@ pub(super) const GOODBYE_WITH_EMPTY_REASON: &[u8] = &[
     0, 0, 0, 0, // a reason of no octets, and its fill
 ];
 
-/// A goodbye of nobody.
+/// A BYE of nobody.
 pub(super) const GOODBYE_OF_NOBODY: &[u8] = &[
     0x80, 0xc9, 0, 1, // a receiver report of two words, with no blocks
     0, 0, 0, 7, // its SSRC

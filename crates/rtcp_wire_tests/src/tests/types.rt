@@ -147,7 +147,7 @@ fn reports(rt: HostRuntime) -> Result<(), Fail> {
     Ok(())
 }
 
-/// A goodbye after a receiver report of source 7, its sources, and its reason.
+/// A BYE after a receiver report of source 7, its sources, and its reason.
 type Goodbye = (&'static [u8], &'static [u32], Option<&'static [u8]>);
 
 static GOODBYES: [Goodbye; 6] = [

@@ -111,7 +111,7 @@ static WRITTEN: [Written; 10] = [
             1, 2, 3, 4, // extension
         ],
     },
-    // Goodbyes with a reason, with an empty one, and with none.
+    // BYEs with a reason, with an empty one, and with none.
     Written {
         before: &[],
         packets: &[PacketRef::Bye {

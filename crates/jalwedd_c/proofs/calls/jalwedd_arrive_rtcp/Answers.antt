@@ -11,4 +11,4 @@ returns-clause-tells c =
     let reply = c.arrive_rtcp_into-reply.ensures in
     tells (λ m. rtcp_arrived m c.args.peer c.args.word c.args.datagram.now) _ gives counted c.deref_mut.ensures.value
     refl reply put.held (put.status _)
-    (put.handed _ _ reply.tells.leaves) put.shown
+    (put.handed _ _ reply.writes.leaves) put.shown

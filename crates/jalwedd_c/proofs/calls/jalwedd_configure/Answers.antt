@@ -17,7 +17,7 @@ returns-clause-tells c fits =
     c.put_back.new.self.owned.held c.put_back.result c.put_back.new.step c.args.octets.now
     c.configure_into-reply.new.octets) given
     (tells (λ m. settings_told m (settings_value c.fill_settings.new.given)) _ gives counted c.deref_mut.ensures.value
-    refl reply put.held (put.status _) (put.handed _ _ reply.tells.leaves) put.shown)
+    refl reply put.held (put.status _) (put.handed _ _ reply.writes.leaves) put.shown)
 
 pub returns-in-Some-clause-turns_away : goal.returns-in-Some-clause-turns_away
 returns-in-Some-clause-turns_away c status is =

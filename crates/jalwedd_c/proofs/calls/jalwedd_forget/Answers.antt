@@ -10,4 +10,4 @@ returns-clause-tells c =
     let put = c.put_back.ensures in
     let reply = c.forget_into-reply.ensures.replies in
     tells (λ m. forget_asked m c.args.ssrc) _ gives counted c.deref_mut.ensures.value refl reply put.held (put.status _)
-    (put.handed _ _ reply.tells.leaves) put.shown
+    (put.handed _ _ reply.writes.leaves) put.shown

@@ -10,4 +10,4 @@ returns-clause-tells c =
     let put = c.put_back.ensures in
     let reply = c.leave_into-reply.ensures in
     tells (λ m. leave_asked m c.args.word) _ gives counted c.deref_mut.ensures.value refl reply put.held (put.status _)
-    (put.handed _ _ reply.tells.leaves) put.shown
+    (put.handed _ _ reply.writes.leaves) put.shown

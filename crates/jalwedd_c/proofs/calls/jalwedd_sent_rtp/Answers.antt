@@ -11,4 +11,4 @@ returns-clause-tells c =
     let reply = c.sent_rtp_into-reply.ensures.replies in
     tells (λ m. packet_sent m c.args.timestamp c.args.size) _ gives counted c.deref_mut.ensures.value refl reply
     put.held (put.status _)
-    (put.handed _ _ reply.tells.leaves) put.shown
+    (put.handed _ _ reply.writes.leaves) put.shown

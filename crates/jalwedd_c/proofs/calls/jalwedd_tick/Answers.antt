@@ -11,4 +11,4 @@ returns-clause-tells c =
     let reply = c.tick_into-reply.ensures in
     tells (λ m. time_passed m c.args.first_word c.args.second_word) _ gives counted c.deref_mut.ensures.value refl reply
     put.held (put.status _)
-    (put.handed _ _ reply.tells.leaves) put.shown
+    (put.handed _ _ reply.writes.leaves) put.shown

@@ -7,5 +7,5 @@ use Rattle.jalwedd_c.proofs.parts.jalwedd_app.Goals as goal
 
 pub returns : goal.returns
 returns c =
-    own_located c.args.datagram.now c.args.index c.tell_at.result c.args.app.now c.tell_at.new.place
-    (shown_at PlacesApp ShowsApp c.args.datagram.now c.tell_at.ensures.tells) (c.tell_at.ensures.own (tt {0}))
+    own_located c.args.datagram.now c.args.index c.show_at.result c.args.app.now c.show_at.new.place
+    (shown_at PlacesApp ShowsApp c.args.datagram.now c.show_at.ensures.tells) (c.show_at.ensures.own (tt {0}))

@@ -14,7 +14,8 @@ pub returns-in_ok-check_up_to-in-Check-clause-answers : goal.returns-in_ok-check
 returns-in_ok-check_up_to-in-Check-clause-answers g c =
     check_answers _ _ c.in-Check.is (Ok _) c.in_ok-check_up_to-in-Check.ensures.checks
 
-pub returns-in_err-check_plain-in-CheckPlain-clause-answers : goal.returns-in_err-check_plain-in-CheckPlain-clause-answers
+pub returns-in_err-check_plain-in-CheckPlain-clause-answers :
+    goal.returns-in_err-check_plain-in-CheckPlain-clause-answers
 returns-in_err-check_plain-in-CheckPlain-clause-answers g c =
     let found = c.in_err-check_plain-in-CheckPlain.field-0.0 in
     at_exit _ _ (text_fault found) c.from_residual-in_err-check_plain-in-CheckPlain.ensures.1
@@ -28,8 +29,10 @@ pub returns-in_err-replay_up_to-in-Replay-clause-answers : goal.returns-in_err-r
 returns-in_err-replay_up_to-in-Replay-clause-answers g c =
     let found = c.in_err-replay_up_to-in-Replay.field-0.0 in
     at_exit _ _ (replay_fault found) c.from_residual-in_err-replay_up_to-in-Replay.ensures.1
-    (replay_answers _ _ _ _ c.in-Replay.is (Err found) c.in_err-replay_up_to-in-Replay.ensures.config c.in_err-replay_up_to-in-Replay.ensures.replays)
+    (replay_answers _ _ _ _ c.in-Replay.is (Err found) c.in_err-replay_up_to-in-Replay.ensures.config
+    c.in_err-replay_up_to-in-Replay.ensures.replays)
 
 pub returns-in_ok-replay_up_to-in-Replay-clause-answers : goal.returns-in_ok-replay_up_to-in-Replay-clause-answers
 returns-in_ok-replay_up_to-in-Replay-clause-answers g c =
-    replay_answers _ _ _ _ c.in-Replay.is (Ok _) c.in_ok-replay_up_to-in-Replay.ensures.config c.in_ok-replay_up_to-in-Replay.ensures.replays
+    replay_answers _ _ _ _ c.in-Replay.is (Ok _) c.in_ok-replay_up_to-in-Replay.ensures.config
+    c.in_ok-replay_up_to-in-Replay.ensures.replays

@@ -1,4 +1,4 @@
--- What becomes of the fact is decided by whether it is a goodbye, and by the room that is left.
+-- What becomes of the fact is decided by whether it is a BYE, and by the room that is left.
 use Rattle.std.proofs.Common.{rules, arith, ◌∙◌}
 use Rattle.rtcp_wire.specs.Facts.{subject}
 use Rattle.rtcp_members.proofs.sorted.Rising.{rising_apart}

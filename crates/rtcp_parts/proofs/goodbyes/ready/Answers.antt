@@ -1,4 +1,4 @@
--- The walk is in the next goodbye with sources, or none is left.
+-- The walk is in the next BYE with sources, or none is left.
 use Rattle.std.proofs.Common.{◌+◌, length, refl, arith}
 use Rattle.rtcp_parts.specs.declared.cursor.Cursor.{Cursor}
 use Rattle.rtcp_parts.proofs.GoodbyeWalks.{at_first_source, none_in, with_sources}

@@ -1,6 +1,6 @@
 use Rattle.rtcp_source.proofs.Summing.{same_figures}
 use Rattle.rtcp_source.specs.Blocks.{lsr_of, dlsr_of}
-use Rattle.rtcp_source.specs.Summary.{ToldValue, last_told}
+use Rattle.rtcp_source.specs.Summary.{LastReportValue, last_report_of}
 use Rattle.rtcp_source.specs.Packets.{run_of, PacketRun}
 use Rattle.std.proofs.Common.{Option}
 use Rattle.rtcp_source.proofs.laws.reception_is_that_of_blocks.Goals as goal
@@ -8,5 +8,5 @@ use Rattle.rtcp_source.proofs.laws.reception_is_that_of_blocks.Goals as goal
 pub returns-clause-figures : goal.returns-clause-figures
 returns-clause-figures c ssrc t given =
     let run : PacketRun = run_of given in
-    let told : Option ToldValue = last_told given in
-    same_figures run.counted run.reported ssrc (lsr_of told) (dlsr_of told t)
+    let last_report : Option LastReportValue = last_report_of given in
+    same_figures run.counted run.reported ssrc (lsr_of last_report) (dlsr_of last_report t)

@@ -6,7 +6,7 @@ use Rattle.jalwedd_host.proofs.handle.Handle.put_back.Goals as goal
 pub returns-in-Ok-clause-shown : goal.returns-in-Ok-clause-shown
 returns-in-Ok-clause-shown c start history leads =
     let same : c.args.session.value ≡ c.deref.result.now = cc in
-    c.step_told.ensures.shown start history (leads_as _ _ start history same leads)
+    c.step_after.ensures.shown start history (leads_as _ _ start history same leads)
 
 pub returns-in-Err-OwnSsrc-clause-shown : goal.returns-in-Err-OwnSsrc-clause-shown
 returns-in-Err-OwnSsrc-clause-shown c start history leads =

@@ -5,7 +5,7 @@ use Rattle.rtcp_engine.specs.Histories.{History, session_at, with_act}
 use Rattle.rtcp_engine.specs.Lives.{step_into}
 use Rattle.rtcp_engine.specs.States.{Acts, IsIn, ParticipantValue, StandsAt}
 use Rattle.rtcp_engine.specs.Steps.{OutValue}
-use Rattle.rtcp_engine.specs.Views.{datagram_of, out_in, told_value}
+use Rattle.rtcp_engine.specs.Views.{datagram_of, out_in, written_step_value}
 use Rattle.rtcp_engine.proofs.ActLemmas.{IsTaken, acted_stands, acted_step, answered, promised}
 use Rattle.rtcp_engine.proofs.Arriving.{changing, is_own, may_is}
 use Rattle.rtcp_engine.proofs.Changing.{or_none}
@@ -37,9 +37,10 @@ returns-clause-takes g c =
     let after : (h : History) → StandsAt p h → StandsAt q (with_act h act) = λ h stands. acted_stands h
     (Some new) stands (changes h stands) c.ranges.w.fits (there h stands) c.change-out.ensures.calls acts in
     promised (λ h stands. answered h act _ (changes h stands).taken
-    (acted_step h (Some new) bye (told_value octets c.told-told.result) (changes h stands) (there h stands) acts
+    (acted_step h (Some new) bye (written_step_value octets c.written_step-told.result) (changes h stands)
+    (there h stands) acts
     (after h stands) (c.change-out.ensures.out (session_at h) stands.session)
-    (λ life at. c.told-told.ensures.exact octets life at
+    (λ life at. c.written_step-told.ensures.exact octets life at
     ∙ ap (λ (out : Option OutValue). step_into q.presence.setup out c.take_datagram-others_changed.result
     life) (sym (or_none bye)))))
     (λ h stands. subst (StandsAt q) (taken_history h act (changes h stands).taken) (after h stands))

@@ -18,7 +18,7 @@ returns-clause-takes g c peer w room fits =
     (sym (ap (λ (s : Setup). is_about s.ssrc datagram) h.session.setup) ∙ c.requires.other))
     (subst (λ (x : ParticipantValue). Acts x c.take_datagram-others_changed.new.self act None
     c.take_datagram-others_changed.result) c.take_call.ensures.new
-    (c.take_datagram-others_changed.ensures.new peer w)) (c.told.ensures.exact room) fits
+    (c.take_datagram-others_changed.ensures.new peer w)) (c.written_step.ensures.exact room) fits
 
 pub returns-in-Present-clause-takes : goal.returns-in-Present-clause-takes
 returns-in-Present-clause-takes g c peer w room fits =
@@ -30,4 +30,4 @@ returns-in-Present-clause-takes g c peer w room fits =
     (sym (ap (λ (s : Setup). is_about s.ssrc datagram) h.session.setup) ∙ c.requires.other))
     (subst (λ (x : ParticipantValue). Acts x c.take_in_session-others_changed.new.self act None
     c.take_in_session-others_changed.result) c.take_call.ensures.new
-    (c.take_in_session-others_changed.ensures.new peer w)) (c.told_in_session.ensures.exact room) fits
+    (c.take_in_session-others_changed.ensures.new peer w)) (c.written_step_in_session.ensures.exact room) fits

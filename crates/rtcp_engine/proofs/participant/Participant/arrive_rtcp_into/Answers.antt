@@ -23,7 +23,7 @@ pub returns-then-is_named_by : goal.returns-then-is_named_by
 returns-then-is_named_by g c = record {
   takes = as_compound (Ok c.in-Ok.compound) c.in-Ok.ensures.accepted c.arrive_as_own.ensures.takes;
   spares = c.arrive_as_own.ensures.spares;
-  tells = c.arrive_as_own.ensures.tells;
+  writes = c.arrive_as_own.ensures.writes;
 }
 
 pub returns : goal.returns

@@ -23,5 +23,5 @@ returns-clause-replies g c =
     replied (alone (takes _ (plain_call c.args.self.now act (sym c.refusal.ensures.exact ∙ c.in_default.is)
     (λ session. ap (option_map Settings) (sym c.error.ensures ∙ c.in_default-error.is)) (λ session. refl))
     (outside_at (λ (p : ParticipantValue). configured p.presence.latest (settings_value c.args.settings.now))
-    c.take_call.ensures.new c.take_settings.ensures.new) (c.told-told.ensures.exact c.args.octets.now) tt))
-    c.take_settings.ensures.within c.told-told.ensures.standing c.told-told.ensures.out leaves_all
+    c.take_call.ensures.new c.take_settings.ensures.new) (c.written_step-told.ensures.exact c.args.octets.now) tt))
+    c.take_settings.ensures.within c.written_step-told.ensures.standing c.written_step-told.ensures.out leaves_all

@@ -14,5 +14,5 @@ returns-clause-replies g c =
     replied (alone (takes _ (plain_call c.args.self.now act (sym c.refusal.ensures.exact ∙ c.in_default.is)
     (λ session. refl) (λ session. refl))
     (outside_at (λ (x : ParticipantValue). forgotten x.presence.latest c.args.ssrc) c.take_call.ensures.new
-    c.take_forget-others_changed.ensures.new) (c.told.ensures.exact c.args.octets.now) c.ranges.ssrc.fits))
-    c.take_forget-others_changed.ensures.within c.told.ensures.standing c.told.ensures.out leaves_all
+    c.take_forget-others_changed.ensures.new) (c.written_step.ensures.exact c.args.octets.now) c.ranges.ssrc.fits))
+    c.take_forget-others_changed.ensures.within c.written_step.ensures.standing c.written_step.ensures.out leaves_all

@@ -12,5 +12,5 @@ returns-clause-replies g c =
     let act = rtp_sent c.args.now c.args.rtp_ts c.args.size in
     replied (alone (takes _ (plain_call c.args.self.now act (sym c.refusal.ensures.exact ∙ c.in_default.is)
     (λ session. refl) (λ session. refl)) (outside c.take_call.ensures.new c.take_sent.ensures.new)
-    (c.told.ensures.exact c.args.octets.now) (c.ranges.rtp_ts.fits, c.ranges.size.fits)))
-    c.take_sent.ensures.within c.told.ensures.standing c.told.ensures.out leaves_all
+    (c.written_step.ensures.exact c.args.octets.now) (c.ranges.rtp_ts.fits, c.ranges.size.fits)))
+    c.take_sent.ensures.within c.written_step.ensures.standing c.written_step.ensures.out leaves_all

@@ -1,14 +1,14 @@
 use Rattle.std.proofs.Common.{option_map, ap}
 use Rattle.rtcp_members.specs.ListViews.{state_value}
-use Rattle.rtcp_engine.specs.Lives.{TellsInLife}
+use Rattle.rtcp_engine.specs.Lives.{ListsInLife}
 use Rattle.rtcp_engine.specs.Views.{phase_value}
 use Rattle.rtcp_engine.proofs.ActLemmas.{said_present}
-use Rattle.rtcp_engine.proofs.Agreeing.{tells_agree}
+use Rattle.rtcp_engine.proofs.Agreeing.{lists_agree}
 use Rattle.rtcp_engine.proofs.participant.Participant.source_above.Goals as goal
 
 pub returns-in-Present : goal.returns-in-Present
 returns-in-Present g c =
-    let told = option_map state_value c.source_above.result in
+    let listed = option_map state_value c.source_above.result in
     said_present c.self.view_is (ap phase_value c.in-Present.is)
-    (λ setup life. TellsInLife setup c.args.after life told)
-    (λ outcome agrees. tells_agree _ outcome agrees c.args.after told c.source_above.ensures)
+    (λ setup life. ListsInLife setup c.args.after life listed)
+    (λ outcome agrees. lists_agree _ outcome agrees c.args.after listed c.source_above.ensures)

@@ -7,6 +7,6 @@ use Rattle.rtcp_engine.proofs.participant.Participant.take_datagram.Goals as goa
 
 pub returns-in-Rtcp-clause-new : goal.returns-in-Rtcp-clause-new
 returns-in-Rtcp-clause-new g c peer word =
-    subst (λ (arrival : Arrival). Acts c.args.self.now c.count_farewell.new.self
+    subst (λ (arrival : Arrival). Acts c.args.self.now c.count_byes_of.new.self
     (arrived c.args.now peer word (datagram_of arrival)) None false) (sym c.in-Rtcp.is)
-    (c.count_farewell.ensures.new c.args.now peer word)
+    (c.count_byes_of.ensures.new c.args.now peer word)

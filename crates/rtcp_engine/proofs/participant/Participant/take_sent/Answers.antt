@@ -15,6 +15,6 @@ returns-in-BackingOff-clause-new g c =
     acts_passing (λ settings. refl) _ c.self.view_is (ap phase_value c.in-BackingOff.is)
     (λ setup outcome backoff. refl) (λ setup outcome backoff. refl)
 
-pub returns-in-Gone-clause-new : goal.returns-in-Gone-clause-new
-returns-in-Gone-clause-new g c =
-    acts_gone (λ settings. refl) c.self.view_is (ap phase_value c.in-Gone.is)
+pub returns-in-Finished-clause-new : goal.returns-in-Finished-clause-new
+returns-in-Finished-clause-new g c =
+    acts_gone (λ settings. refl) c.self.view_is (ap phase_value c.in-Finished.is)

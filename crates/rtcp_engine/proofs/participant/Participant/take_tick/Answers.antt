@@ -12,9 +12,9 @@ returns-in-Present-clause-new g c =
     (acts_present (λ settings. refl) phase phase refl c.tick.ensures.new (λ setup outcome. refl) c.tick.ensures.report
     c.tick.ensures.moved)
 
-pub returns-in-Gone-clause-new : goal.returns-in-Gone-clause-new
-returns-in-Gone-clause-new g c =
-    acts_gone (λ settings. refl) c.self.view_is (ap phase_value c.in-Gone.is)
+pub returns-in-Finished-clause-new : goal.returns-in-Finished-clause-new
+returns-in-Finished-clause-new g c =
+    acts_gone (λ settings. refl) c.self.view_is (ap phase_value c.in-Finished.is)
 
 pub returns-in-BackingOff-clause-new : goal.returns-in-BackingOff-clause-new
 returns-in-BackingOff-clause-new g c = c.try_bye.ensures.new c.args.w2

@@ -15,5 +15,5 @@ returns g c =
     replied (alone (takes _ (plain_call c.args.self.now act (sym c.refusal.ensures.exact ∙ c.in_default.is)
     (λ session. refl) (λ session. refl))
     (outside_at (λ (x : ParticipantValue). ticked x.presence.latest c.args.w1 c.args.w2) c.take_call.ensures.new
-    brought.new) (c.told.ensures.exact c.take_tick-brought.new.octets) (c.ranges.w1.fits, c.ranges.w2.fits)))
-    brought.within c.told.ensures.standing c.told.ensures.out brought.leaves
+    brought.new) (c.written_step.ensures.exact c.take_tick-brought.new.octets) (c.ranges.w1.fits, c.ranges.w2.fits)))
+    brought.within c.written_step.ensures.standing c.written_step.ensures.out brought.leaves

@@ -1,6 +1,6 @@
 use Rattle.std.proofs.Common.{◌∙◌, Bool, Some, None, if◌then◌else◌, refl, ap, sym, subst}
 use Rattle.rtcp_engine.specs.Acts.{ticked}
-use Rattle.rtcp_engine.specs.Leaving.{backing_off, gone, after_wait}
+use Rattle.rtcp_engine.specs.Leaving.{backing_off, finished, after_wait}
 use Rattle.rtcp_engine.specs.Lives.{bye_out}
 use Rattle.rtcp_engine.specs.Reporting.{bye_octets}
 use Rattle.rtcp_engine.specs.Setups.{Setup}
@@ -22,7 +22,7 @@ returns-then-not-expire_backoff-clause-new g c w2 =
     (acts_from_backoff (λ settings. refl) c.args.members phase c.expire_backoff.ensures.new.stays refl
     (λ outcome backoff waits count.
     let due = sym (c.expire_backoff.ensures.due outcome backoff waits count) ∙ c.if-not-expire_backoff.true in
-    subst (λ (b : Bool). IsAt q (if b then gone outcome else backing_off outcome
+    subst (λ (b : Bool). IsAt q (if b then finished outcome else backing_off outcome
     (after_wait setup c.self.inside.presence.latest c.args.w1 backoff))) (sym due) (
       phase ∙ ap leaving (count ∙ sym (wait_keeps_count setup c.self.inside.presence.latest c.args.w1 backoff)),
       c.expire_backoff.ensures.new.follows outcome backoff waits count,
@@ -43,7 +43,7 @@ returns-clause-new g c w2 =
     (acts_from_backoff (λ settings. refl) c.args.members phase c.expire_backoff.ensures.new.stays refl
     (λ outcome backoff waits count.
     let due = sym (c.expire_backoff.ensures.due outcome backoff waits count) ∙ c.if-not-expire_backoff.false in
-    subst (λ (b : Bool). IsAt q (if b then gone outcome else backing_off outcome
+    subst (λ (b : Bool). IsAt q (if b then finished outcome else backing_off outcome
     (after_wait setup c.self.inside.presence.latest c.args.w1 backoff))) (sym due) refl)
     (λ outcome backoff waits count.
     c.write_bye.ensures.out ∙ ap (λ (st : Setup). Some (bye_out (bye_octets st)))

@@ -2,15 +2,15 @@
 use Rattle.std.proofs.Common.{◌≡◌, ◌<◌, ℕ, List, ◌∷◌, length, Option, Some, option_map, Bor, sym, ap, ◌∙◌, arith}
 use Rattle.rtcp_members.specs.ListViews.{state_value}
 use Rattle.rtcp_members.specs.Tables.{TableValue}
-use Rattle.rtcp_members.specs.Told.{StateValue, state_above, states_of}
-use Rattle.rtcp_members.proofs.telling.Above.{told_more}
+use Rattle.rtcp_members.specs.Listings.{StateValue, state_above, states_of}
+use Rattle.rtcp_members.proofs.listing.Above.{listed_more}
 use Rattle.rtcp_members.proofs.sources.SourcesIterator.next.Goals as goal
 
 first_of : (after : Option ℕ) (asked : Option TableValue) (left : List StateValue) (table : TableValue)
     (state : StateValue) → states_of after asked ≡ left → asked ≡ Some table → Some state ≡ state_above after table
     → left ≡ state ∷ states_of (Some state.ssrc) asked
 first_of after asked left table state view is first =
-    sym view ∙ ap (states_of after) is ∙ told_more after table state (sym first)
+    sym view ∙ ap (states_of after) is ∙ listed_more after table state (sym first)
     ∙ ap (λ (o : Option TableValue). state ∷ states_of (Some state.ssrc) o) (sym is)
 
 one_fewer : (old new : List StateValue) (state : StateValue) → old ≡ state ∷ new → length new < length old

@@ -10,7 +10,8 @@ pub returns-in_err-hear-clause-leads : goal.returns-in_err-hear-clause-leads
 returns-in_err-hear-clause-leads g c = λ run left s reads holds has.
     let (moment, called, counts) = c.read_clock.ensures.called in
     let begun = turn_clocked run left moment s _ _ _ _ holds has called counts in
-    let one = walks_as begun.turns (walks_on begun (c.hear.ensures.leads run begun.reached reads begun.holds begun.ends)) in
+    let one = walks_as begun.turns
+    (walks_on begun (c.hear.ensures.leads run begun.reached reads begun.holds begun.ends)) in
     walks_to one (stops (λ r. Reaches (hearing RtpPort) r one.reached) (λ r. Reaches resting r one.reached)
     c.from_residual.result c.in_err-hear.was c.from_residual.ensures.1 (λ is. is) one.ends)
 
@@ -27,7 +28,8 @@ pub returns-in_err-hear-2-clause-leads : goal.returns-in_err-hear-2-clause-leads
 returns-in_err-hear-2-clause-leads g c = λ run left s reads holds has.
     let (moment, called, counts) = c.read_clock.ensures.called in
     let begun = turn_clocked run left moment s _ _ _ _ holds has called counts in
-    let one = walks_as begun.turns (walks_on begun (c.hear.ensures.leads run begun.reached reads begun.holds begun.ends)) in
+    let one = walks_as begun.turns
+    (walks_on begun (c.hear.ensures.leads run begun.reached reads begun.holds begun.ends)) in
     let at = subst (λ r. Reaches (hearing RtpPort) r one.reached) c.in_ok-hear.was one.ends in
     let both = walks_as one.turns (walks_on one (c.hear-2.ensures.leads run one.reached reads one.holds at)) in
     walks_to both (stops (λ r. Reaches deciding r both.reached) (λ r. Reaches resting r both.reached)
@@ -49,7 +51,8 @@ pub returns-clause-leads : goal.returns-clause-leads
 returns-clause-leads g c = λ run left s reads holds has.
     let (moment, called, counts) = c.read_clock.ensures.called in
     let begun = turn_clocked run left moment s _ _ _ _ holds has called counts in
-    let one = walks_as begun.turns (walks_on begun (c.hear.ensures.leads run begun.reached reads begun.holds begun.ends)) in
+    let one = walks_as begun.turns
+    (walks_on begun (c.hear.ensures.leads run begun.reached reads begun.holds begun.ends)) in
     let at = subst (λ r. Reaches (hearing RtpPort) r one.reached) c.in_ok-hear.was one.ends in
     let both = walks_as one.turns (walks_on one (c.hear-2.ensures.leads run one.reached reads one.holds at)) in
     walks_as both.turns (walks_on both (c.tick.ensures.leads run both.reached both.holds

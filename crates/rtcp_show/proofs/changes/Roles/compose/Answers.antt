@@ -4,8 +4,8 @@ use Rattle.rtcp_engine.specs.Histories.{History, life_at, setup_at}
 use Rattle.rtcp_engine.specs.Lives.{WalksInLife}
 use Rattle.rtcp_listing.specs.Differences.{ListedValue, listed_of}
 use Rattle.rtcp_members.specs.ListViews.{state_value}
-use Rattle.rtcp_members.specs.Told.{StateValue}
-use Rattle.rtcp_show.specs.Changes.{ShowsChanges, told_changes}
+use Rattle.rtcp_members.specs.Listings.{StateValue}
+use Rattle.rtcp_show.specs.Changes.{ShowsChanges, shown_changes}
 use Rattle.rtcp_show.specs.Watchers.{listed_in}
 use Rattle.rtcp_show.proofs.LineLemmas.{map_twice}
 use Rattle.rtcp_show.proofs.changes.Roles.compose.Goals as goal
@@ -13,7 +13,7 @@ use Rattle.rtcp_show.proofs.changes.Roles.compose.Goals as goal
 shown :
     (told : Bool) (moment : ℕ) (history : History) (before : List ListedValue) (states : List StateValue)
     → WalksInLife (setup_at history) (life_at history) states
-    → ShowsChanges told moment history before (told_changes told moment before (map listed_of states))
+    → ShowsChanges told moment history before (shown_changes told moment before (map listed_of states))
 shown true moment history before states walk = (states, walk, refl)
 shown false moment history before states walk = refl
 
@@ -22,11 +22,11 @@ returns-clause-composed g c = λ history stands.
     let listed = c.push_listing.new.listing.items in
     let states = map state_value listed in
     let before = listed_in c.args.self.now in (
-      told_changes c.args.told c.args.moment before (map listed_of states),
+      shown_changes c.args.told c.args.moment before (map listed_of states),
       shown c.args.told c.args.moment history before states (c.in_ok-push_listing.ensures history stands),
       rw (
         map_twice state_value listed_of listed,
-        c.in_ok-push_if_told.ensures,
+        c.in_ok-push_if_shown.ensures,
         c.deref.ensures.value,
         c.deref-2.ensures.value,
       ) refl,

@@ -4,7 +4,7 @@ use Rattle.std.proofs.KnownBytes.{Appends-nil}
 use Rattle.rtcp_engine.specs.Histories.{History}
 use Rattle.rtcp_engine.specs.Views.{event_value}
 use Rattle.rtcp_listing.specs.Differences.{ListedValue}
-use Rattle.rtcp_show.specs.Changes.{ShowsChanges, is_dismissal}
+use Rattle.rtcp_show.specs.Changes.{ShowsChanges, is_forgetting}
 use Rattle.rtcp_show.proofs.page.Page.show_changes.Goals as goal
 
 untold : (told : Bool) → (moment : ℕ) → (history : History) → (before : List ListedValue) → told ≡ false
@@ -16,7 +16,7 @@ pub returns-then-not-lists_anew-clause-written : goal.returns-then-not-lists_ane
 returns-then-not-lists_anew-clause-written g c = λ history stands. (
   [],
   untold _ _ history _ (
-      ap (λ anew. anew && not (is_dismissal (event_value c.args.event.now)))
+      ap (λ anew. anew && not (is_forgetting (event_value c.args.event.now)))
       (sym c.lists_anew.ensures ∙ c.if-not-lists_anew.true)
       ),
   Appends-nil _,

@@ -1,0 +1,17 @@
+-- What is told is what was given.
+use Rattle.std.proofs.Common.{Ok, ap, ◌∙◌}
+use Rattle.jalwedd_host.proofs.Walking.{refused, told, untold}
+use Rattle.jalwedd_host.proofs.walks.show_next.Goals as goal
+
+pub returns-in-Ok-Some-clause-tells : goal.returns-in-Ok-Some-clause-tells
+returns-in-Ok-Some-clause-tells g c =
+    told c.in-Ok-Some.part c.args.place.now c.shown.result
+    (λ part gave. (c.in-Ok-Some.part, gave, c.shown.ensures.shows))
+    (c.in-Ok-Some.is ∙ ap Ok c.in-Ok-Some.field-0-is) c.next.ensures.gives
+
+pub returns-in-Ok-None-clause-tells : goal.returns-in-Ok-None-clause-tells
+returns-in-Ok-None-clause-tells g c =
+    untold c.args.place.now (c.in-Ok-None.is ∙ ap Ok c.in-Ok-None.field-0-is) c.next.ensures.gives
+
+pub returns-in-Err-clause-tells : goal.returns-in-Err-clause-tells
+returns-in-Err-clause-tells g c = refused c.in-Err.field-0 c.args.place.now c.in-Err.is c.next.ensures.gives

@@ -1,5 +1,0 @@
-use Rattle.rtcp_engine.proofs.Keeping.{others_kept}
-use Rattle.rtcp_engine.proofs.difference_laws.others_change_where_told.Goals as goal
-
-pub returns : goal.returns
-returns c = others_kept

@@ -1,0 +1,13 @@
+use Rattle.std.proofs.Common.{None, ap}
+use Rattle.rtcp_engine.specs.declared.step.Standing.{Standing}
+use Rattle.rtcp_engine.specs.Views.{written_step_value}
+use Rattle.rtcp_engine.proofs.participant.Participant.written_step.Goals as goal
+
+pub returns-clause-exact : goal.returns-clause-exact
+returns-clause-exact g c octets life at =
+    ap (λ (standing : Standing). written_step_value octets (record {
+      standing = standing;
+      changed = None;
+      others_changed = c.args.brought.others_changed;
+      out = c.args.brought.out;
+    })) (c.standing.ensures.in_life life at)

@@ -1,5 +1,0 @@
-use Rattle.rtcp_engine.proofs.StepLemmas.{hears}
-use Rattle.rtcp_engine.proofs.presence.Presence.hear_farewell.Goals as goal
-
-pub returns-clause-waits : goal.returns-clause-waits
-returns-clause-waits g c = hears c.self.view_is c.add.new.self c.args.size c.add.ensures.moves
