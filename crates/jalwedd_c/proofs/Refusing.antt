@@ -2,7 +2,7 @@
 use Rattle.std.proofs.Common.{◌≡◌, ◌<◌, ◌^◌, ℕ, List, Option, Some, None, option_map, ap, ◌∙◌, arith}
 use Rattle.std.specs.Option.{option_or}
 use Rattle.std.proofs.lemmas.Bool.Decides.{nat_tests}
-use Rattle.rtcp_engine.specs.Refused.{error_in}
+use Rattle.rtcp_engine.specs.answers.Refused.{error_in}
 use Rattle.jalwedd_host.specs.declared.config.Config.{Config}
 use Rattle.jalwedd_host.specs.declared.config.Item.{Item as ItemGiven}
 use Rattle.jalwedd_host.specs.Configs.{oversize, refusal_of, refusal_of_setup, refusal_of_start}

@@ -2,12 +2,12 @@
 use Rattle.std.proofs.Common.{◌≡◌, ◌+◌, ℕ, List, Option, Some, Result, sym, ap, subst, ◌∙◌, arith}
 use Rattle.rtcp_engine.specs.declared.refusal.Refusal.{Refusal}
 use Rattle.rtcp_engine.specs.declared.step.WrittenStep.{WrittenStep}
-use Rattle.rtcp_engine.specs.Acts.{EventValue, IsActOfEvent}
-use Rattle.rtcp_engine.specs.Answers.{answer_of, followed_by}
-use Rattle.rtcp_engine.specs.Histories.{History}
-use Rattle.rtcp_engine.specs.Promises.{Replies}
-use Rattle.rtcp_engine.specs.Runs.{IsAnsweredInTime}
-use Rattle.rtcp_engine.specs.Views.{reply_value}
+use Rattle.rtcp_engine.specs.answers.Acts.{EventValue, IsActOfEvent}
+use Rattle.rtcp_engine.specs.answers.Answers.{answer_of, followed_by}
+use Rattle.rtcp_engine.specs.answers.Histories.{History}
+use Rattle.rtcp_engine.specs.state.Promises.{Replies}
+use Rattle.rtcp_engine.specs.bounds.Runs.{IsAnsweredInTime}
+use Rattle.rtcp_engine.specs.state.Views.{reply_value}
 use Rattle.jalwedd_host.specs.declared.session.HostSession.{HostSession}
 use Rattle.jalwedd_host.specs.declared.step.HostStep.{HostStep}
 use Rattle.jalwedd_host.specs.Answers.{HandsOut, Shows, status_of}

@@ -1,8 +1,8 @@
 //! The begin of a participant, and its end.
 
 ghost use Rattle.std.specs.Prelude.{◌≡◌, ◌≢◌, ◌⊎◌, ℕ, Some, None};
-ghost use Rattle.rtcp_engine.specs.Histories.{History};
-ghost use Rattle.rtcp_engine.specs.Taken.{begun};
+ghost use Rattle.rtcp_engine.specs.answers.Histories.{History};
+ghost use Rattle.rtcp_engine.specs.state.Taken.{begun};
 ghost use Rattle.jalwedd_host.specs.Answers.{HandsNothing, Shows};
 ghost use Rattle.jalwedd_host.specs.Configs.{refusal_of, setup_given};
 ghost use Rattle.jalwedd_host.specs.Handles.{Leads};

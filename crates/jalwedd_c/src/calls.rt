@@ -2,8 +2,8 @@
 //! leave. Each is told what the host's clock shows, and counts from the start.
 
 ghost use Rattle.std.specs.Prelude.{◌≡◌, ◌≤◌, ◌<◌, ℕ, Some, None, length};
-ghost use Rattle.rtcp_engine.specs.Acts.{forget_asked, leave_asked, packet_sent, rtcp_arrived, rtp_arrived, time_passed};
-ghost use Rattle.rtcp_engine.specs.Acts.{settings_given as settings_told};
+ghost use Rattle.rtcp_engine.specs.answers.Acts.{forget_asked, leave_asked, packet_sent, rtcp_arrived, rtp_arrived, time_passed};
+ghost use Rattle.rtcp_engine.specs.answers.Acts.{settings_given as settings_told};
 ghost use Rattle.jalwedd_host.specs.Configs.{oversize_of_settings, settings_given};
 ghost use Rattle.jalwedd_host.specs.Promises.{SparesSession, TellsSession, TurnsAway};
 

@@ -1,8 +1,8 @@
 //! What a handle tells at any time.
 
 ghost use Rattle.std.specs.Prelude.{◌≡◌, ◌^◌, ◌-◌, ◌↔◌, ℕ, Option, Some, None};
-ghost use Rattle.rtcp_engine.specs.Histories.{History, life_at, setup_at};
-ghost use Rattle.rtcp_engine.specs.Lives.{members_in_life, senders_in_life, entries_in_life, next_in_life, ListsInLife};
+ghost use Rattle.rtcp_engine.specs.answers.Histories.{History, life_at, setup_at};
+ghost use Rattle.rtcp_engine.specs.answers.Lives.{members_in_life, senders_in_life, entries_in_life, next_in_life, ListsInLife};
 ghost use Rattle.jalwedd_host.specs.Answers.{moment_shown};
 ghost use Rattle.rtcp_members.specs.Listings.{StateValue};
 ghost use Rattle.jalwedd_host.specs.Handles.{LeadsTo};

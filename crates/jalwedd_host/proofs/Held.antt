@@ -1,7 +1,7 @@
 -- What a handle holds leads to the history of its participant.
 use Rattle.std.proofs.Common.{◌≡◌, ◌<◌, ◌^◌, ℕ, Option, Some, None, subst}
-use Rattle.rtcp_engine.specs.Histories.{History}
-use Rattle.rtcp_engine.specs.Taken.{IsHistory}
+use Rattle.rtcp_engine.specs.answers.Histories.{History}
+use Rattle.rtcp_engine.specs.state.Taken.{IsHistory}
 use Rattle.jalwedd_host.specs.declared.session.HostSession.{HostSession}
 use Rattle.jalwedd_host.specs.Handles.{Leads, LeadsTo}
 

@@ -2,11 +2,11 @@
 use Rattle.std.proofs.Common.{◌≡◌, ◌↔◌, ◌≤◌, ◌<◌, ◌+◌, ◌-◌, ◌^◌, ℕ, Option, Some, None, IfSome, refl, sym, subst, ◌∙◌, arith}
 use Rattle.rtcp_members.specs.Listings.{StateValue}
 use Rattle.rtcp_members.proofs.LawLemmas as tables
-use Rattle.rtcp_engine.specs.Histories.{History, last_moment, life_at, setup_at}
-use Rattle.rtcp_engine.specs.Leaving.{Life, present, backing_off, finished}
-use Rattle.rtcp_engine.specs.Lives.{ListsInLife}
-use Rattle.rtcp_engine.specs.Setups.{Setup}
-use Rattle.rtcp_engine.specs.Taken.{IsHistory}
+use Rattle.rtcp_engine.specs.answers.Histories.{History, last_moment, life_at, setup_at}
+use Rattle.rtcp_engine.specs.answers.Leaving.{Life, present, backing_off, finished}
+use Rattle.rtcp_engine.specs.answers.Lives.{ListsInLife}
+use Rattle.rtcp_engine.specs.answers.Setups.{Setup}
+use Rattle.rtcp_engine.specs.state.Taken.{IsHistory}
 use Rattle.rtcp_engine.proofs.LawLemmas as engine
 use Rattle.jalwedd_host.specs.declared.source.HostSource.{HostSource}
 use Rattle.jalwedd_host.specs.Answers.{moment_shown}

@@ -3,9 +3,9 @@ use Rattle.std.proofs.Common.{◌≡◌, ◌<◌, ◌+◌, ◌-◌, ◌^◌, ◌
 use Rattle.std.proofs.lemmas.List.{length-take-le, take-append-drop}
 use Rattle.rtcp_engine.specs.declared.step.Standing.{Standing}
 use Rattle.rtcp_engine.specs.declared.step.Written.{Written}
-use Rattle.rtcp_engine.specs.Histories.{History}
-use Rattle.rtcp_engine.specs.Promises.{SaysStanding}
-use Rattle.rtcp_engine.specs.Views.{LeavesRest, out_in, size_written}
+use Rattle.rtcp_engine.specs.answers.Histories.{History}
+use Rattle.rtcp_engine.specs.state.Promises.{SaysStanding}
+use Rattle.rtcp_engine.specs.state.Views.{LeavesRest, out_in, size_written}
 use Rattle.jalwedd_host.specs.declared.session.HostSession.{HostSession}
 use Rattle.jalwedd_host.specs.declared.step.HostStep.{HostStep}
 use Rattle.jalwedd_host.specs.Answers.{Shows, ShowsStanding, kind_shown, number_written, octets_of}

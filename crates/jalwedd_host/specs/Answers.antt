@@ -6,10 +6,10 @@ use Rattle.rtcp_engine.specs.declared.step.OutKind.{OutKind}
 use Rattle.rtcp_engine.specs.declared.step.OutKind.TheVariants.{Report, Bye}
 use Rattle.rtcp_engine.specs.declared.step.Standing.{Standing}
 use Rattle.rtcp_engine.specs.declared.step.Written.{Written}
-use Rattle.rtcp_engine.specs.Histories.{History, life_at, setup_at}
-use Rattle.rtcp_engine.specs.Leaving.{Life}
-use Rattle.rtcp_engine.specs.Lives.{next_in_life, standing_in_life}
-use Rattle.rtcp_engine.specs.Steps.{OutValue, AnswerValue}
+use Rattle.rtcp_engine.specs.answers.Histories.{History, life_at, setup_at}
+use Rattle.rtcp_engine.specs.answers.Leaving.{Life}
+use Rattle.rtcp_engine.specs.answers.Lives.{next_in_life, standing_in_life}
+use Rattle.rtcp_engine.specs.answers.Steps.{OutValue, AnswerValue}
 use Rattle.jalwedd_host.specs.declared.step.HostStep.{HostStep}
 use Rattle.jalwedd_host.specs.Configs.{status_of_error}
 

@@ -5,8 +5,8 @@ use Rattle.std.specs.Option.{option_or}
 use Rattle.rtcp_wire.specs.Values.{ItemValue}
 use Rattle.rtcp_engine.specs.declared.config.ConfigError.{ConfigError}
 use Rattle.rtcp_engine.specs.declared.config.ConfigError.TheVariants.{Cname, Capacity, Limit, Bandwidth, Rate, Item}
-use Rattle.rtcp_engine.specs.Setups.{ClockValue, SettingsValue, Setup}
-use Rattle.rtcp_engine.specs.Refused.{error_in}
+use Rattle.rtcp_engine.specs.answers.Setups.{ClockValue, SettingsValue, Setup}
+use Rattle.rtcp_engine.specs.answers.Refused.{error_in}
 use Rattle.jalwedd_host.specs.declared.config.Clock.{Clock as ClockGiven}
 use Rattle.jalwedd_host.specs.declared.config.Config.{Config}
 use Rattle.jalwedd_host.specs.declared.config.Item.{Item as ItemGiven}

@@ -1,7 +1,7 @@
 -- What a handle holds: a participant, or nothing.
 use Rattle.std.specs.Prelude.{ℕ, ◌≡◌, ◌<◌, ◌^◌, Option, Some, None}
-use Rattle.rtcp_engine.specs.Histories.{History}
-use Rattle.rtcp_engine.specs.States.{StandsAt, KeepsCapacity}
+use Rattle.rtcp_engine.specs.answers.Histories.{History}
+use Rattle.rtcp_engine.specs.state.States.{StandsAt, KeepsCapacity}
 use Rattle.jalwedd_host.specs.declared.session.HostSession.{HostSession}
 
 -- The participant of a session equals the one computed from a whole history, whose moments the session counts from this

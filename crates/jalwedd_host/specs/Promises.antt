@@ -1,9 +1,9 @@
 -- What a call of a session promises to a host in C.
 use Rattle.std.specs.Prelude.{ℕ, ◌≡◌, ◌≢◌, ◌⊎◌, ◌+◌, ◌<◌, List, Option, Some, None}
-use Rattle.rtcp_engine.specs.Acts.{Act, EventValue, IsActOfEvent}
-use Rattle.rtcp_engine.specs.Answers.{answer_of, followed_by}
-use Rattle.rtcp_engine.specs.Histories.{History, life_at}
-use Rattle.rtcp_engine.specs.Runs.{IsAnsweredInTime}
+use Rattle.rtcp_engine.specs.answers.Acts.{Act, EventValue, IsActOfEvent}
+use Rattle.rtcp_engine.specs.answers.Answers.{answer_of, followed_by}
+use Rattle.rtcp_engine.specs.answers.Histories.{History, life_at}
+use Rattle.rtcp_engine.specs.bounds.Runs.{IsAnsweredInTime}
 use Rattle.jalwedd_host.specs.declared.session.HostSession.{HostSession}
 use Rattle.jalwedd_host.specs.declared.step.HostStep.{HostStep}
 use Rattle.jalwedd_host.specs.Answers.{HandsNothing, HandsOut, IsBlank, Shows, early_refusal, status_of, status_of_refusal}

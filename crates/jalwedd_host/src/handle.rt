@@ -2,10 +2,10 @@
 
 ghost use Rattle.std.specs.Prelude.{◌≡◌, ◌≤◌, ◌+◌, ℕ, IfOk, List, MatchOption, MatchResult, Option, Some, None};
 ghost use Rattle.rtcp_members.specs.Listings.{StateValue};
-ghost use Rattle.rtcp_engine.specs.Histories.{History, life_at, setup_at};
-ghost use Rattle.rtcp_engine.specs.Lives.{ListsInLife, entries_in_life};
-ghost use Rattle.rtcp_engine.specs.Promises.{SaysStanding};
-ghost use Rattle.rtcp_engine.specs.Views.{LeavesRest, out_written, reply_value, size_written};
+ghost use Rattle.rtcp_engine.specs.answers.Histories.{History, life_at, setup_at};
+ghost use Rattle.rtcp_engine.specs.answers.Lives.{ListsInLife, entries_in_life};
+ghost use Rattle.rtcp_engine.specs.state.Promises.{SaysStanding};
+ghost use Rattle.rtcp_engine.specs.state.Views.{LeavesRest, out_written, reply_value, size_written};
 ghost use Rattle.jalwedd_host.specs.Answers.{HandsNothing, HandsOut, IsBlank, Shows};
 ghost use Rattle.jalwedd_host.specs.Answers.{status_of};
 ghost use Rattle.jalwedd_host.specs.Handles.{Leads, LeadsTo};

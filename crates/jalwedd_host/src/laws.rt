@@ -10,10 +10,10 @@ ghost use Rattle.rtcp_wire.specs.declared.rtp.fault.RtpFault.{RtpFault as HeadRu
 ghost use Rattle.rtcp_wire.specs.Values.{AppValue, ItemValue, ReportBlock, RtcpPacket};
 ghost use Rattle.rtcp_members.specs.Listings.{StateValue};
 ghost use Rattle.rtcp_listing.specs.Differences.{listed_of};
-ghost use Rattle.rtcp_engine.specs.Histories.{History, life_at, setup_at};
-ghost use Rattle.rtcp_engine.specs.Lives.{ListsInLife};
-ghost use Rattle.rtcp_engine.specs.Setups.{with_settings};
-ghost use Rattle.rtcp_engine.specs.Taken.{IsHistory};
+ghost use Rattle.rtcp_engine.specs.answers.Histories.{History, life_at, setup_at};
+ghost use Rattle.rtcp_engine.specs.answers.Lives.{ListsInLife};
+ghost use Rattle.rtcp_engine.specs.answers.Setups.{with_settings};
+ghost use Rattle.rtcp_engine.specs.state.Taken.{IsHistory};
 ghost use Rattle.rtcp_listing.specs.declared.change.Change.{Change};
 ghost use Rattle.jalwedd_host.specs.declared.config.Config.{Config};
 ghost use Rattle.jalwedd_host.specs.declared.config.Item.{Item};

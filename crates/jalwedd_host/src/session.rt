@@ -1,9 +1,9 @@
 //! The participant that a handle holds, and what is told of it.
 
 ghost use Rattle.std.specs.Prelude.{◌≡◌, ◌≤◌, ◌<◌, ◌+◌, ℕ, List, Ok, MatchOption};
-ghost use Rattle.rtcp_engine.specs.Histories.{History, life_at};
-ghost use Rattle.rtcp_engine.specs.Promises.{SaysStanding};
-ghost use Rattle.rtcp_engine.specs.Views.{LeavesRest, reply_value, size_written};
+ghost use Rattle.rtcp_engine.specs.answers.Histories.{History, life_at};
+ghost use Rattle.rtcp_engine.specs.state.Promises.{SaysStanding};
+ghost use Rattle.rtcp_engine.specs.state.Views.{LeavesRest, reply_value, size_written};
 ghost use Rattle.jalwedd_host.specs.Answers.{HandsNothing, HandsOut, Shows, early_refusal};
 ghost use Rattle.jalwedd_host.specs.Handles.{Leads};
 

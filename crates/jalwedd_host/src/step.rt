@@ -1,7 +1,7 @@
 //! What a call tells of the participant.
 
 ghost use Rattle.std.specs.Prelude.{◌≡◌, ◌↔◌, ◌≤◌, ◌<◌, ◌+◌, ◌-◌, ◌^◌, ℕ, List, Ok, None, IfSome};
-ghost use Rattle.rtcp_engine.specs.Views.{LeavesRest, reply_value, size_written};
+ghost use Rattle.rtcp_engine.specs.state.Views.{LeavesRest, reply_value, size_written};
 ghost use Rattle.jalwedd_host.specs.Answers.{HandsNothing, HandsOut, IsBlank, ShowsStanding, moment_shown, number_written};
 
 use rtcp_engine::{OutKind, Standing, Written, WrittenStep};

@@ -4,9 +4,9 @@ use Rattle.std.specs.Io.KnownBytes.{Keeps}
 use Rattle.std.proofs.lemmas.Result.{err_from_is_err_and}
 use Rattle.rtcp_wire.specs.Values.{RtcpPacket}
 use Rattle.rtcp_plain.specs.Plain.{plain_text}
-use Rattle.rtcp_engine.specs.Refused.{error_in}
-use Rattle.rtcp_engine.specs.Taken.{begun}
-use Rattle.rtcp_engine.specs.Views.{setup_of}
+use Rattle.rtcp_engine.specs.answers.Refused.{error_in}
+use Rattle.rtcp_engine.specs.state.Taken.{begun}
+use Rattle.rtcp_engine.specs.state.Views.{setup_of}
 use Rattle.rtcp_engine.specs.declared.config.Config.{Config as ConfigOfCall}
 use Rattle.rtcp_engine.specs.declared.config.ConfigError.{ConfigError}
 use Rattle.rtcp_text.specs.Check.{Checks, IsTextOfBy}

@@ -2,8 +2,8 @@
 use Rattle.std.specs.Prelude.{◌≡◌, ℕ, ◌≤◌, ◌⊎◌, nat_le, ◌&&◌, ◌||◌, not, Bool, true, false, is_some, List, if◌then◌else◌, Option, Some, None, option_and_then, option_map, string_bytes, Result, Ok, Err, codes}
 use Rattle.std.specs.Option.{ok_or}
 use Rattle.std.specs.Str.{bytes_eq}
-use Rattle.rtcp_engine.specs.Setups.{Setup}
-use Rattle.rtcp_engine.specs.Views.{setup_of}
+use Rattle.rtcp_engine.specs.answers.Setups.{Setup}
+use Rattle.rtcp_engine.specs.state.Views.{setup_of}
 use Rattle.clap.specs.declared.parser.matches.Found.{Found}
 use Rattle.clap.specs.Matches.{first_value}
 use Rattle.rtcp_command.specs.declared.orders.ListenOrder.{ListenOrder}

@@ -6,8 +6,8 @@ use Rattle.std.specs.Option.{ok_or}
 use Rattle.clap.specs.declared.parser.matches.Found.{Found}
 use Rattle.clap.specs.Matches.{first_value, matched_of, raw_values}
 use Rattle.rtcp_wire.specs.Values.{ItemValue}
-use Rattle.rtcp_engine.specs.Setups.{ClockValue, Setup}
-use Rattle.rtcp_engine.specs.Views.{setup_of}
+use Rattle.rtcp_engine.specs.answers.Setups.{ClockValue, Setup}
+use Rattle.rtcp_engine.specs.state.Views.{setup_of}
 use Rattle.rtcp_command.specs.declared.orders.TextOrder.{TextOrder}
 use Rattle.rtcp_command.specs.declared.orders.TextOrder.TheVariants.{Check, CheckPlain, Replay}
 use Rattle.rtcp_command.specs.declared.orders.OrderFault.{OrderFault}

@@ -1,9 +1,9 @@
 -- What a run over text writes, by its order.
 use Rattle.std.specs.Prelude.{◌≡◌, ℕ, List, Option, Some, None, Result, Err, OnOk}
 use Rattle.rtcp_engine.specs.declared.config.ConfigError.{ConfigError}
-use Rattle.rtcp_engine.specs.Refused.{error_in}
-use Rattle.rtcp_engine.specs.Taken.{begun}
-use Rattle.rtcp_engine.specs.Views.{setup_of}
+use Rattle.rtcp_engine.specs.answers.Refused.{error_in}
+use Rattle.rtcp_engine.specs.state.Taken.{begun}
+use Rattle.rtcp_engine.specs.state.Views.{setup_of}
 use Rattle.rtcp_text.specs.declared.fault.LineFault.{LineFault}
 use Rattle.rtcp_command.specs.declared.fault.RunFault.{RunFault}
 use Rattle.rtcp_command.specs.declared.fault.RunFault.TheVariants.{Config, Text}

@@ -4,7 +4,7 @@ use Rattle.std.specs.Fmt.{decimal}
 use Rattle.std.specs.List.{flat_map}
 use Rattle.hex.specs.Hex.{encode_lower}
 use Rattle.rtcp_wire.specs.Values.{ItemValue}
-use Rattle.rtcp_engine.specs.Setups.{ClockValue, Setup}
+use Rattle.rtcp_engine.specs.answers.Setups.{ClockValue, Setup}
 use Rattle.rtcp_text.specs.SettingsFields.{clock_text}
 use Rattle.rtcp_text.specs.Text.{hex_word, hex_long}
 

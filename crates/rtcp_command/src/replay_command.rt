@@ -3,7 +3,7 @@
 ghost use Rattle.std.specs.Prelude.{◌≡◌, ◌++◌, IfOk, OnOk};
 ghost use Rattle.std.specs.Fmt.{decimal};
 ghost use Rattle.std.specs.List.{flat_map};
-ghost use Rattle.rtcp_engine.specs.Views.{clock_value, setup_of};
+ghost use Rattle.rtcp_engine.specs.state.Views.{clock_value, setup_of};
 ghost use Rattle.rtcp_report.specs.Views.{item_value};
 ghost use Rattle.rtcp_text.specs.Text.{hex_long, hex_word};
 ghost use Rattle.rtcp_command.specs.ReplayCommand.{bandwidths_text, clock_option_text, clocks_text, item_name, item_text, name_text, quoted, quoted_octet, replay_command, setup_text, sizes_text};

@@ -21,12 +21,12 @@ use Rattle.rtcp_report.proofs.LawLemmas as reports
 use Rattle.rtcp_timer.specs.declared.load.Load.{Load}
 use Rattle.rtcp_timer.specs.Averages.{moved_average}
 use Rattle.rtcp_timer.specs.Schedules.{Happening, Timing}
-use Rattle.rtcp_engine.specs.OwnStreams.{OwnStep, OwnValue, Adds, own_of, report_sent, sending_since}
-use Rattle.rtcp_engine.specs.Outcomes.{Outcome, Report, one_if, member_count, sender_count, is_initial, load_of}
-use Rattle.rtcp_engine.specs.Reporting.{last_reported_in, reporter_at, reporter_by, reported_at, report_octets}
-use Rattle.rtcp_engine.specs.Ticks as ticks
-use Rattle.rtcp_engine.specs.Arrivals.{media_fact, facts_of_media, rate_of, with_media}
-use Rattle.rtcp_engine.specs.States.{State, Agrees, StandsStill, with_call}
+use Rattle.rtcp_engine.specs.answers.OwnStreams.{OwnStep, OwnValue, Adds, own_of, report_sent, sending_since}
+use Rattle.rtcp_engine.specs.answers.Outcomes.{Outcome, Report, one_if, member_count, sender_count, is_initial, load_of}
+use Rattle.rtcp_engine.specs.answers.Reporting.{last_reported_in, reporter_at, reporter_by, reported_at, report_octets}
+use Rattle.rtcp_engine.specs.answers.Ticks as ticks
+use Rattle.rtcp_engine.specs.answers.Arrivals.{media_fact, facts_of_media, rate_of, with_media}
+use Rattle.rtcp_engine.specs.state.States.{State, Agrees, StandsStill, with_call}
 use Rattle.rtcp_engine.proofs.LawLemmas.{last_block_is_newest}
 
 -- ---- Counts and intervals
@@ -232,7 +232,7 @@ sent_reports_agree s o t own adds a =
     record {
       timing = a.timing;
       average = ap (λ (n : ℕ). moved_average n (length (octets_in t s))) a.average
-          ∙ ap (λ (octets : List ℕ). moved_average (Rattle.rtcp_engine.specs.Outcomes.average_size s.setup o)
+          ∙ ap (λ (octets : List ℕ). moved_average (Rattle.rtcp_engine.specs.answers.Outcomes.average_size s.setup o)
           (length octets)) (octets_agree s o t a);
       pace = a.pace;
       still = record {

@@ -10,16 +10,16 @@ use Rattle.rtcp_engine.specs.declared.arrival.Arrival.TheVariants.{Rtcp, Rtp}
 use Rattle.rtcp_engine.specs.declared.changes.IdentifierChange.{IdentifierChange}
 use Rattle.rtcp_engine.specs.declared.refusal.Refusal.{Refusal}
 use Rattle.rtcp_engine.specs.declared.refusal.Refusal.TheVariants.{OwnSsrc}
-use Rattle.rtcp_engine.specs.Acts.{Act, Datagram, IsActOfEvent, IsReading, IsRtpReading, arrived, rtcp_arrived, rtcp_came, rtp_arrived, rtp_came}
-use Rattle.rtcp_engine.specs.Identities.{may_change}
-use Rattle.rtcp_engine.specs.Changes.{NewIdentifier, Session, changing_peers, is_about, new_identifier}
-use Rattle.rtcp_engine.specs.Histories.{History, session_at}
-use Rattle.rtcp_engine.specs.Promises.{Takes as Promised}
-use Rattle.rtcp_engine.specs.Refusals.{fault_in, refusal_after, refusal_if, refusal_of_content}
-use Rattle.rtcp_engine.specs.Setups.{Setup}
-use Rattle.rtcp_engine.specs.States.{ParticipantValue, StandsAt, refusal_by}
-use Rattle.rtcp_engine.specs.Steps.{AnswerValue}
-use Rattle.rtcp_engine.specs.Views.{datagram_of}
+use Rattle.rtcp_engine.specs.answers.Acts.{Act, Datagram, IsActOfEvent, IsReading, IsRtpReading, arrived, rtcp_arrived, rtcp_came, rtp_arrived, rtp_came}
+use Rattle.rtcp_engine.specs.answers.Identities.{may_change}
+use Rattle.rtcp_engine.specs.answers.Changes.{NewIdentifier, Session, changing_peers, is_about, new_identifier}
+use Rattle.rtcp_engine.specs.answers.Histories.{History, session_at}
+use Rattle.rtcp_engine.specs.state.Promises.{Takes as Promised}
+use Rattle.rtcp_engine.specs.answers.Refusals.{fault_in, refusal_after, refusal_if, refusal_of_content}
+use Rattle.rtcp_engine.specs.answers.Setups.{Setup}
+use Rattle.rtcp_engine.specs.state.States.{ParticipantValue, StandsAt, refusal_by}
+use Rattle.rtcp_engine.specs.answers.Steps.{AnswerValue}
+use Rattle.rtcp_engine.specs.state.Views.{datagram_of}
 use Rattle.rtcp_engine.proofs.ActLemmas.{IsTaken, refuses}
 use Rattle.rtcp_engine.proofs.AnswerLemmas.{refusal_is}
 use Rattle.rtcp_engine.proofs.LawLemmas.{one_reading-once, one_reading-rtp_once}

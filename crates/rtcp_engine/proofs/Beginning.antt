@@ -11,11 +11,11 @@ use Rattle.rtcp_timer.specs.declared.load.Load.{Load}
 use Rattle.rtcp_timer.specs.Averages.{average_of}
 use Rattle.rtcp_timer.specs.Loads.{interval_of}
 use Rattle.rtcp_timer.specs.Schedules.{Timing, transmitted, schedule_at}
-use Rattle.rtcp_engine.specs.Setups.{Setup, IsUsable}
-use Rattle.rtcp_engine.specs.OwnStreams.{OwnValue, own_of}
-use Rattle.rtcp_engine.specs.Outcomes.{first_size_of}
-use Rattle.rtcp_engine.specs.Taken.{begun}
-use Rattle.rtcp_engine.specs.States.{state_with, IsSound, StandsAt, newcomer}
+use Rattle.rtcp_engine.specs.answers.Setups.{Setup, IsUsable}
+use Rattle.rtcp_engine.specs.answers.OwnStreams.{OwnValue, own_of}
+use Rattle.rtcp_engine.specs.answers.Outcomes.{first_size_of}
+use Rattle.rtcp_engine.specs.state.Taken.{begun}
+use Rattle.rtcp_engine.specs.state.States.{state_with, IsSound, StandsAt, newcomer}
 
 abbrev pub first_load : (average sender_bw receiver_bw : ℕ) → Load
 first_load average sender_bw receiver_bw = record {

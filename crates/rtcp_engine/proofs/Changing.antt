@@ -3,15 +3,15 @@ use Rattle.std.proofs.Common.{◌≡◌, ℕ, List, [], ◌∷◌, Option, Some,
 use Rattle.std.specs.Option.{option_or}
 use Rattle.rtcp_engine.specs.declared.config.ConfigError.{ConfigError}
 use Rattle.rtcp_engine.specs.declared.refusal.Refusal.TheVariants.{Settings}
-use Rattle.rtcp_engine.specs.Setups.{Setup, IsUsable, settings_of, with_settings}
-use Rattle.rtcp_engine.specs.Acts.{Act, arrived, configured}
-use Rattle.rtcp_engine.specs.Identities.{with_ssrc}
-use Rattle.rtcp_engine.specs.Leaving.{Life, present, backing_off, finished}
-use Rattle.rtcp_engine.specs.Lives.{out_by, own_bye}
-use Rattle.rtcp_engine.specs.Changes.{NewIdentifier, Session, change_by, changed_by, changed_to}
-use Rattle.rtcp_engine.specs.Histories.{session_of, settings_after, setup_after}
-use Rattle.rtcp_engine.specs.Refusals.{refusal_of_content}
-use Rattle.rtcp_engine.specs.Taken.{AllTaken}
+use Rattle.rtcp_engine.specs.answers.Setups.{Setup, IsUsable, settings_of, with_settings}
+use Rattle.rtcp_engine.specs.answers.Acts.{Act, arrived, configured}
+use Rattle.rtcp_engine.specs.answers.Identities.{with_ssrc}
+use Rattle.rtcp_engine.specs.answers.Leaving.{Life, present, backing_off, finished}
+use Rattle.rtcp_engine.specs.answers.Lives.{out_by, own_bye}
+use Rattle.rtcp_engine.specs.answers.Changes.{NewIdentifier, Session, change_by, changed_by, changed_to}
+use Rattle.rtcp_engine.specs.answers.Histories.{session_of, settings_after, setup_after}
+use Rattle.rtcp_engine.specs.answers.Refusals.{refusal_of_content}
+use Rattle.rtcp_engine.specs.state.Taken.{AllTaken}
 use Rattle.rtcp_engine.proofs.AnswerLemmas.{unrefused}
 use Rattle.rtcp_engine.proofs.Usable.{usable_with_settings}
 

@@ -1,18 +1,18 @@
 -- The reports that a session counts are those that it sent.
 use Rattle.std.proofs.Common.{◌≡◌, ℕ, ◌&&◌, Bool, true, false, is_some, nat_le, List, [], ◌∷◌, ◌++◌, map, Option, Some, None, option_map, Ok, if◌then◌else◌, refl, sym, ap, ◌∙◌}
 use Rattle.std.specs.Option.{option_or}
-use Rattle.rtcp_engine.specs.Setups.{Setup}
-use Rattle.rtcp_engine.specs.Acts.{rtcp, rtp, Act, arrived, ticked, left, moment_of}
-use Rattle.rtcp_engine.specs.OwnStreams.{has_sent}
-use Rattle.rtcp_engine.specs.Outcomes.{Outcome, Report, interval_at, member_count}
-use Rattle.rtcp_engine.specs.Ticks.{checked, has_come, has_passed, reported, put_off}
-use Rattle.rtcp_engine.specs.Reporting.{bye_octets, report_octets}
-use Rattle.rtcp_engine.specs.Leaving.{Backoff, Life, present, backing_off, finished, few_members, is_bye_due, sent_nothing, after_wait, backoff_from, leaving_interval}
-use Rattle.rtcp_engine.specs.Lives.{lived, bye_out, out_by, own_bye, report_out, with_new_ssrc}
-use Rattle.rtcp_engine.specs.Changes.{NewIdentifier, Session, bye_of_change, change_by, changed_by, changed_to}
-use Rattle.rtcp_engine.specs.Histories.{session_of}
-use Rattle.rtcp_engine.specs.Steps.{OutValue}
-use Rattle.rtcp_engine.specs.Sent.{Sent, interval_by, reports_in, sent_with, sent_over, reports_of, counted_report}
+use Rattle.rtcp_engine.specs.answers.Setups.{Setup}
+use Rattle.rtcp_engine.specs.answers.Acts.{rtcp, rtp, Act, arrived, ticked, left, moment_of}
+use Rattle.rtcp_engine.specs.answers.OwnStreams.{has_sent}
+use Rattle.rtcp_engine.specs.answers.Outcomes.{Outcome, Report, interval_at, member_count}
+use Rattle.rtcp_engine.specs.answers.Ticks.{checked, has_come, has_passed, reported, put_off}
+use Rattle.rtcp_engine.specs.answers.Reporting.{bye_octets, report_octets}
+use Rattle.rtcp_engine.specs.answers.Leaving.{Backoff, Life, present, backing_off, finished, few_members, is_bye_due, sent_nothing, after_wait, backoff_from, leaving_interval}
+use Rattle.rtcp_engine.specs.answers.Lives.{lived, bye_out, out_by, own_bye, report_out, with_new_ssrc}
+use Rattle.rtcp_engine.specs.answers.Changes.{NewIdentifier, Session, bye_of_change, change_by, changed_by, changed_to}
+use Rattle.rtcp_engine.specs.answers.Histories.{session_of}
+use Rattle.rtcp_engine.specs.answers.Steps.{OutValue}
+use Rattle.rtcp_engine.specs.bounds.Sent.{Sent, interval_by, reports_in, sent_with, sent_over, reports_of, counted_report}
 use Rattle.rtcp_engine.proofs.Changing.{bye_alone, nothing_more}
 
 abbrev counted : List Sent → List Report

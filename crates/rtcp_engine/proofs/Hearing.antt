@@ -13,17 +13,17 @@ use Rattle.rtcp_members.specs.Traces.{TraceStep, block_made_of, check_made, sour
 use Rattle.rtcp_members.proofs.Lasting.{member_on}
 use Rattle.rtcp_members.proofs.Introducing.{members_through, named_become_members}
 use Rattle.rtcp_report.specs.Traced.{with_blocks}
-use Rattle.rtcp_engine.specs.Acts.{Act, Datagram, arrived, configured, left, rtcp, rtp, rtp_sent, ticked, forgotten}
-use Rattle.rtcp_engine.specs.Arrivals.{after, facts_of_csrcs, facts_of_media, media_fact, rate_of}
-use Rattle.rtcp_engine.specs.Changes.{NewIdentifier, Session, change_by, changed_by}
-use Rattle.rtcp_engine.specs.Hearing.{is_member_at, with_acts, LeavesAlone, IsHeardLately, IsHeardAtTicks}
-use Rattle.rtcp_engine.specs.Histories.{History, after_act, life_at, session_at, setup_at, with_act}
-use Rattle.rtcp_engine.specs.Leaving.{Life, backing_off, finished, present}
-use Rattle.rtcp_engine.specs.Lives.{entry_in_life, lived, with_new_ssrc}
-use Rattle.rtcp_engine.specs.Outcomes.{Outcome, check_interval}
-use Rattle.rtcp_engine.specs.Reporting.{reported_at}
-use Rattle.rtcp_engine.specs.Setups.{Setup}
-use Rattle.rtcp_engine.specs.Ticks.{after_check, checked, horizons_of}
+use Rattle.rtcp_engine.specs.answers.Acts.{Act, Datagram, arrived, configured, left, rtcp, rtp, rtp_sent, ticked, forgotten}
+use Rattle.rtcp_engine.specs.answers.Arrivals.{after, facts_of_csrcs, facts_of_media, media_fact, rate_of}
+use Rattle.rtcp_engine.specs.answers.Changes.{NewIdentifier, Session, change_by, changed_by}
+use Rattle.rtcp_engine.specs.bounds.Hearing.{is_member_at, with_acts, LeavesAlone, IsHeardLately, IsHeardAtTicks}
+use Rattle.rtcp_engine.specs.answers.Histories.{History, after_act, life_at, session_at, setup_at, with_act}
+use Rattle.rtcp_engine.specs.answers.Leaving.{Life, backing_off, finished, present}
+use Rattle.rtcp_engine.specs.answers.Lives.{entry_in_life, lived, with_new_ssrc}
+use Rattle.rtcp_engine.specs.answers.Outcomes.{Outcome, check_interval}
+use Rattle.rtcp_engine.specs.answers.Reporting.{reported_at}
+use Rattle.rtcp_engine.specs.answers.Setups.{Setup}
+use Rattle.rtcp_engine.specs.answers.Ticks.{after_check, checked, horizons_of}
 use Rattle.rtcp_engine.proofs.LifeLemmas.{of_check, of_leave, of_wait}
 
 -- ---- Traces

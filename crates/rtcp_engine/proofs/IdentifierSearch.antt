@@ -1,7 +1,7 @@
 -- The search for a new identifier: numbers that follow one another are tried, until one is free.
 use Rattle.std.proofs.Common.{◌≡◌, ℕ, suc, zero, ◌+◌, ◌%◌, ◌^◌, ◌<◌, ◌≤◌, Bool, true, false, if◌then◌else◌, refl, sym, ap, ◌∙◌, arith, inl, inr}
 use Rattle.std.proofs.lemmas.Bool.{cases_lt}
-use Rattle.rtcp_engine.specs.Identities.{IsFirstFree, first_free}
+use Rattle.rtcp_engine.specs.answers.Identities.{IsFirstFree, first_free}
 
 -- the number so many places after another, modulo 2^32
 abbrev pub after : (ssrc places : ℕ) → ℕ

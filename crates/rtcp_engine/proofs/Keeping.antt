@@ -10,18 +10,18 @@ use Rattle.rtcp_members.specs.Roles.{IsSameRole}
 use Rattle.rtcp_members.specs.Traces.{TraceStep, block_made_of, fact_came, with_facts, source_forgotten}
 use Rattle.rtcp_members.proofs.LawLemmas as tables
 use Rattle.rtcp_report.specs.Traced.{with_blocks}
-use Rattle.rtcp_engine.specs.Acts.{Act, arrived, left, rtcp, rtp, ticked, forgotten}
-use Rattle.rtcp_engine.specs.Answers.{step_by}
-use Rattle.rtcp_engine.specs.Arrivals.{after, facts_of_media, media_fact, rate_of}
-use Rattle.rtcp_engine.specs.Changes.{NewIdentifier, Session, change_by, changed_by}
-use Rattle.rtcp_engine.specs.Histories.{History, session_at, session_for, settings_after, setup_after, with_act}
-use Rattle.rtcp_engine.specs.Leaving.{Life, backing_off, finished, left_at, present}
-use Rattle.rtcp_engine.specs.Lives.{entry_in_life, lived, moved_since, others_moved_by}
-use Rattle.rtcp_engine.specs.Outcomes.{Outcome}
+use Rattle.rtcp_engine.specs.answers.Acts.{Act, arrived, left, rtcp, rtp, ticked, forgotten}
+use Rattle.rtcp_engine.specs.answers.Answers.{step_by}
+use Rattle.rtcp_engine.specs.answers.Arrivals.{after, facts_of_media, media_fact, rate_of}
+use Rattle.rtcp_engine.specs.answers.Changes.{NewIdentifier, Session, change_by, changed_by}
+use Rattle.rtcp_engine.specs.answers.Histories.{History, session_at, session_for, settings_after, setup_after, with_act}
+use Rattle.rtcp_engine.specs.answers.Leaving.{Life, backing_off, finished, left_at, present}
+use Rattle.rtcp_engine.specs.answers.Lives.{entry_in_life, lived, moved_since, others_moved_by}
+use Rattle.rtcp_engine.specs.answers.Outcomes.{Outcome}
 use Rattle.rtcp_engine.proofs.LifeLemmas.{of_check, of_leave, of_wait}
-use Rattle.rtcp_engine.specs.Reporting.{reported_at}
-use Rattle.rtcp_engine.specs.Setups.{Setup, SettingsValue, settings_of, with_settings}
-use Rattle.rtcp_engine.specs.Ticks.{after_check, after_tick, checked}
+use Rattle.rtcp_engine.specs.answers.Reporting.{reported_at}
+use Rattle.rtcp_engine.specs.answers.Setups.{Setup, SettingsValue, settings_of, with_settings}
+use Rattle.rtcp_engine.specs.answers.Ticks.{after_check, after_tick, checked}
 use Rattle.rtcp_engine.proofs.RolesChanged.{leave_moves}
 
 -- ---- Traces that go on
@@ -111,9 +111,11 @@ kept_by_leave setup t word outcome still ssrc =
 
 -- ---- Lives
 
-still_waiting : (setup : Setup) (t word : ℕ) (outcome : Outcome) (backoff : Rattle.rtcp_engine.specs.Leaving.Backoff)
+still_waiting : (setup : Setup) (t word : ℕ) (outcome : Outcome)
+    (backoff : Rattle.rtcp_engine.specs.answers.Leaving.Backoff)
     (ssrc : ℕ)
-    → entry_in_life setup (Rattle.rtcp_engine.specs.Leaving.after_waiting_tick setup t word outcome backoff) ssrc ≡ None
+    → entry_in_life setup (Rattle.rtcp_engine.specs.answers.Leaving.after_waiting_tick setup t word outcome backoff)
+    ssrc ≡ None
 still_waiting setup t word outcome backoff ssrc =
     of_wait (λ (life : Life). entry_in_life setup life ssrc ≡ None) setup t word outcome backoff refl refl
 
@@ -142,8 +144,9 @@ same_in_change session None ssrc = refl
 same_in_change session (Some new) ssrc = under session.setup new session.life
   where
     under : (setup : Setup) (new : NewIdentifier) (life : Life)
-        → entry_in_life setup life ssrc ≡ entry_in_life (Rattle.rtcp_engine.specs.Identities.with_ssrc new.ssrc setup)
-        (Rattle.rtcp_engine.specs.Lives.with_new_ssrc setup life) ssrc
+        → entry_in_life setup life ssrc ≡ entry_in_life
+        (Rattle.rtcp_engine.specs.answers.Identities.with_ssrc new.ssrc setup)
+        (Rattle.rtcp_engine.specs.answers.Lives.with_new_ssrc setup life) ssrc
     under setup new (present outcome) = refl
     under setup new (backing_off outcome backoff) = refl
     under setup new (finished outcome) = refl

@@ -10,26 +10,26 @@ use Rattle.rtcp_members.specs.Pending.{EntryRow, last_reported}
 use Rattle.rtcp_members.specs.Listings.{StateValue}
 use Rattle.rtcp_report.specs.Traced.{with_blocks}
 use Rattle.rtcp_engine.specs.declared.refusal.Refusal.{Refusal}
-use Rattle.rtcp_engine.specs.Setups.{Setup, SettingsValue, IsUsable, with_settings}
-use Rattle.rtcp_engine.specs.Refused.{error_in}
-use Rattle.rtcp_engine.specs.Acts.{Act, configured, moment_of, IsReading, IsRtpReading, IsTotal, IsUnique}
-use Rattle.rtcp_engine.specs.Leaving.{Life, present}
-use Rattle.rtcp_engine.specs.Lives.{ListsInLife, lived, out_by, own_bye, with_pace_in, next_in_life}
-use Rattle.rtcp_engine.specs.Changes.{NewIdentifier, Session, bye_of_change, change_by, changed_by}
-use Rattle.rtcp_engine.specs.OwnStreams.{OwnStep, packet_sent, check_passed, report_sent, counts_anew, sending_since}
-use Rattle.rtcp_engine.specs.OwnSending.{OutlastsChecks, IsSendingSince}
-use Rattle.rtcp_engine.specs.Reporting.{last_reported_in}
-use Rattle.rtcp_engine.specs.Histories.{History, brought_by, last_moment, life_at, session_at, setup_at, with_act}
-use Rattle.rtcp_engine.specs.Refusals.{refusal_after}
-use Rattle.rtcp_engine.specs.Steps.{OutValue, answer_unless}
-use Rattle.rtcp_engine.specs.Answers.{step_by, answer_of, followed_by}
-use Rattle.rtcp_engine.specs.Taken.{IsHistory}
-use Rattle.rtcp_engine.specs.Sent.{reports_in, deciding_interval, sent_at, sent_with, handed_out, reports_of, counted_report}
+use Rattle.rtcp_engine.specs.answers.Setups.{Setup, SettingsValue, IsUsable, with_settings}
+use Rattle.rtcp_engine.specs.answers.Refused.{error_in}
+use Rattle.rtcp_engine.specs.answers.Acts.{Act, configured, moment_of, IsReading, IsRtpReading, IsTotal, IsUnique}
+use Rattle.rtcp_engine.specs.answers.Leaving.{Life, present}
+use Rattle.rtcp_engine.specs.answers.Lives.{ListsInLife, lived, out_by, own_bye, with_pace_in, next_in_life}
+use Rattle.rtcp_engine.specs.answers.Changes.{NewIdentifier, Session, bye_of_change, change_by, changed_by}
+use Rattle.rtcp_engine.specs.answers.OwnStreams.{OwnStep, packet_sent, check_passed, report_sent, counts_anew, sending_since}
+use Rattle.rtcp_engine.specs.bounds.OwnSending.{OutlastsChecks, IsSendingSince}
+use Rattle.rtcp_engine.specs.answers.Reporting.{last_reported_in}
+use Rattle.rtcp_engine.specs.answers.Histories.{History, brought_by, last_moment, life_at, session_at, setup_at, with_act}
+use Rattle.rtcp_engine.specs.answers.Refusals.{refusal_after}
+use Rattle.rtcp_engine.specs.answers.Steps.{OutValue, answer_unless}
+use Rattle.rtcp_engine.specs.answers.Answers.{step_by, answer_of, followed_by}
+use Rattle.rtcp_engine.specs.state.Taken.{IsHistory}
+use Rattle.rtcp_engine.specs.bounds.Sent.{reports_in, deciding_interval, sent_at, sent_with, handed_out, reports_of, counted_report}
 use Rattle.rtcp_engine.proofs.Changing.{bye_alone}
 use Rattle.rtcp_engine.proofs.Past.{latest_in_range, listed_after}
 use Rattle.rtcp_engine.proofs.Usable.{usable_of_unrefused, unrefused_of_usable}
 use Rattle.rtcp_engine.proofs.Counting.{reports_counted}
-use Rattle.rtcp_engine.specs.InTime.{AllInTime}
+use Rattle.rtcp_engine.specs.bounds.InTime.{AllInTime}
 use Rattle.rtcp_engine.proofs.Waiting.{all_in_time}
 pub use Rattle.rtcp_engine.proofs.Windows.{last_in_present as last_lies_after_what_was_sent-present}
 pub use Rattle.rtcp_engine.proofs.Windows.{last_in_backoff as last_lies_after_what_was_sent-backing_off}

@@ -4,14 +4,14 @@ use Rattle.std.proofs.lemmas.Bool.{cond_both}
 use Rattle.std.proofs.lemmas.List.Sums.{sum_by-cons}
 use Rattle.rtcp_timer.specs.Schedules.{Happening}
 use Rattle.rtcp_engine.specs.declared.refusal.Refusal.{Refusal}
-use Rattle.rtcp_engine.specs.Setups.{Setup}
-use Rattle.rtcp_engine.specs.Outcomes.{Outcome, member_count}
-use Rattle.rtcp_engine.specs.Reporting.{bye_octets}
-use Rattle.rtcp_engine.specs.Refusals.{call_refusal}
-use Rattle.rtcp_engine.specs.Leaving.{with_byes_of, ByeCompound, Backoff, Life, after_waiting_tick, is_bye_due, sent_nothing, few_members, backoff_from, bye_at_once, backing_off, finished, left_at, after_wait, leaving_count, leaving_timing}
-use Rattle.rtcp_engine.specs.Lives.{bye_out}
-use Rattle.rtcp_engine.specs.Ticks.{after_check, has_come, has_passed, put_off, reported}
-use Rattle.rtcp_engine.specs.States.{PhaseValue, taking_part, leaving, over, ParticipantValue, refusal_by, refusal_in_phase}
+use Rattle.rtcp_engine.specs.answers.Setups.{Setup}
+use Rattle.rtcp_engine.specs.answers.Outcomes.{Outcome, member_count}
+use Rattle.rtcp_engine.specs.answers.Reporting.{bye_octets}
+use Rattle.rtcp_engine.specs.answers.Refusals.{call_refusal}
+use Rattle.rtcp_engine.specs.answers.Leaving.{with_byes_of, ByeCompound, Backoff, Life, after_waiting_tick, is_bye_due, sent_nothing, few_members, backoff_from, bye_at_once, backing_off, finished, left_at, after_wait, leaving_count, leaving_timing}
+use Rattle.rtcp_engine.specs.answers.Lives.{bye_out}
+use Rattle.rtcp_engine.specs.answers.Ticks.{after_check, has_come, has_passed, put_off, reported}
+use Rattle.rtcp_engine.specs.state.States.{PhaseValue, taking_part, leaving, over, ParticipantValue, refusal_by, refusal_in_phase}
 
 -- ---- Phases
 

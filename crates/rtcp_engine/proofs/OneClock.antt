@@ -11,18 +11,18 @@ use Rattle.rtcp_members.specs.Entries.{counted_at}
 use Rattle.rtcp_members.specs.Pending.{EntryRow}
 use Rattle.rtcp_members.specs.Traces.{TraceStep, block_made_of, fact_came, with_facts}
 use Rattle.rtcp_report.specs.Traced.{with_blocks}
-use Rattle.rtcp_engine.specs.Setups.{Setup, ClockValue, rate_among}
-use Rattle.rtcp_engine.specs.Acts.{Act, arrived, configured, left, rtcp, rtp, rtp_sent, ticked, forgotten}
-use Rattle.rtcp_engine.specs.Arrivals.{after, facts_of_media, media_fact}
-use Rattle.rtcp_engine.specs.Changes.{NewIdentifier, Session, change_by, changed_by}
+use Rattle.rtcp_engine.specs.answers.Setups.{Setup, ClockValue, rate_among}
+use Rattle.rtcp_engine.specs.answers.Acts.{Act, arrived, configured, left, rtcp, rtp, rtp_sent, ticked, forgotten}
+use Rattle.rtcp_engine.specs.answers.Arrivals.{after, facts_of_media, media_fact}
+use Rattle.rtcp_engine.specs.answers.Changes.{NewIdentifier, Session, change_by, changed_by}
 use Rattle.std.specs.List.{AllByRecursion}
-use Rattle.rtcp_engine.specs.Histories.{session_of, setup_after}
-use Rattle.rtcp_engine.specs.Taken.{GivesNoClocks}
-use Rattle.rtcp_engine.specs.Leaving.{Life, present, backing_off}
-use Rattle.rtcp_engine.specs.Lives.{lived, with_new_ssrc}
-use Rattle.rtcp_engine.specs.Outcomes.{Outcome}
-use Rattle.rtcp_engine.specs.Reporting.{reported_at}
-use Rattle.rtcp_engine.specs.Ticks.{checked}
+use Rattle.rtcp_engine.specs.answers.Histories.{session_of, setup_after}
+use Rattle.rtcp_engine.specs.state.Taken.{GivesNoClocks}
+use Rattle.rtcp_engine.specs.answers.Leaving.{Life, present, backing_off}
+use Rattle.rtcp_engine.specs.answers.Lives.{lived, with_new_ssrc}
+use Rattle.rtcp_engine.specs.answers.Outcomes.{Outcome}
+use Rattle.rtcp_engine.specs.answers.Reporting.{reported_at}
+use Rattle.rtcp_engine.specs.answers.Ticks.{checked}
 use Rattle.rtcp_engine.proofs.Changing.{same_but_name_and_settings}
 use Rattle.rtcp_engine.proofs.LifeLemmas.{of_check, of_leave, of_wait}
 

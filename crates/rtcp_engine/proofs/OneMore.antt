@@ -4,11 +4,11 @@ use Rattle.std.specs.Result.{is_err, OnErr, OnOk}
 use Rattle.std.proofs.Math.ListN.{get_or}
 use Rattle.std.proofs.lemmas.List.{take_more}
 use Rattle.rtcp_engine.specs.declared.event.Event.{Event}
-use Rattle.rtcp_engine.specs.Acts.{Act, ticked}
-use Rattle.rtcp_engine.specs.Histories.{History}
-use Rattle.rtcp_engine.specs.Steps.{AnswerValue}
-use Rattle.rtcp_engine.specs.Answers.{answer_of, answers_to, followed_by, followed_by_all}
-use Rattle.rtcp_engine.specs.Views.{IsActOf, AreActsOf}
+use Rattle.rtcp_engine.specs.answers.Acts.{Act, ticked}
+use Rattle.rtcp_engine.specs.answers.Histories.{History}
+use Rattle.rtcp_engine.specs.answers.Steps.{AnswerValue}
+use Rattle.rtcp_engine.specs.answers.Answers.{answer_of, answers_to, followed_by, followed_by_all}
+use Rattle.rtcp_engine.specs.state.Views.{IsActOf, AreActsOf}
 
 pub answers_more : (h : History) (acts : List Act) (act : Act) →
     answers_to h (acts ++ act ∷ []) ≡ answers_to h acts ++ answer_of (followed_by_all h acts) act ∷ []

@@ -4,14 +4,14 @@ use Rattle.std.proofs.lemmas.Bool.{lt-ltb}
 use Rattle.rtcp_members.specs.Stays.{is_before, is_removed}
 use Rattle.rtcp_timer.specs.Loads.{interval_of}
 use Rattle.rtcp_engine.specs.declared.pace.Pace.{Pace}
-use Rattle.rtcp_engine.specs.Setups.{Setup, SettingsValue, keeps_bandwidths}
-use Rattle.rtcp_engine.specs.Acts.{Act, configured}
-use Rattle.rtcp_engine.specs.Outcomes.{Outcome, check_interval, end_at, end_of, newest_pace, pace_at, receiver_interval_at, receiver_load, slowed_by, with_pace}
-use Rattle.rtcp_engine.specs.Ticks.{horizons_of}
-use Rattle.rtcp_engine.specs.Changes.{change_by, changed_by}
-use Rattle.rtcp_engine.specs.Histories.{History, life_at, session_of, setup_at}
-use Rattle.rtcp_engine.specs.Leaving.{Life, present}
-use Rattle.rtcp_engine.specs.Pacing.{end_by, end_while_present, last_end}
+use Rattle.rtcp_engine.specs.answers.Setups.{Setup, SettingsValue, keeps_bandwidths}
+use Rattle.rtcp_engine.specs.answers.Acts.{Act, configured}
+use Rattle.rtcp_engine.specs.answers.Outcomes.{Outcome, check_interval, end_at, end_of, newest_pace, pace_at, receiver_interval_at, receiver_load, slowed_by, with_pace}
+use Rattle.rtcp_engine.specs.answers.Ticks.{horizons_of}
+use Rattle.rtcp_engine.specs.answers.Changes.{change_by, changed_by}
+use Rattle.rtcp_engine.specs.answers.Histories.{History, life_at, session_of, setup_at}
+use Rattle.rtcp_engine.specs.answers.Leaving.{Life, present}
+use Rattle.rtcp_engine.specs.bounds.Pacing.{end_by, end_while_present, last_end}
 use Rattle.rtcp_engine.proofs.Pacing.{InPaces, changed_paces, in_paces_on, paces_by, present_alone}
 
 pub same_pace : (setup : Setup) (settings : SettingsValue) (t : ℕ) (outcome : Outcome) →

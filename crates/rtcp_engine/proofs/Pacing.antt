@@ -11,17 +11,17 @@ use Rattle.rtcp_timer.specs.declared.load.Load.{Load}
 use Rattle.rtcp_timer.specs.Loads.{interval_of}
 use Rattle.rtcp_timer.proofs.LawLemmas as timers
 use Rattle.rtcp_engine.specs.declared.pace.Pace.{Pace}
-use Rattle.rtcp_engine.specs.Setups.{Setup, SettingsValue, IsUsable, keeps_bandwidths, with_settings}
-use Rattle.rtcp_engine.specs.Acts.{Act, arrived, rtcp, rtp, ticked, left, configured}
-use Rattle.rtcp_engine.specs.OwnStreams.{we_sent}
-use Rattle.rtcp_engine.specs.Outcomes.{Outcome, member_count, sender_count, one_if, newest_pace, slowed_by, receiver_load, receiver_interval_at, check_load, check_interval, pace_at, with_pace, IsPace}
-use Rattle.rtcp_engine.specs.Ticks.{checked, horizons_of}
-use Rattle.rtcp_engine.specs.Changes.{NewIdentifier, Session, change_by, changed_by}
-use Rattle.rtcp_engine.specs.Histories.{History, life_at, session_of, setup_at}
-use Rattle.rtcp_engine.specs.Leaving.{Backoff, Life, present, backing_off, finished}
-use Rattle.rtcp_engine.specs.Lives.{lived, with_new_ssrc}
-use Rattle.rtcp_engine.specs.Pacing.{IsPaced, unpaced}
-use Rattle.rtcp_engine.specs.Taken.{AllTaken}
+use Rattle.rtcp_engine.specs.answers.Setups.{Setup, SettingsValue, IsUsable, keeps_bandwidths, with_settings}
+use Rattle.rtcp_engine.specs.answers.Acts.{Act, arrived, rtcp, rtp, ticked, left, configured}
+use Rattle.rtcp_engine.specs.answers.OwnStreams.{we_sent}
+use Rattle.rtcp_engine.specs.answers.Outcomes.{Outcome, member_count, sender_count, one_if, newest_pace, slowed_by, receiver_load, receiver_interval_at, check_load, check_interval, pace_at, with_pace, IsPace}
+use Rattle.rtcp_engine.specs.answers.Ticks.{checked, horizons_of}
+use Rattle.rtcp_engine.specs.answers.Changes.{NewIdentifier, Session, change_by, changed_by}
+use Rattle.rtcp_engine.specs.answers.Histories.{History, life_at, session_of, setup_at}
+use Rattle.rtcp_engine.specs.answers.Leaving.{Backoff, Life, present, backing_off, finished}
+use Rattle.rtcp_engine.specs.answers.Lives.{lived, with_new_ssrc}
+use Rattle.rtcp_engine.specs.bounds.Pacing.{IsPaced, unpaced}
+use Rattle.rtcp_engine.specs.state.Taken.{AllTaken}
 use Rattle.rtcp_engine.proofs.Changing.{usable_in, usable_with_ssrc}
 use Rattle.rtcp_engine.proofs.LifeLemmas.{of_check, of_leave, of_wait}
 use Rattle.rtcp_engine.proofs.Usable.{usable_with_settings}
@@ -182,7 +182,7 @@ session_paced setup word (act ∷ earlier) usable taken =
 -- ---- Checks after a change
 
 pub paces_are_usable : (history : History) (outcome : Outcome) →
-    Rattle.rtcp_engine.specs.Taken.IsHistory history → life_at history ≡ present outcome →
+    Rattle.rtcp_engine.specs.state.Taken.IsHistory history → life_at history ≡ present outcome →
     IfSome (newest_pace outcome.paces) IsPace
 paces_are_usable history outcome is life =
     subst (InPaces UsablePaces) life (session_paced history.setup history.word history.acts is.usable is.taken)

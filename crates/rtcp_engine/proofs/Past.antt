@@ -13,19 +13,19 @@ use Rattle.rtcp_members.proofs.LawLemmas as tables
 use Rattle.rtcp_report.specs.Traced.{with_blocks}
 use Rattle.rtcp_engine.specs.declared.refusal.Refusal.{Refusal}
 use Rattle.rtcp_engine.specs.declared.refusal.Refusal.TheVariants.{Backwards, TooFar}
-use Rattle.rtcp_engine.specs.Acts.{Act, arrived, configured, left, moment_of, rtcp, rtp, rtp_sent, ticked, forgotten}
-use Rattle.rtcp_engine.specs.Arrivals.{after, facts_of_media, media_fact, rate_of}
-use Rattle.rtcp_engine.specs.Changes.{NewIdentifier, Session, change_by, changed_by}
-use Rattle.rtcp_engine.specs.Histories.{History, last_moment, life_at, session_of, setup_at}
-use Rattle.rtcp_engine.specs.Leaving.{Life, backing_off}
-use Rattle.rtcp_engine.specs.Leaving.{present}
-use Rattle.rtcp_engine.specs.Lives.{ListsInLife, WalksInLife, lived, with_new_ssrc}
-use Rattle.rtcp_engine.specs.Outcomes.{Outcome}
-use Rattle.rtcp_engine.specs.Refusals.{refusal_after}
-use Rattle.rtcp_engine.specs.Reporting.{reported_at}
-use Rattle.rtcp_engine.specs.Setups.{Setup}
-use Rattle.rtcp_engine.specs.Taken.{AllTaken, IsHistory}
-use Rattle.rtcp_engine.specs.Ticks.{after_check, checked}
+use Rattle.rtcp_engine.specs.answers.Acts.{Act, arrived, configured, left, moment_of, rtcp, rtp, rtp_sent, ticked, forgotten}
+use Rattle.rtcp_engine.specs.answers.Arrivals.{after, facts_of_media, media_fact, rate_of}
+use Rattle.rtcp_engine.specs.answers.Changes.{NewIdentifier, Session, change_by, changed_by}
+use Rattle.rtcp_engine.specs.answers.Histories.{History, last_moment, life_at, session_of, setup_at}
+use Rattle.rtcp_engine.specs.answers.Leaving.{Life, backing_off}
+use Rattle.rtcp_engine.specs.answers.Leaving.{present}
+use Rattle.rtcp_engine.specs.answers.Lives.{ListsInLife, WalksInLife, lived, with_new_ssrc}
+use Rattle.rtcp_engine.specs.answers.Outcomes.{Outcome}
+use Rattle.rtcp_engine.specs.answers.Refusals.{refusal_after}
+use Rattle.rtcp_engine.specs.answers.Reporting.{reported_at}
+use Rattle.rtcp_engine.specs.answers.Setups.{Setup}
+use Rattle.rtcp_engine.specs.state.Taken.{AllTaken, IsHistory}
+use Rattle.rtcp_engine.specs.answers.Ticks.{after_check, checked}
 use Rattle.rtcp_engine.proofs.AnswerLemmas.{unrefused}
 use Rattle.rtcp_engine.proofs.LifeLemmas.{of_check, of_leave, of_wait}
 use Rattle.rtcp_engine.proofs.Sending.{in_time}

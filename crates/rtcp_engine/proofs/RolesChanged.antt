@@ -11,14 +11,14 @@ use Rattle.rtcp_members.specs.Tables.{counted, members_in}
 use Rattle.rtcp_members.specs.Traces.{Horizons, TraceStep, block_made_of, check_made, fact_came, with_facts, source_forgotten}
 use Rattle.rtcp_members.proofs.LawLemmas as tables
 use Rattle.rtcp_report.specs.Traced.{with_blocks}
-use Rattle.rtcp_engine.specs.Arrivals.{facts_of_media, media_fact, rate_of, with_facts_of, with_media}
-use Rattle.rtcp_engine.specs.Leaving.{Life, left_at}
-use Rattle.rtcp_engine.specs.Lives.{has_others, moved_since, others_moved_into}
-use Rattle.rtcp_engine.specs.Outcomes.{Outcome, check_interval}
-use Rattle.rtcp_engine.specs.Reporting.{reported_at}
-use Rattle.rtcp_engine.specs.Setups.{Setup}
-use Rattle.rtcp_engine.specs.States.{State, Agrees, HasOthers, MovesOthers}
-use Rattle.rtcp_engine.specs.Ticks.{after_check, after_tick, checked, horizons_of, without_silent, with_forgotten}
+use Rattle.rtcp_engine.specs.answers.Arrivals.{facts_of_media, media_fact, rate_of, with_facts_of, with_media}
+use Rattle.rtcp_engine.specs.answers.Leaving.{Life, left_at}
+use Rattle.rtcp_engine.specs.answers.Lives.{has_others, moved_since, others_moved_into}
+use Rattle.rtcp_engine.specs.answers.Outcomes.{Outcome, check_interval}
+use Rattle.rtcp_engine.specs.answers.Reporting.{reported_at}
+use Rattle.rtcp_engine.specs.answers.Setups.{Setup}
+use Rattle.rtcp_engine.specs.state.States.{State, Agrees, HasOthers, MovesOthers}
+use Rattle.rtcp_engine.specs.answers.Ticks.{after_check, after_tick, checked, horizons_of, without_silent, with_forgotten}
 use Rattle.rtcp_engine.proofs.Agreeing.{others_agree}
 use Rattle.rtcp_engine.proofs.LifeLemmas.{of_check, of_leave}
 use Rattle.rtcp_engine.proofs.StepLemmas.{IsCheckInterval, of_view, seen}

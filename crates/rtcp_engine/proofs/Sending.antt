@@ -16,21 +16,21 @@ use Rattle.rtcp_members.specs.News.{pending_rows_at}
 use Rattle.rtcp_wire.specs.Values.{ItemValue}
 use Rattle.rtcp_engine.specs.declared.refusal.Refusal.{Refusal}
 use Rattle.rtcp_engine.specs.declared.refusal.Refusal.TheVariants.{Backwards}
-use Rattle.rtcp_engine.specs.Setups.{Setup, IsExtraItem, IsUsable}
-use Rattle.rtcp_engine.specs.Acts.{rtcp, rtp, Act, arrived, rtp_sent, ticked, left, configured, moment_of, forgotten}
-use Rattle.rtcp_engine.specs.Outcomes.{Outcome, is_initial, interval_at, load_of, member_count}
-use Rattle.rtcp_engine.specs.Ticks.{checked, has_come, has_passed, reported, put_off}
-use Rattle.rtcp_engine.specs.OwnStreams.{has_sent, own_of, sent_of}
-use Rattle.rtcp_engine.specs.Reporting.{bye_octets, report_octets, extra_item, reporter_at, last_reported_in}
-use Rattle.rtcp_engine.specs.Changes.{NewIdentifier, Session, bye_of_change, change_by, changed_by, changed_to}
-use Rattle.rtcp_engine.specs.Histories.{History, last_moment, session_of}
-use Rattle.rtcp_engine.specs.Refusals.{refusal_after}
-use Rattle.rtcp_engine.specs.Steps.{OutValue}
-use Rattle.rtcp_engine.specs.Taken.{HasWords, AllTaken}
-use Rattle.rtcp_engine.specs.Leaving.{Backoff, Life, present, backing_off, finished, backoff_from, bye_count, few_members, is_bye_due, sent_nothing, after_wait, leaving_count, leaving_interval, leaving_load, leaving_timing}
-use Rattle.rtcp_engine.specs.Lives.{while_present, while_backing_off, lived, bye_out, out_by, own_bye, report_out, with_new_ssrc}
-use Rattle.rtcp_engine.specs.Sent.{Sent, interval_by, is_report, reports_in, sent_by, sent_over, sent_with}
-use Rattle.rtcp_engine.specs.Spacing.{HalfPasses, newest_moment, leave_moment, first_leave, IsInDueTime}
+use Rattle.rtcp_engine.specs.answers.Setups.{Setup, IsExtraItem, IsUsable}
+use Rattle.rtcp_engine.specs.answers.Acts.{rtcp, rtp, Act, arrived, rtp_sent, ticked, left, configured, moment_of, forgotten}
+use Rattle.rtcp_engine.specs.answers.Outcomes.{Outcome, is_initial, interval_at, load_of, member_count}
+use Rattle.rtcp_engine.specs.answers.Ticks.{checked, has_come, has_passed, reported, put_off}
+use Rattle.rtcp_engine.specs.answers.OwnStreams.{has_sent, own_of, sent_of}
+use Rattle.rtcp_engine.specs.answers.Reporting.{bye_octets, report_octets, extra_item, reporter_at, last_reported_in}
+use Rattle.rtcp_engine.specs.answers.Changes.{NewIdentifier, Session, bye_of_change, change_by, changed_by, changed_to}
+use Rattle.rtcp_engine.specs.answers.Histories.{History, last_moment, session_of}
+use Rattle.rtcp_engine.specs.answers.Refusals.{refusal_after}
+use Rattle.rtcp_engine.specs.answers.Steps.{OutValue}
+use Rattle.rtcp_engine.specs.state.Taken.{HasWords, AllTaken}
+use Rattle.rtcp_engine.specs.answers.Leaving.{Backoff, Life, present, backing_off, finished, backoff_from, bye_count, few_members, is_bye_due, sent_nothing, after_wait, leaving_count, leaving_interval, leaving_load, leaving_timing}
+use Rattle.rtcp_engine.specs.answers.Lives.{while_present, while_backing_off, lived, bye_out, out_by, own_bye, report_out, with_new_ssrc}
+use Rattle.rtcp_engine.specs.bounds.Sent.{Sent, interval_by, is_report, reports_in, sent_by, sent_over, sent_with}
+use Rattle.rtcp_engine.specs.bounds.Spacing.{HalfPasses, newest_moment, leave_moment, first_leave, IsInDueTime}
 use Rattle.rtcp_engine.proofs.Changing.{bye_alone, nothing_more, same_but_name_and_settings, usable_in, usable_with_ssrc}
 use Rattle.rtcp_engine.proofs.AnswerLemmas.{unrefused}
 

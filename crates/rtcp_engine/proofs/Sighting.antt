@@ -8,18 +8,18 @@ use Rattle.rtcp_members.specs.Pending.{EntryRow}
 use Rattle.rtcp_members.specs.Stays.{last_naming}
 use Rattle.rtcp_members.specs.Traces.{TraceStep, block_made_of, fact_came, is_naming, with_facts}
 use Rattle.rtcp_report.specs.Traced.{with_blocks}
-use Rattle.rtcp_engine.specs.Acts.{Act, Datagram, arrived, configured, left, moment_of, rtcp, rtp, rtp_sent, ticked, forgotten}
-use Rattle.rtcp_engine.specs.Arrivals.{facts_of_csrcs, facts_of_media, media_fact, rate_of, with_datagram}
-use Rattle.rtcp_engine.specs.Changes.{NewIdentifier, Session, change_by, changed_by}
-use Rattle.rtcp_engine.specs.Hearing.{names_source, with_acts, IsHeardAtTicks, IsNamedAtTicks}
-use Rattle.rtcp_engine.specs.Histories.{History, last_moment, life_at, session_of}
-use Rattle.rtcp_engine.specs.Leaving.{Life, backing_off, finished, present}
-use Rattle.rtcp_engine.specs.Lives.{lived, with_new_ssrc}
-use Rattle.rtcp_engine.specs.Outcomes.{Outcome}
-use Rattle.rtcp_engine.specs.Reporting.{reported_at}
-use Rattle.rtcp_engine.specs.Setups.{Setup}
-use Rattle.rtcp_engine.specs.Taken.{AllTaken, IsHistory}
-use Rattle.rtcp_engine.specs.Ticks.{after_check, checked}
+use Rattle.rtcp_engine.specs.answers.Acts.{Act, Datagram, arrived, configured, left, moment_of, rtcp, rtp, rtp_sent, ticked, forgotten}
+use Rattle.rtcp_engine.specs.answers.Arrivals.{facts_of_csrcs, facts_of_media, media_fact, rate_of, with_datagram}
+use Rattle.rtcp_engine.specs.answers.Changes.{NewIdentifier, Session, change_by, changed_by}
+use Rattle.rtcp_engine.specs.bounds.Hearing.{names_source, with_acts, IsHeardAtTicks, IsNamedAtTicks}
+use Rattle.rtcp_engine.specs.answers.Histories.{History, last_moment, life_at, session_of}
+use Rattle.rtcp_engine.specs.answers.Leaving.{Life, backing_off, finished, present}
+use Rattle.rtcp_engine.specs.answers.Lives.{lived, with_new_ssrc}
+use Rattle.rtcp_engine.specs.answers.Outcomes.{Outcome}
+use Rattle.rtcp_engine.specs.answers.Reporting.{reported_at}
+use Rattle.rtcp_engine.specs.answers.Setups.{Setup}
+use Rattle.rtcp_engine.specs.state.Taken.{AllTaken, IsHistory}
+use Rattle.rtcp_engine.specs.answers.Ticks.{after_check, checked}
 use Rattle.rtcp_engine.proofs.LifeLemmas.{of_check, of_leave, of_wait}
 use Rattle.rtcp_engine.proofs.Sending.{in_time}
 

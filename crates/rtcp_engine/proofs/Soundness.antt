@@ -12,9 +12,9 @@ use Rattle.rtcp_members.specs.Pending.{EntryRow, after_blocks}
 use Rattle.rtcp_members.proofs.LawLemmas as tables
 use Rattle.rtcp_report.proofs.LawLemmas.{tables_follow_reports-packets}
 use Rattle.rtcp_timer.specs.Schedules.{Timing}
-use Rattle.rtcp_engine.specs.OwnStreams.{OwnValue}
-use Rattle.rtcp_engine.specs.Arrivals.{media_fact, facts_of_csrcs, facts_of_media, rate_of}
-use Rattle.rtcp_engine.specs.States.{State, state_with, IsSound}
+use Rattle.rtcp_engine.specs.answers.OwnStreams.{OwnValue}
+use Rattle.rtcp_engine.specs.answers.Arrivals.{media_fact, facts_of_csrcs, facts_of_media, rate_of}
+use Rattle.rtcp_engine.specs.state.States.{State, state_with, IsSound}
 
 -- a table that another became, with its bounds and room, and few packets of each source
 pub record IsKept (old new : TableValue) (packets : ℕ) : Type 0 where

@@ -13,27 +13,27 @@ use Rattle.rtcp_timer.specs.Loads.{interval_of}
 use Rattle.rtcp_timer.specs.Schedules.{Happening, Timing, IsDue, IsInOrder, newest_transmission, greatest_draw, schedule_at}
 use Rattle.rtcp_timer.specs.Departures.{members_known, last_departure}
 use Rattle.rtcp_timer.proofs.LawLemmas.{due_in_time}
-use Rattle.rtcp_engine.specs.Setups.{Setup, SettingsValue, IsUsable, settings_of, with_settings}
-use Rattle.rtcp_engine.specs.Acts.{rtcp, rtp, Act, arrived, rtp_sent, ticked, left, configured, moment_of, forgotten}
-use Rattle.rtcp_engine.specs.Identities.{with_ssrc}
-use Rattle.rtcp_engine.specs.OwnStreams.{has_sent}
-use Rattle.rtcp_engine.specs.Outcomes.{Outcome, interval_at, member_count, nothing_yet, with_pace}
-use Rattle.rtcp_engine.specs.Ticks.{checked, has_come, has_passed, is_report_due, put_off, reported, with_recount, with_report}
-use Rattle.rtcp_engine.specs.Arrivals.{media_fact, rate_of, with_media}
-use Rattle.rtcp_engine.specs.Changes.{NewIdentifier, Session, change_by, changed_by}
+use Rattle.rtcp_engine.specs.answers.Setups.{Setup, SettingsValue, IsUsable, settings_of, with_settings}
+use Rattle.rtcp_engine.specs.answers.Acts.{rtcp, rtp, Act, arrived, rtp_sent, ticked, left, configured, moment_of, forgotten}
+use Rattle.rtcp_engine.specs.answers.Identities.{with_ssrc}
+use Rattle.rtcp_engine.specs.answers.OwnStreams.{has_sent}
+use Rattle.rtcp_engine.specs.answers.Outcomes.{Outcome, interval_at, member_count, nothing_yet, with_pace}
+use Rattle.rtcp_engine.specs.answers.Ticks.{checked, has_come, has_passed, is_report_due, put_off, reported, with_recount, with_report}
+use Rattle.rtcp_engine.specs.answers.Arrivals.{media_fact, rate_of, with_media}
+use Rattle.rtcp_engine.specs.answers.Changes.{NewIdentifier, Session, change_by, changed_by}
 use Rattle.rtcp_engine.specs.declared.refusal.Refusal.{Refusal}
-use Rattle.rtcp_engine.specs.Answers.{answer_of, followed_by, step_by}
-use Rattle.rtcp_engine.specs.Histories.{History, last_moment, life_at, session_of, settings_after, setup_at, with_act}
-use Rattle.rtcp_engine.specs.Refusals.{refusal_after}
-use Rattle.rtcp_engine.specs.Runs.{HasCompound, IsAnsweredInTime}
-use Rattle.rtcp_engine.specs.Steps.{answer_unless}
-use Rattle.rtcp_engine.specs.Reporting.{bye_octets, report_octets}
-use Rattle.rtcp_engine.specs.Taken.{HasWords, AllTaken, IsHistory}
-use Rattle.rtcp_engine.specs.Leaving.{Backoff, Life, present, backing_off, finished, after_waiting_tick, left_at, bye_count, is_bye_due, leaving_interval, leaving_load, leaving_timing}
-use Rattle.rtcp_engine.specs.Lives.{lived, bye_out, out_by, report_out, with_new_ssrc}
-use Rattle.rtcp_engine.specs.Sent.{Sent, interval_by, reports_in, sent_at}
-use Rattle.rtcp_engine.specs.Spacing.{first_leave, newest_moment}
-use Rattle.rtcp_engine.specs.InTime.{AllInTime, HasWaited, IsInTime, greatest_by, greatest_interval, is_fall, last_fall}
+use Rattle.rtcp_engine.specs.answers.Answers.{answer_of, followed_by, step_by}
+use Rattle.rtcp_engine.specs.answers.Histories.{History, last_moment, life_at, session_of, settings_after, setup_at, with_act}
+use Rattle.rtcp_engine.specs.answers.Refusals.{refusal_after}
+use Rattle.rtcp_engine.specs.bounds.Runs.{HasCompound, IsAnsweredInTime}
+use Rattle.rtcp_engine.specs.answers.Steps.{answer_unless}
+use Rattle.rtcp_engine.specs.answers.Reporting.{bye_octets, report_octets}
+use Rattle.rtcp_engine.specs.state.Taken.{HasWords, AllTaken, IsHistory}
+use Rattle.rtcp_engine.specs.answers.Leaving.{Backoff, Life, present, backing_off, finished, after_waiting_tick, left_at, bye_count, is_bye_due, leaving_interval, leaving_load, leaving_timing}
+use Rattle.rtcp_engine.specs.answers.Lives.{lived, bye_out, out_by, report_out, with_new_ssrc}
+use Rattle.rtcp_engine.specs.bounds.Sent.{Sent, interval_by, reports_in, sent_at}
+use Rattle.rtcp_engine.specs.bounds.Spacing.{first_leave, newest_moment}
+use Rattle.rtcp_engine.specs.bounds.InTime.{AllInTime, HasWaited, IsInTime, greatest_by, greatest_interval, is_fall, last_fall}
 use Rattle.rtcp_engine.proofs.LifeLemmas.{of_leave, of_wait}
 use Rattle.rtcp_engine.proofs.Sending.{AreUpTo, KeepsApart, in_time, session_keeps_apart}
 

@@ -6,12 +6,12 @@ use Rattle.rtcp_timer.specs.Departures.{last_departure}
 use Rattle.rtcp_timer.specs.Loads.{minimum_of}
 use Rattle.rtcp_timer.specs.Schedules.{Happening, IsInOrder, newest_transmission, schedule_at}
 use Rattle.rtcp_timer.proofs.LawLemmas.{last_lies_between-not_before_sent, last_lies_between-not_after_departure}
-use Rattle.rtcp_engine.specs.Outcomes.{Outcome, timing_of}
-use Rattle.rtcp_engine.specs.Leaving.{Backoff, Life, present, backing_off, finished, leaving_timing}
-use Rattle.rtcp_engine.specs.Sent.{Sent, is_report, reports_in, sent_at}
-use Rattle.rtcp_engine.specs.Histories.{History, last_moment, life_at}
-use Rattle.rtcp_engine.specs.Taken.{IsHistory}
-use Rattle.rtcp_engine.specs.Spacing.{newest_moment, AreSpaced, is_between, first_leave, is_last_bye, EndsWithBye, LiesAfter, AllFit, KeepsBounds}
+use Rattle.rtcp_engine.specs.answers.Outcomes.{Outcome, timing_of}
+use Rattle.rtcp_engine.specs.answers.Leaving.{Backoff, Life, present, backing_off, finished, leaving_timing}
+use Rattle.rtcp_engine.specs.bounds.Sent.{Sent, is_report, reports_in, sent_at}
+use Rattle.rtcp_engine.specs.answers.Histories.{History, last_moment, life_at}
+use Rattle.rtcp_engine.specs.state.Taken.{IsHistory}
+use Rattle.rtcp_engine.specs.bounds.Spacing.{newest_moment, AreSpaced, is_between, first_leave, is_last_bye, EndsWithBye, LiesAfter, AllFit, KeepsBounds}
 use Rattle.rtcp_engine.proofs.NewIdentifiers.{few_changes}
 use Rattle.rtcp_engine.proofs.Sending.{none_sent, AllStay, AreReports, EndsSo, IsLast, KeepsApart, Stays, TakesPart, BacksOff, session_keeps_apart}
 

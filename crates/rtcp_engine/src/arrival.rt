@@ -1,9 +1,9 @@
 //! A datagram that came, once it is read.
 
 ghost use Rattle.std.specs.Prelude.{◌≡◌};
-ghost use Rattle.rtcp_engine.specs.Identities.{is_among};
-ghost use Rattle.rtcp_engine.specs.Changes.{is_about, named_by};
-ghost use Rattle.rtcp_engine.specs.Views.{datagram_of};
+ghost use Rattle.rtcp_engine.specs.answers.Identities.{is_among};
+ghost use Rattle.rtcp_engine.specs.answers.Changes.{is_about, named_by};
+ghost use Rattle.rtcp_engine.specs.state.Views.{datagram_of};
 
 use crate::sayings::speak_of;
 use rtcp_wire::{Compound, RtpHead, facts};

@@ -2,7 +2,7 @@
 
 ghost use Rattle.std.specs.Prelude.{◌≡◌, min};
 ghost use Rattle.rtcp_wire.specs.Views.{packet_value};
-ghost use Rattle.rtcp_engine.specs.Leaving.{bye_count, is_bye as is_bye_value};
+ghost use Rattle.rtcp_engine.specs.answers.Leaving.{bye_count, is_bye as is_bye_value};
 
 use rtcp_wire::{PacketView, Packets};
 

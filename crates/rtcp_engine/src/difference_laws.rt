@@ -3,10 +3,10 @@
 
 ghost use Rattle.std.specs.Prelude.{◌≡◌, ℕ, false};
 ghost use Rattle.rtcp_members.specs.Roles.{IsSameRole};
-ghost use Rattle.rtcp_engine.specs.Acts.{Act};
-ghost use Rattle.rtcp_engine.specs.Answers.{step_by};
-ghost use Rattle.rtcp_engine.specs.Histories.{History, life_at, setup_at, with_act};
-ghost use Rattle.rtcp_engine.specs.Lives.{entry_in_life};
+ghost use Rattle.rtcp_engine.specs.answers.Acts.{Act};
+ghost use Rattle.rtcp_engine.specs.answers.Answers.{step_by};
+ghost use Rattle.rtcp_engine.specs.answers.Histories.{History, life_at, setup_at, with_act};
+ghost use Rattle.rtcp_engine.specs.answers.Lives.{entry_in_life};
 
 pub use rtcp_listing::laws::{
     changes_have_each_once, changes_lead_to_the_later, sources_are_listings,

@@ -1,7 +1,7 @@
 //! What a host tells a participant, as a value.
 
-ghost use Rattle.rtcp_engine.specs.Promises.{Answers, Replies};
-ghost use Rattle.rtcp_engine.specs.Views.{event_value};
+ghost use Rattle.rtcp_engine.specs.state.Promises.{Answers, Replies};
+ghost use Rattle.rtcp_engine.specs.state.Views.{event_value};
 
 use crate::participant::Participant;
 use crate::settings::Settings;

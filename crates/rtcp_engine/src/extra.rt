@@ -2,7 +2,7 @@
 
 ghost use Rattle.std.specs.Prelude.{◌≡◌, ◌<◌, map};
 ghost use Rattle.rtcp_report.specs.Views.{item_value, extra_of};
-ghost use Rattle.rtcp_engine.specs.Reporting.{extra_item as item_of};
+ghost use Rattle.rtcp_engine.specs.answers.Reporting.{extra_item as item_of};
 
 use rtcp_report::Item;
 

@@ -8,13 +8,13 @@ ghost use Rattle.rtcp_wire.specs.Values.{RtcpPacket};
 ghost use Rattle.rtcp_members.specs.Stays.{last_naming};
 ghost use Rattle.rtcp_members.specs.Lasting.{MayBring};
 ghost use Rattle.rtcp_members.specs.Entries.{entry_at, is_member, is_such};
-ghost use Rattle.rtcp_engine.specs.Acts.{Act, Datagram, arrived, rtcp};
-ghost use Rattle.rtcp_engine.specs.Outcomes.{Outcome};
-ghost use Rattle.rtcp_engine.specs.Ticks.{checked};
-ghost use Rattle.rtcp_engine.specs.Leaving.{present};
-ghost use Rattle.rtcp_engine.specs.Histories.{History, life_at, setup_at, with_act};
-ghost use Rattle.rtcp_engine.specs.Taken.{IsHistory};
-ghost use Rattle.rtcp_engine.specs.Hearing.{
+ghost use Rattle.rtcp_engine.specs.answers.Acts.{Act, Datagram, arrived, rtcp};
+ghost use Rattle.rtcp_engine.specs.answers.Outcomes.{Outcome};
+ghost use Rattle.rtcp_engine.specs.answers.Ticks.{checked};
+ghost use Rattle.rtcp_engine.specs.answers.Leaving.{present};
+ghost use Rattle.rtcp_engine.specs.answers.Histories.{History, life_at, setup_at, with_act};
+ghost use Rattle.rtcp_engine.specs.state.Taken.{IsHistory};
+ghost use Rattle.rtcp_engine.specs.bounds.Hearing.{
   IsHeardAtTicks,
   IsHeardLately,
   IsNamedAtTicks,

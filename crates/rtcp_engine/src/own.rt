@@ -2,8 +2,8 @@
 
 ghost use Rattle.std.specs.Prelude.{◌≡◌, [], is_some, option_map};
 ghost use Rattle.rtcp_report.specs.Views.{sent_value};
-ghost use Rattle.rtcp_engine.specs.OwnStreams.{Adds, packet_sent, check_passed, report_sent, own_of, timestamp_at, sent_of};
-ghost use Rattle.rtcp_engine.specs.OwnValues.{own_anew, packet_value};
+ghost use Rattle.rtcp_engine.specs.answers.OwnStreams.{Adds, packet_sent, check_passed, report_sent, own_of, timestamp_at, sent_of};
+ghost use Rattle.rtcp_engine.specs.state.OwnValues.{own_anew, packet_value};
 
 use rtcp_clock::{ntp_of, rtp_units};
 use rtcp_report::SrPart;
@@ -32,8 +32,8 @@ pub(crate) struct OwnStream {
 
 impl Model for OwnStream {
     ghost use Rattle.std.specs.Prelude.{option_map};
-    ghost use Rattle.rtcp_engine.specs.OwnStreams.{OwnValue};
-    ghost use Rattle.rtcp_engine.specs.OwnValues.{packet_value};
+    ghost use Rattle.rtcp_engine.specs.answers.OwnStreams.{OwnValue};
+    ghost use Rattle.rtcp_engine.specs.state.OwnValues.{packet_value};
 
     ghost Value = { OwnValue };
 

@@ -1,7 +1,7 @@
 //! The bandwidths that checks go by after a change of settings.
 
 ghost use Rattle.std.specs.Prelude.{◌≡◌, ◌≤◌, IfSome};
-ghost use Rattle.rtcp_engine.specs.Outcomes.{end_of as end_of_pace, slowed_by, IsPace};
+ghost use Rattle.rtcp_engine.specs.answers.Outcomes.{end_of as end_of_pace, slowed_by, IsPace};
 
 use rtcp_timer::Load;
 

@@ -5,13 +5,13 @@ ghost use Rattle.std.specs.FinMap as map;
 ghost use Rattle.rtcp_members.specs.Listings.{state_above, states_above};
 ghost use Rattle.rtcp_members.specs.ListViews.{state_value};
 ghost use Rattle.rtcp_members.specs.Tables.{no_members};
-ghost use Rattle.rtcp_engine.specs.Refused.{error_in};
-ghost use Rattle.rtcp_engine.specs.Views.{setup_of};
-ghost use Rattle.rtcp_engine.specs.Outcomes.{Outcome, one_if, member_count as member_count_of, sender_count as sender_count_of, load_of, interval_at};
-ghost use Rattle.rtcp_engine.specs.Taken.{begun};
-ghost use Rattle.rtcp_engine.specs.States.{Agrees, HasOthers, KeepsCapacity, StandsAt, newcomer};
-ghost use Rattle.rtcp_engine.specs.Refusals.{call_refusal};
-ghost use Rattle.rtcp_engine.specs.Untimely.{refusal_of_moment};
+ghost use Rattle.rtcp_engine.specs.answers.Refused.{error_in};
+ghost use Rattle.rtcp_engine.specs.state.Views.{setup_of};
+ghost use Rattle.rtcp_engine.specs.answers.Outcomes.{Outcome, one_if, member_count as member_count_of, sender_count as sender_count_of, load_of, interval_at};
+ghost use Rattle.rtcp_engine.specs.state.Taken.{begun};
+ghost use Rattle.rtcp_engine.specs.state.States.{Agrees, HasOthers, KeepsCapacity, StandsAt, newcomer};
+ghost use Rattle.rtcp_engine.specs.answers.Refusals.{call_refusal};
+ghost use Rattle.rtcp_engine.specs.answers.Untimely.{refusal_of_moment};
 
 use crate::config::Config;
 use crate::own::OwnStream;
@@ -62,9 +62,9 @@ pub(crate) struct Presence<T: MemberTable> {
 }
 
 impl<T: MemberTable> Model for Presence<T> {
-    ghost use Rattle.rtcp_engine.specs.Views.{setup_of};
-    ghost use Rattle.rtcp_engine.specs.States.{State, IsSound, state_with};
-    ghost use Rattle.rtcp_engine.specs.Codes.{state_code};
+    ghost use Rattle.rtcp_engine.specs.state.Views.{setup_of};
+    ghost use Rattle.rtcp_engine.specs.state.States.{State, IsSound, state_with};
+    ghost use Rattle.rtcp_engine.specs.state.Codes.{state_code};
 
     ghost Value = { State };
 

@@ -1,13 +1,13 @@
 //! Runs of a participant over events.
 
 ghost use Rattle.std.specs.Prelude.{◌≡◌, ◌≤◌, ◌<◌, ◌+◌, ◌-◌, ◌^◌, ◌++◌, true, false, List, length, take};
-ghost use Rattle.rtcp_engine.specs.Acts.{Act};
-ghost use Rattle.rtcp_engine.specs.Outcomes.{one_if};
-ghost use Rattle.rtcp_engine.specs.Histories.{History};
-ghost use Rattle.rtcp_engine.specs.Answers.{answers_to, followed_by_all};
-ghost use Rattle.rtcp_engine.specs.Views.{AreActsOf};
-ghost use Rattle.rtcp_engine.specs.Runs.{HandsOver, taken_since};
-ghost use Rattle.rtcp_engine.specs.States.{KeepsCapacity, StandsAt};
+ghost use Rattle.rtcp_engine.specs.answers.Acts.{Act};
+ghost use Rattle.rtcp_engine.specs.answers.Outcomes.{one_if};
+ghost use Rattle.rtcp_engine.specs.answers.Histories.{History};
+ghost use Rattle.rtcp_engine.specs.answers.Answers.{answers_to, followed_by_all};
+ghost use Rattle.rtcp_engine.specs.state.Views.{AreActsOf};
+ghost use Rattle.rtcp_engine.specs.bounds.Runs.{HandsOver, taken_since};
+ghost use Rattle.rtcp_engine.specs.state.States.{KeepsCapacity, StandsAt};
 
 use crate::event::Event;
 use crate::participant::Participant;

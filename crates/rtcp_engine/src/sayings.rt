@@ -7,7 +7,7 @@ ghost use Rattle.rtcp_wire.specs.Facts.{facts_of, facts_of_chunk, facts_of_packe
 ghost use Rattle.rtcp_wire.specs.Views.{packet_value};
 ghost use Rattle.rtcp_members.specs.Roles.{facts_move};
 ghost use Rattle.rtcp_members.specs.Tables.{after_facts};
-ghost use Rattle.rtcp_engine.specs.Sayings.{facts_of_chunks, facts_of_byes};
+ghost use Rattle.rtcp_engine.specs.state.Sayings.{facts_of_chunks, facts_of_byes};
 
 use crate::table::apply_said;
 use rtcp_members::MemberTable;

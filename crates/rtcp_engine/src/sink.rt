@@ -1,8 +1,8 @@
 //! Where the answers of a run go.
 
 ghost use Rattle.std.specs.Prelude.{◌≡◌, ◌<◌, ◌+◌, ◌-◌, ◌^◌, ◌++◌, ℕ, List, [], ◌∷◌, OnOk, OnErr};
-ghost use Rattle.rtcp_engine.specs.Steps.{AnswerValue};
-ghost use Rattle.rtcp_engine.specs.Views.{answer_value};
+ghost use Rattle.rtcp_engine.specs.answers.Steps.{AnswerValue};
+ghost use Rattle.rtcp_engine.specs.state.Views.{answer_value};
 
 use crate::step::Answer;
 use thiserror::Error;

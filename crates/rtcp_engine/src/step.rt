@@ -1,7 +1,7 @@
 //! What a participant answers.
 
 ghost use Rattle.std.specs.Prelude.{◌≡◌, ◌≤◌, Some, length, option_map};
-ghost use Rattle.rtcp_engine.specs.Views.{LeavesRest, answer_value, out_in, out_written, out_value, reply_value, size_written};
+ghost use Rattle.rtcp_engine.specs.state.Views.{LeavesRest, answer_value, out_in, out_written, out_value, reply_value, size_written};
 
 use crate::refusal::Refusal;
 use arrayvec::ArrayVec;

@@ -6,7 +6,7 @@ ghost use Rattle.rtcp_wire.specs.Facts.{is_media};
 ghost use Rattle.rtcp_members.specs.Roles.{check_moves, facts_move, forgetting_moves};
 ghost use Rattle.rtcp_members.specs.Tables.{HasFew, after_check, after_forgetting, after_facts, counted, members_in, senders_in};
 ghost use Rattle.rtcp_members.specs.Traces.{horizons_at};
-ghost use Rattle.rtcp_engine.specs.Arrivals.{facts_of_csrcs, facts_of_media, media_fact};
+ghost use Rattle.rtcp_engine.specs.answers.Arrivals.{facts_of_csrcs, facts_of_media, media_fact};
 
 use rtcp_members::MemberTable;
 use rtcp_wire::{Fact, RtpHead};

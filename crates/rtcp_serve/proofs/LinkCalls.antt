@@ -12,14 +12,14 @@ use Rattle.rtcp_serve.specs.Endings.{AreHeeded, IsCut, IsHeeded, MayAnswer, Paus
 use Rattle.rtcp_serve.specs.Links.{Call, LinkValue, GrowsBy, WereCalled, clock_read, compound_sent, port_heard, datagram, how_many, is_failed_receive, is_failed_send}
 use Rattle.rtcp_serve.specs.Observers.{Notice, event_told, send_tried, telling}
 use Rattle.rand_core.specs.Stream.{Stream, next_u32}
-use Rattle.rtcp_engine.specs.Acts.{ticked, left as asked_to_leave, EventValue, IsActOfEvent, rtcp_arrived, rtp_arrived, packet_sent, time_passed, leave_asked, settings_given, forget_asked}
-use Rattle.rtcp_engine.specs.Histories.{History}
-use Rattle.rtcp_engine.specs.Answers.{answer_of, followed_by}
-use Rattle.rtcp_engine.specs.States.{ParticipantValue, StandsAt}
+use Rattle.rtcp_engine.specs.answers.Acts.{ticked, left as asked_to_leave, EventValue, IsActOfEvent, rtcp_arrived, rtp_arrived, packet_sent, time_passed, leave_asked, settings_given, forget_asked}
+use Rattle.rtcp_engine.specs.answers.Histories.{History}
+use Rattle.rtcp_engine.specs.answers.Answers.{answer_of, followed_by}
+use Rattle.rtcp_engine.specs.state.States.{ParticipantValue, StandsAt}
 use Rattle.rtcp_engine.specs.declared.step.Step.{Step}
 use Rattle.rtcp_engine.specs.declared.refusal.Refusal.{Refusal}
-use Rattle.rtcp_engine.specs.Views.{answer_value}
-use Rattle.rtcp_engine.specs.Steps.{AnswerValue, OutValue}
+use Rattle.rtcp_engine.specs.state.Views.{answer_value}
+use Rattle.rtcp_engine.specs.answers.Steps.{AnswerValue, OutValue}
 use Rattle.rtcp_serve.specs.declared.serving.tally.Tally.{Tally}
 use Rattle.rtcp_serve.specs.Tallies.{HasRoom, end_of, is_limit, with_arrival, with_datagram, with_moment, with_refused, with_send}
 use Rattle.rtcp_serve.specs.Serving.{IsReader, Reader, Stage, act_in, resting, beginning, hearing, deciding, sending, ended, SessionState, rested, going, ReadsClock, Hears, Sends, Fits, at_stage, with_turns, paused, turn_by, turn_or, after_turns, gone_on, left_with, event_at, after_port, came_with, heard_at, after_clock, after_sending, after_call, after_calls, AllFit, at_the_start, stage_to_send, ticked_with, ticked_now, with_tally}

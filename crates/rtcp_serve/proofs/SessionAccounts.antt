@@ -1,11 +1,11 @@
 -- What a session comes to, call by call: the compounds, and the totals.
 use Rattle.std.proofs.Common.{◌≡◌, ℕ, zero, suc, ◌+◌, Bool, true, false, List, [], ◌∷◌, ◌++◌, Option, Some, None, Ok, Err, if◌then◌else◌, refl, sym, ap, ◌∙◌, subst, arith, append_assoc}
 use Rattle.rand_core.specs.Stream.{Stream, next_u32}
-use Rattle.rtcp_engine.specs.Acts.{EventValue}
-use Rattle.rtcp_engine.specs.Histories.{History, life_at}
-use Rattle.rtcp_engine.specs.Lives.{next_in_life}
-use Rattle.rtcp_engine.specs.Steps.{OutValue, AnswerValue}
-use Rattle.rtcp_engine.specs.Answers.{answer_of, followed_by}
+use Rattle.rtcp_engine.specs.answers.Acts.{EventValue}
+use Rattle.rtcp_engine.specs.answers.Histories.{History, life_at}
+use Rattle.rtcp_engine.specs.answers.Lives.{next_in_life}
+use Rattle.rtcp_engine.specs.answers.Steps.{OutValue, AnswerValue}
+use Rattle.rtcp_engine.specs.answers.Answers.{answer_of, followed_by}
 use Rattle.rtcp_serve.specs.declared.link.Port.{Port}
 use Rattle.rtcp_serve.specs.declared.link.Port.TheVariants.{Rtcp as RtcpPort, Rtp as RtpPort}
 use Rattle.rtcp_serve.specs.declared.serving.Cause.TheVariants.{Done, LinkDown, Limit}

@@ -1,10 +1,10 @@
 -- What a participant hands out over a session, what its link was given, and what its observer was told. Lists are
 -- newest first.
 use Rattle.std.specs.Prelude.{ℕ, Bool, List, [], ◌∷◌, ◌++◌, Option, Some, None, Ok, Err}
-use Rattle.rtcp_engine.specs.Acts.{Act}
-use Rattle.rtcp_engine.specs.Histories.{History}
-use Rattle.rtcp_engine.specs.Steps.{OutValue, AnswerValue}
-use Rattle.rtcp_engine.specs.Answers.{answer_of, followed_by}
+use Rattle.rtcp_engine.specs.answers.Acts.{Act}
+use Rattle.rtcp_engine.specs.answers.Histories.{History}
+use Rattle.rtcp_engine.specs.answers.Steps.{OutValue, AnswerValue}
+use Rattle.rtcp_engine.specs.answers.Answers.{answer_of, followed_by}
 use Rattle.rtcp_serve.specs.Links.{Call, compound_sent}
 use Rattle.rtcp_serve.specs.Observers.{Notice, event_told, send_tried}
 use Rattle.rtcp_serve.specs.Serving.{Reader, act_in}

@@ -1,7 +1,7 @@
 -- What watches a session is told. Lists of notices are newest first.
 use Rattle.std.specs.Prelude.{◌≡◌, Bool, Option, Some, None, List, [], ◌∷◌}
-use Rattle.rtcp_engine.specs.Acts.{EventValue}
-use Rattle.rtcp_engine.specs.Steps.{AnswerValue}
+use Rattle.rtcp_engine.specs.answers.Acts.{EventValue}
+use Rattle.rtcp_engine.specs.answers.Steps.{AnswerValue}
 
 -- an event that the participant was told, with its answer
 pub record Telling : Type 0 where

@@ -6,11 +6,11 @@ use Rattle.rtcp_wire.specs.declared.fault.WireFault.{WireFault}
 use Rattle.rtcp_wire.specs.declared.rtp.fault.RtpFault.{RtpFault}
 use Rattle.rtcp_wire.specs.Values.{RtcpPacket}
 use Rattle.rtcp_wire.specs.RtpHeads.{RtpValue}
-use Rattle.rtcp_engine.specs.Acts.{Act, rtcp_came, rtp_came, rtp_sent, ticked, left, configured, forgotten, IsReading, IsRtpReading, EventValue, rtcp_arrived, rtp_arrived, packet_sent, time_passed, leave_asked, settings_given, forget_asked}
-use Rattle.rtcp_engine.specs.Histories.{History, life_at}
-use Rattle.rtcp_engine.specs.Lives.{next_in_life}
-use Rattle.rtcp_engine.specs.Steps.{OutValue, AnswerValue}
-use Rattle.rtcp_engine.specs.Answers.{answer_of, followed_by}
+use Rattle.rtcp_engine.specs.answers.Acts.{Act, rtcp_came, rtp_came, rtp_sent, ticked, left, configured, forgotten, IsReading, IsRtpReading, EventValue, rtcp_arrived, rtp_arrived, packet_sent, time_passed, leave_asked, settings_given, forget_asked}
+use Rattle.rtcp_engine.specs.answers.Histories.{History, life_at}
+use Rattle.rtcp_engine.specs.answers.Lives.{next_in_life}
+use Rattle.rtcp_engine.specs.answers.Steps.{OutValue, AnswerValue}
+use Rattle.rtcp_engine.specs.answers.Answers.{answer_of, followed_by}
 use Rattle.rtcp_serve.specs.declared.link.Port.{Port}
 use Rattle.rtcp_serve.specs.declared.link.Port.TheVariants.{Rtcp as RtcpPort, Rtp as RtpPort}
 use Rattle.rtcp_serve.specs.declared.serving.Cause.{Cause}

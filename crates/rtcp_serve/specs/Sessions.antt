@@ -1,10 +1,10 @@
 -- How far a session over a link has come, and what is kept of it.
 use Rattle.std.specs.Prelude.{◌≡◌, ◌≤◌, ℕ, suc, ◌⊎◌, IsTrue, is_some, Bool, true, false, List, Option, None, Result, Ok, Err}
 use Rattle.rand_core.specs.Stream.{Stream}
-use Rattle.rtcp_engine.specs.Histories.{History, life_at}
-use Rattle.rtcp_engine.specs.Lives.{next_in_life}
-use Rattle.rtcp_engine.specs.States.{ParticipantValue, StandsAt}
-use Rattle.rtcp_engine.specs.Steps.{AnswerValue}
+use Rattle.rtcp_engine.specs.answers.Histories.{History, life_at}
+use Rattle.rtcp_engine.specs.answers.Lives.{next_in_life}
+use Rattle.rtcp_engine.specs.state.States.{ParticipantValue, StandsAt}
+use Rattle.rtcp_engine.specs.answers.Steps.{AnswerValue}
 use Rattle.rtcp_serve.specs.declared.serving.End.{End}
 use Rattle.rtcp_serve.specs.declared.serving.Cause.{Cause}
 use Rattle.rtcp_serve.specs.declared.serving.Cause.TheVariants.{Done}

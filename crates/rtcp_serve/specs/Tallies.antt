@@ -4,8 +4,8 @@ use Rattle.rtcp_engine.specs.declared.step.OutKind.{OutKind}
 use Rattle.rtcp_engine.specs.declared.step.OutKind.TheVariants.{Report, Bye}
 use Rattle.rtcp_engine.specs.declared.refusal.Refusal.{Refusal}
 use Rattle.rtcp_engine.specs.declared.refusal.Refusal.TheVariants.{TooFar, TooMany}
-use Rattle.rtcp_engine.specs.Outcomes.{one_if}
-use Rattle.rtcp_engine.specs.Steps.{AnswerValue}
+use Rattle.rtcp_engine.specs.answers.Outcomes.{one_if}
+use Rattle.rtcp_engine.specs.answers.Steps.{AnswerValue}
 use Rattle.rtcp_serve.specs.Links.{LinkValue}
 use Rattle.rtcp_serve.specs.declared.serving.Cause.{Cause}
 use Rattle.rtcp_serve.specs.declared.serving.End.{End}

@@ -1,6 +1,6 @@
 //! What watches a session.
 
-ghost use Rattle.rtcp_engine.specs.Views.{answer_value, event_value};
+ghost use Rattle.rtcp_engine.specs.state.Views.{answer_value, event_value};
 ghost use Rattle.rtcp_serve.specs.Observers.{Notice, TakesIfSome, event_told, send_tried, telling};
 
 use rtcp_engine::{Answer, Event, Participant};

@@ -3,7 +3,7 @@
 
 ghost use Rattle.std.specs.Prelude.{◌≡◌, ◌<◌, ◌≤◌, ◌/◌, ◌++◌, ◌∷◌, ℕ, List, All, Some, true, false};
 ghost use Rattle.rand_core.specs.Stream.{Stream};
-ghost use Rattle.rtcp_engine.specs.Histories.{History};
+ghost use Rattle.rtcp_engine.specs.answers.Histories.{History};
 ghost use Rattle.rtcp_serve.specs.declared.serving.Cause.{Cause};
 ghost use Rattle.rtcp_serve.specs.declared.serving.End.{End};
 ghost use Rattle.rtcp_serve.specs.Endings.{known_until};

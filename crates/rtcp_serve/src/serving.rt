@@ -1,8 +1,8 @@
 //! A session over a link.
 
 ghost use Rattle.std.specs.Prelude.{◌≡◌, ◌≤◌, ◌<◌, ◌^◌};
-ghost use Rattle.rtcp_engine.specs.Histories.{History};
-ghost use Rattle.rtcp_engine.specs.States.{StandsAt};
+ghost use Rattle.rtcp_engine.specs.answers.Histories.{History};
+ghost use Rattle.rtcp_engine.specs.state.States.{StandsAt};
 ghost use Rattle.rtcp_serve.specs.Observers.{unwatched};
 ghost use Rattle.rtcp_serve.specs.Serving.{IsReader, Reader, SessionState, at_the_start, ended};
 ghost use Rattle.rtcp_serve.specs.Sessions.{EndsAs, RunsCut, RunsSession, keeps, run_of};

@@ -10,15 +10,15 @@ use Rattle.rtcp_members.specs.Pending.{blocks_of}
 use Rattle.rtcp_report.specs.Reports.{SentValue, Reporter, reports_with, description_of, packets_with}
 use Rattle.rtcp_report.specs.Views.{items_of}
 use Rattle.rtcp_engine.specs.declared.changes.IdentifierChange.{IdentifierChange}
-use Rattle.rtcp_engine.specs.Setups.{Setup}
-use Rattle.rtcp_engine.specs.Acts.{Act, ticked}
-use Rattle.rtcp_engine.specs.Outcomes.{Outcome, interval_at}
-use Rattle.rtcp_engine.specs.Ticks.{checked, is_report_due}
-use Rattle.rtcp_engine.specs.Reporting.{extra_item, reporter_at, reported_at, report_packets, report_octets}
-use Rattle.rtcp_engine.specs.Leaving.{Life, present}
-use Rattle.rtcp_engine.specs.Lives.{report_out}
-use Rattle.rtcp_engine.specs.Histories.{History, session_of}
-use Rattle.rtcp_engine.specs.Sent.{Sent, reports_in, sent_with}
+use Rattle.rtcp_engine.specs.answers.Setups.{Setup}
+use Rattle.rtcp_engine.specs.answers.Acts.{Act, ticked}
+use Rattle.rtcp_engine.specs.answers.Outcomes.{Outcome, interval_at}
+use Rattle.rtcp_engine.specs.answers.Ticks.{checked, is_report_due}
+use Rattle.rtcp_engine.specs.answers.Reporting.{extra_item, reporter_at, reported_at, report_packets, report_octets}
+use Rattle.rtcp_engine.specs.answers.Leaving.{Life, present}
+use Rattle.rtcp_engine.specs.answers.Lives.{report_out}
+use Rattle.rtcp_engine.specs.answers.Histories.{History, session_of}
+use Rattle.rtcp_engine.specs.bounds.Sent.{Sent, reports_in, sent_with}
 use Rattle.rtcp_session.specs.Windows.{decided_by, decided_over, decided_at}
 use Rattle.rtcp_session.specs.Deliveries.{NamesItsSource}
 use Rattle.rtcp_session.proofs.Deciding.{decided_as}

@@ -13,18 +13,18 @@ use Rattle.rtcp_timer.specs.Averages.{with_headers}
 use Rattle.rtcp_timer.specs.Loads.{interval_of}
 use Rattle.rtcp_timer.proofs.LawLemmas.{interval_has_minimum}
 use Rattle.rtcp_engine.specs.declared.changes.IdentifierChange.{IdentifierChange}
-use Rattle.rtcp_engine.specs.Setups.{Setup, IsUsable}
-use Rattle.rtcp_engine.specs.Acts.{Datagram, Act, arrived, rtp_sent, ticked, left, configured, forgotten}
-use Rattle.rtcp_engine.specs.OwnStreams.{has_sent}
-use Rattle.rtcp_engine.specs.Outcomes.{Outcome}
-use Rattle.rtcp_engine.specs.Reporting.{bye_octets}
-use Rattle.rtcp_engine.specs.Leaving.{ByeCompound, Backoff, leaving_average, Life, present, backing_off, finished, is_bye_due, leaving_count, leaving_interval, leaving_timing}
-use Rattle.rtcp_engine.specs.Lives.{bye_out, out_by}
-use Rattle.rtcp_engine.specs.Changes.{NewIdentifier, Session, bye_of_change, change_by, changed_by}
-use Rattle.rtcp_engine.specs.Histories.{History, session_of}
-use Rattle.rtcp_engine.specs.Taken.{AllTaken, IsHistory}
-use Rattle.rtcp_engine.specs.Sent.{Sent, interval_by, sent_with, sent_by, sent_over, sent_at}
-use Rattle.rtcp_engine.specs.Spacing.{HalfPasses, first_leave, is_last_bye}
+use Rattle.rtcp_engine.specs.answers.Setups.{Setup, IsUsable}
+use Rattle.rtcp_engine.specs.answers.Acts.{Datagram, Act, arrived, rtp_sent, ticked, left, configured, forgotten}
+use Rattle.rtcp_engine.specs.answers.OwnStreams.{has_sent}
+use Rattle.rtcp_engine.specs.answers.Outcomes.{Outcome}
+use Rattle.rtcp_engine.specs.answers.Reporting.{bye_octets}
+use Rattle.rtcp_engine.specs.answers.Leaving.{ByeCompound, Backoff, leaving_average, Life, present, backing_off, finished, is_bye_due, leaving_count, leaving_interval, leaving_timing}
+use Rattle.rtcp_engine.specs.answers.Lives.{bye_out, out_by}
+use Rattle.rtcp_engine.specs.answers.Changes.{NewIdentifier, Session, bye_of_change, change_by, changed_by}
+use Rattle.rtcp_engine.specs.answers.Histories.{History, session_of}
+use Rattle.rtcp_engine.specs.state.Taken.{AllTaken, IsHistory}
+use Rattle.rtcp_engine.specs.bounds.Sent.{Sent, interval_by, sent_with, sent_by, sent_over, sent_at}
+use Rattle.rtcp_engine.specs.bounds.Spacing.{HalfPasses, first_leave, is_last_bye}
 use Rattle.rtcp_engine.proofs.LawLemmas.{sent_compounds_keep_apart, setups_keep_the_rest-usable, last_lies_after_what_was_sent-backing_off}
 use Rattle.rtcp_session.specs.Windows.{Joined}
 use Rattle.rtcp_session.specs.Crowds.{Terms, HasAtMost, carried_in}

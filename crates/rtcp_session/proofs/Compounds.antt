@@ -2,9 +2,9 @@
 use Rattle.std.proofs.Common.{◌≡◌, ℕ, ◌+◌, ◌*◌, ◌≤◌, ◌&&◌, not, Bool, true, false, cond, List, [], ◌∷◌, length, filter, All, Option, refl, ap, arith}
 use Rattle.std.proofs.lemmas.List.Elements.{All-head, All-tail}
 use Rattle.std.proofs.lemmas.List.Sums.{sum_by-cons}
-use Rattle.rtcp_engine.specs.Taken.{IsHistory}
-use Rattle.rtcp_engine.specs.Sent.{Sent, is_report, reports_in, sent_at}
-use Rattle.rtcp_engine.specs.Spacing.{first_leave, is_last_bye, is_change_bye, EndsWithBye}
+use Rattle.rtcp_engine.specs.state.Taken.{IsHistory}
+use Rattle.rtcp_engine.specs.bounds.Sent.{Sent, is_report, reports_in, sent_at}
+use Rattle.rtcp_engine.specs.bounds.Spacing.{first_leave, is_last_bye, is_change_bye, EndsWithBye}
 use Rattle.rtcp_engine.proofs.LawLemmas.{sent_compounds_keep_apart}
 use Rattle.rtcp_session.specs.Windows.{Joined, is_inside, reports_within, compounds_within}
 use Rattle.rtcp_session.specs.Crowds.{total_reports, total_compounds}

@@ -5,7 +5,7 @@ use Rattle.std.proofs.lemmas.Bool.{and_from, and_parts, both_ways, eq-eqb, eqb-f
 use Rattle.std.proofs.lemmas.List.{length-map, map-append}
 use Rattle.std.proofs.lemmas.List.Elements.{All-nil, All-cons, All-append, All-head, All-tail, All-map, All-filter, All-weaker, filter_passes, filter-append, recursion_from_All}
 use Rattle.rtcp_members.specs.Entries.{EntryValue, entry_at, is_member, is_sender, is_such}
-use Rattle.rtcp_engine.specs.Taken.{IsHistory}
+use Rattle.rtcp_engine.specs.state.Taken.{IsHistory}
 use Rattle.rtcp_session.specs.Windows.{Decided, load_at, decided_at, Joined, is_inside, decided_within}
 use Rattle.rtcp_session.specs.Crowds.{AreHeard, has_role, Terms}
 use Rattle.rtcp_session.specs.Waits.{Wait, wait_between, waits_over, waits_within, all_waits, is_open, open_at, reports_next_as, waits_as, HearsWaiting}

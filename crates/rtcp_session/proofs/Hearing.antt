@@ -12,9 +12,9 @@ use Rattle.rtcp_members.specs.Traces.{TraceStep, names}
 use Rattle.rtcp_members.specs.Stays.{stay_of}
 use Rattle.rtcp_members.specs.Entries.{EntryValue, entry_at, entry_of, is_member, is_sender, is_such, count_at, members_at, senders_at}
 use Rattle.rtcp_members.proofs.LawLemmas.{present_were_named_and_fit-named}
-use Rattle.rtcp_engine.specs.Setups.{Setup}
-use Rattle.rtcp_engine.specs.OwnStreams.{we_sent}
-use Rattle.rtcp_engine.specs.Outcomes.{Outcome, load_of, one_if}
+use Rattle.rtcp_engine.specs.answers.Setups.{Setup}
+use Rattle.rtcp_engine.specs.answers.OwnStreams.{we_sent}
+use Rattle.rtcp_engine.specs.answers.Outcomes.{Outcome, load_of, one_if}
 use Rattle.rtcp_session.specs.Windows.{Decided, load_at, Joined}
 use Rattle.rtcp_session.specs.Joins.{CountsJoining, HearsJoining}
 use Rattle.rtcp_session.specs.Waits.{Wait, open_at, CountsWaiting, AreCounted, HearsWaiting, AreHeardWaiting}

@@ -7,13 +7,13 @@ use Rattle.rtcp_wire.specs.Facts.{facts_of}
 use Rattle.rtcp_members.specs.Lasting.{MayBring}
 use Rattle.rtcp_members.specs.Entries.{entry_at, is_member, is_such}
 use Rattle.rtcp_engine.specs.declared.changes.IdentifierChange.{IdentifierChange}
-use Rattle.rtcp_engine.specs.Setups.{Setup}
-use Rattle.rtcp_engine.specs.Acts.{Act, arrived, rtcp, ticked}
-use Rattle.rtcp_engine.specs.Outcomes.{Outcome}
-use Rattle.rtcp_engine.specs.Ticks.{checked}
-use Rattle.rtcp_engine.specs.Leaving.{Life, present, backing_off, finished}
-use Rattle.rtcp_engine.specs.Histories.{History, life_at, session_at, setup_at, with_act}
-use Rattle.rtcp_engine.specs.Hearing.{IsHeardAtTicks, LeavesAlone, with_acts}
+use Rattle.rtcp_engine.specs.answers.Setups.{Setup}
+use Rattle.rtcp_engine.specs.answers.Acts.{Act, arrived, rtcp, ticked}
+use Rattle.rtcp_engine.specs.answers.Outcomes.{Outcome}
+use Rattle.rtcp_engine.specs.answers.Ticks.{checked}
+use Rattle.rtcp_engine.specs.answers.Leaving.{Life, present, backing_off, finished}
+use Rattle.rtcp_engine.specs.answers.Histories.{History, life_at, session_at, setup_at, with_act}
+use Rattle.rtcp_engine.specs.bounds.Hearing.{IsHeardAtTicks, LeavesAlone, with_acts}
 use Rattle.rtcp_engine.proofs.Hearing.{checked_stay, heard_before, named_remain}
 use Rattle.rtcp_session.specs.Windows.{Decided, decided_by}
 use Rattle.rtcp_session.proofs.Deciding.{all_such}

@@ -20,18 +20,18 @@ use Rattle.rtcp_report.specs.Views.{items_of}
 use Rattle.rtcp_report.proofs.LawLemmas.{size_is_that_of_the_octets}
 use Rattle.rtcp_timer.specs.declared.load.Load.{Load}
 use Rattle.rtcp_timer.specs.Averages.{with_headers, average_of}
-use Rattle.rtcp_engine.specs.Setups.{Setup, IsUsable}
-use Rattle.rtcp_engine.specs.Acts.{Act, Datagram, rtcp, rtp, arrived, rtp_sent, ticked, left, configured, forgotten}
-use Rattle.rtcp_engine.specs.OwnStreams.{has_sent, we_sent}
-use Rattle.rtcp_engine.specs.Outcomes.{Outcome, first_size_of, load_of, member_count, one_if}
-use Rattle.rtcp_engine.specs.Ticks.{checked, after_tick, has_come, has_passed, put_off, reported}
-use Rattle.rtcp_engine.specs.Arrivals.{with_datagram}
-use Rattle.rtcp_engine.specs.Leaving.{Life, present, backing_off, finished, few_members, is_bye_due, sent_nothing}
-use Rattle.rtcp_engine.specs.Lives.{lived, with_new_ssrc}
-use Rattle.rtcp_engine.specs.Changes.{NewIdentifier, Session, change_by, changed_by}
-use Rattle.rtcp_engine.specs.Reporting.{bye_octets, report_octets, reporter_at, reported_at, extra_item}
-use Rattle.rtcp_engine.specs.Histories.{History, session_of}
-use Rattle.rtcp_engine.specs.Taken.{AllTaken, IsHistory}
+use Rattle.rtcp_engine.specs.answers.Setups.{Setup, IsUsable}
+use Rattle.rtcp_engine.specs.answers.Acts.{Act, Datagram, rtcp, rtp, arrived, rtp_sent, ticked, left, configured, forgotten}
+use Rattle.rtcp_engine.specs.answers.OwnStreams.{has_sent, we_sent}
+use Rattle.rtcp_engine.specs.answers.Outcomes.{Outcome, first_size_of, load_of, member_count, one_if}
+use Rattle.rtcp_engine.specs.answers.Ticks.{checked, after_tick, has_come, has_passed, put_off, reported}
+use Rattle.rtcp_engine.specs.answers.Arrivals.{with_datagram}
+use Rattle.rtcp_engine.specs.answers.Leaving.{Life, present, backing_off, finished, few_members, is_bye_due, sent_nothing}
+use Rattle.rtcp_engine.specs.answers.Lives.{lived, with_new_ssrc}
+use Rattle.rtcp_engine.specs.answers.Changes.{NewIdentifier, Session, change_by, changed_by}
+use Rattle.rtcp_engine.specs.answers.Reporting.{bye_octets, report_octets, reporter_at, reported_at, extra_item}
+use Rattle.rtcp_engine.specs.answers.Histories.{History, session_of}
+use Rattle.rtcp_engine.specs.state.Taken.{AllTaken, IsHistory}
 use Rattle.rtcp_engine.proofs.LawLemmas.{setups_keep_the_rest-setup, setups_keep_the_rest-usable}
 use Rattle.rtcp_session.specs.Windows.{load_at, decided_at, HasSize}
 use Rattle.rtcp_session.proofs.Deciding.{such_over}

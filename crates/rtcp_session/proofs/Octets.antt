@@ -4,7 +4,7 @@ use Rattle.std.proofs.lemmas.List.{length-append, length-drop, length-take, get_
 use Rattle.rtcp_wire.specs.declared.fault.WireFault.{WireFault}
 use Rattle.rtcp_wire.specs.Values.{RtcpPacket, sr, rr, sdes, bye, app, other}
 use Rattle.rtcp_wire.specs.Grammar.{Joins, IsBody, IsSpelling, body_of, count_of, padding_of, size_of, type_of}
-use Rattle.rtcp_engine.specs.Acts.{IsReading, rtcp_came}
+use Rattle.rtcp_engine.specs.answers.Acts.{IsReading, rtcp_came}
 use Rattle.rtcp_session.specs.Windows.{HasSize}
 
 abbrev IsReportType : ℕ → Type 0

@@ -6,11 +6,11 @@ use Rattle.std.proofs.lemmas.Nat.{le-div}
 use Rattle.std.proofs.lemmas.List.{length-map}
 use Rattle.std.proofs.lemmas.List.Elements.{All-head, All-tail}
 use Rattle.std.proofs.lemmas.List.Sums.{sum_by-cons}
-use Rattle.rtcp_engine.specs.Histories.{History}
-use Rattle.rtcp_engine.specs.Taken.{IsHistory}
-use Rattle.rtcp_engine.specs.Sent.{Sent, reports_in, sent_at}
-use Rattle.rtcp_engine.specs.Setups.{is_within}
-use Rattle.rtcp_engine.specs.Spacing.{AreSpaced, newest_moment, count_within}
+use Rattle.rtcp_engine.specs.answers.Histories.{History}
+use Rattle.rtcp_engine.specs.state.Taken.{IsHistory}
+use Rattle.rtcp_engine.specs.bounds.Sent.{Sent, reports_in, sent_at}
+use Rattle.rtcp_engine.specs.answers.Setups.{is_within}
+use Rattle.rtcp_engine.specs.bounds.Spacing.{AreSpaced, newest_moment, count_within}
 use Rattle.rtcp_engine.proofs.LawLemmas.{sent_compounds_keep_apart}
 use Rattle.rtcp_session.specs.Windows.{in_window, later_ones, intervals_of, Decided, Joined, is_inside, reports_within, decided_within, later_within}
 use Rattle.rtcp_session.proofs.Deciding.{report_of, some_intervals, reports_decided_within}

@@ -7,7 +7,7 @@ use Rattle.std.proofs.lemmas.List.Elements.{All-head, All-tail, All-filter}
 use Rattle.std.proofs.lemmas.List.Sums.{sum_by-cons, sum_by-append}
 use Rattle.rtcp_timer.specs.declared.load.Load.{Load}
 use Rattle.rtcp_timer.specs.Averages.{with_headers}
-use Rattle.rtcp_engine.specs.Sent.{Sent}
+use Rattle.rtcp_engine.specs.bounds.Sent.{Sent}
 use Rattle.rtcp_session.specs.Windows.{Decided, load_at, Joined, reports_within, decided_within, later_within}
 use Rattle.rtcp_session.specs.Crowds.{total_reports, octets_of, total_octets, total_compounds, total_as, Terms, carried_in}
 use Rattle.rtcp_session.specs.Waits.{octets_next, Wait, wait_between, waits_over, waits_within, all_waits, averages_of, rtcp_bw, waits_as, reports_next_as, IsCounted, HasAverage, HasSizes, KeepsToAverage, octets_in}

@@ -9,7 +9,7 @@ use Rattle.std.proofs.lemmas.List.Sums.{sum_by-cons}
 use Rattle.rtcp_timer.specs.declared.load.Load.{Load}
 use Rattle.rtcp_timer.specs.Loads.{interval_for, interval_of, minimum_of}
 use Rattle.rtcp_timer.proofs.LawLemmas.{senders_have_the_shorter_interval-others}
-use Rattle.rtcp_engine.specs.Taken.{IsHistory}
+use Rattle.rtcp_engine.specs.state.Taken.{IsHistory}
 use Rattle.rtcp_session.specs.Windows.{Decided, load_at, Joined, later_within}
 use Rattle.rtcp_session.specs.Crowds.{later_as, share_of_others, shares_within, total_shares, LeavesOthers, SharesBandwidth}
 use Rattle.rtcp_session.proofs.Deciding.{IsOfLoad, each_later, later_intervals}

@@ -5,10 +5,10 @@ use Rattle.std.proofs.lemmas.Bool.{and_from, le-leb}
 use Rattle.std.proofs.lemmas.Nat.{le-div}
 use Rattle.std.proofs.lemmas.List.Elements.{All-nil, All-cons, All-append, All-head, All-tail, All-map}
 use Rattle.std.proofs.lemmas.List.Sums.{sum_by-cons}
-use Rattle.rtcp_engine.specs.Histories.{History}
-use Rattle.rtcp_engine.specs.Taken.{IsHistory}
-use Rattle.rtcp_engine.specs.Sent.{Sent}
-use Rattle.rtcp_engine.specs.Spacing.{is_between}
+use Rattle.rtcp_engine.specs.answers.Histories.{History}
+use Rattle.rtcp_engine.specs.state.Taken.{IsHistory}
+use Rattle.rtcp_engine.specs.bounds.Sent.{Sent}
+use Rattle.rtcp_engine.specs.bounds.Spacing.{is_between}
 use Rattle.rtcp_engine.proofs.LawLemmas.{sent_compounds_keep_apart}
 use Rattle.rtcp_timer.specs.Averages.{with_headers}
 use Rattle.rtcp_timer.specs.Loads.{interval_of}

@@ -8,8 +8,8 @@ use Rattle.std.proofs.lemmas.List.{length-append}
 use Rattle.std.proofs.lemmas.List.Elements.{All-nil, All-cons, All-append, All-head, All-tail, All-filter, filter-append}
 use Rattle.std.proofs.lemmas.List.Sums.{sum_by-cons}
 use Rattle.rtcp_timer.specs.declared.load.Load.{Load}
-use Rattle.rtcp_engine.specs.Taken.{IsHistory}
-use Rattle.rtcp_engine.specs.Spacing.{AreSpaced, newest_moment}
+use Rattle.rtcp_engine.specs.state.Taken.{IsHistory}
+use Rattle.rtcp_engine.specs.bounds.Spacing.{AreSpaced, newest_moment}
 use Rattle.rtcp_engine.proofs.LawLemmas.{sent_compounds_keep_apart}
 use Rattle.rtcp_session.specs.Windows.{later_ones, Decided, load_at, decided_at, Joined, is_inside, decided_within, later_within}
 use Rattle.rtcp_session.specs.Crowds.{sent_as, later_as, total_as, those_as, Terms, HasAtMost, CountsMost, IsCrowd}

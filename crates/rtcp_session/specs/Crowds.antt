@@ -5,10 +5,10 @@ use Rattle.std.specs.List.{sum_by, IsDistinct}
 use Rattle.rtcp_members.specs.Entries.{EntryValue, entry_at, is_member, is_sender, is_such}
 use Rattle.rtcp_timer.specs.declared.load.Load.{Load}
 use Rattle.rtcp_timer.specs.Averages.{with_headers}
-use Rattle.rtcp_engine.specs.Setups.{Setup}
-use Rattle.rtcp_engine.specs.Outcomes.{Outcome, first_size_of}
-use Rattle.rtcp_engine.specs.Taken.{IsHistory}
-use Rattle.rtcp_engine.specs.Sent.{Sent}
+use Rattle.rtcp_engine.specs.answers.Setups.{Setup}
+use Rattle.rtcp_engine.specs.answers.Outcomes.{Outcome, first_size_of}
+use Rattle.rtcp_engine.specs.state.Taken.{IsHistory}
+use Rattle.rtcp_engine.specs.bounds.Sent.{Sent}
 use Rattle.rtcp_session.specs.Windows.{Decided, load_at, decided_at, Joined, HasSize, compounds_within, reports_within, later_within}
 
 -- ---- Totals

@@ -11,7 +11,7 @@ use Rattle.rtcp_members.specs.Traces.{TraceStep, fact_came, check_made, block_ma
 use Rattle.rtcp_members.specs.Stays.{present_among, stay_of, ends_stay}
 use Rattle.rtcp_members.specs.Lasting.{says_bye}
 use Rattle.rtcp_members.specs.Entries.{gives_name, is_such, is_sender, entry_at}
-use Rattle.rtcp_engine.specs.Acts.{arrived, rtcp}
+use Rattle.rtcp_engine.specs.answers.Acts.{arrived, rtcp}
 use Rattle.rtcp_session.specs.Windows.{Decided, load_at, Joined, decided_within}
 use Rattle.rtcp_session.specs.Crowds.{Terms}
 use Rattle.rtcp_session.specs.Waits.{Wait, waits_within, all_waits, AreCounted, HasBandwidth}

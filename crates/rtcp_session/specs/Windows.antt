@@ -4,15 +4,15 @@ use Rattle.std.specs.Prelude.{ℕ, ◌+◌, ◌≤◌, Bool, List, [], ◌∷◌
 use Rattle.std.specs.List.{sum_by}
 use Rattle.rtcp_timer.specs.declared.load.Load.{Load}
 use Rattle.rtcp_timer.specs.Averages.{with_headers}
-use Rattle.rtcp_engine.specs.Setups.{Setup, is_within}
-use Rattle.rtcp_engine.specs.Acts.{Act, ticked, arrived, rtcp}
-use Rattle.rtcp_engine.specs.Outcomes.{Outcome, load_of}
-use Rattle.rtcp_engine.specs.Ticks.{checked}
-use Rattle.rtcp_engine.specs.Leaving.{Life, present}
-use Rattle.rtcp_engine.specs.Changes.{Session}
-use Rattle.rtcp_engine.specs.Histories.{History, session_of}
-use Rattle.rtcp_engine.specs.Sent.{Sent, reports_in, sent_at, sent_by}
-use Rattle.rtcp_engine.specs.Spacing.{is_between}
+use Rattle.rtcp_engine.specs.answers.Setups.{Setup, is_within}
+use Rattle.rtcp_engine.specs.answers.Acts.{Act, ticked, arrived, rtcp}
+use Rattle.rtcp_engine.specs.answers.Outcomes.{Outcome, load_of}
+use Rattle.rtcp_engine.specs.answers.Ticks.{checked}
+use Rattle.rtcp_engine.specs.answers.Leaving.{Life, present}
+use Rattle.rtcp_engine.specs.answers.Changes.{Session}
+use Rattle.rtcp_engine.specs.answers.Histories.{History, session_of}
+use Rattle.rtcp_engine.specs.bounds.Sent.{Sent, reports_in, sent_at, sent_by}
+use Rattle.rtcp_engine.specs.bounds.Spacing.{is_between}
 
 -- ---- Windows
 

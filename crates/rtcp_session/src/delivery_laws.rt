@@ -9,12 +9,12 @@ ghost use Rattle.rtcp_members.specs.Traces.{TraceStep};
 ghost use Rattle.rtcp_members.specs.Lasting.{MayBring};
 ghost use Rattle.rtcp_members.specs.Entries.{entry_at, is_member, is_sender, is_such};
 ghost use Rattle.rtcp_timer.specs.Averages.{with_headers};
-ghost use Rattle.rtcp_engine.specs.Acts.{Act, arrived, rtcp, ticked};
-ghost use Rattle.rtcp_engine.specs.Outcomes.{Outcome};
-ghost use Rattle.rtcp_engine.specs.Leaving.{present};
-ghost use Rattle.rtcp_engine.specs.Histories.{History, life_at, session_at, setup_at, with_act};
-ghost use Rattle.rtcp_engine.specs.Hearing.{IsHeardAtTicks, LeavesAlone, with_acts};
-ghost use Rattle.rtcp_engine.specs.Taken.{IsHistory};
+ghost use Rattle.rtcp_engine.specs.answers.Acts.{Act, arrived, rtcp, ticked};
+ghost use Rattle.rtcp_engine.specs.answers.Outcomes.{Outcome};
+ghost use Rattle.rtcp_engine.specs.answers.Leaving.{present};
+ghost use Rattle.rtcp_engine.specs.answers.Histories.{History, life_at, session_at, setup_at, with_act};
+ghost use Rattle.rtcp_engine.specs.bounds.Hearing.{IsHeardAtTicks, LeavesAlone, with_acts};
+ghost use Rattle.rtcp_engine.specs.state.Taken.{IsHistory};
 ghost use Rattle.rtcp_session.specs.Windows.{Joined, decided_at, decided_by, reports_within};
 ghost use Rattle.rtcp_session.specs.Crowds.{total_reports, total_octets, total_compounds, Terms};
 ghost use Rattle.rtcp_session.specs.Waits.{

@@ -8,14 +8,14 @@ ghost use Rattle.rtcp_wire.specs.Values.{RtcpPacket};
 ghost use Rattle.rtcp_members.specs.Entries.{is_member, is_sender};
 ghost use Rattle.rtcp_timer.specs.Averages.{with_headers};
 ghost use Rattle.rtcp_timer.specs.Loads.{interval_of};
-ghost use Rattle.rtcp_engine.specs.Setups.{Setup};
-ghost use Rattle.rtcp_engine.specs.Acts.{IsReading, rtcp_came};
-ghost use Rattle.rtcp_engine.specs.OwnStreams.{we_sent};
-ghost use Rattle.rtcp_engine.specs.Outcomes.{Outcome, first_size_of, load_of, one_if};
-ghost use Rattle.rtcp_engine.specs.Histories.{History};
-ghost use Rattle.rtcp_engine.specs.Taken.{IsHistory};
-ghost use Rattle.rtcp_engine.specs.Sent.{reports_in, sent_at};
-ghost use Rattle.rtcp_engine.specs.Spacing.{count_within};
+ghost use Rattle.rtcp_engine.specs.answers.Setups.{Setup};
+ghost use Rattle.rtcp_engine.specs.answers.Acts.{IsReading, rtcp_came};
+ghost use Rattle.rtcp_engine.specs.answers.OwnStreams.{we_sent};
+ghost use Rattle.rtcp_engine.specs.answers.Outcomes.{Outcome, first_size_of, load_of, one_if};
+ghost use Rattle.rtcp_engine.specs.answers.Histories.{History};
+ghost use Rattle.rtcp_engine.specs.state.Taken.{IsHistory};
+ghost use Rattle.rtcp_engine.specs.bounds.Sent.{reports_in, sent_at};
+ghost use Rattle.rtcp_engine.specs.bounds.Spacing.{count_within};
 ghost use Rattle.rtcp_session.specs.Windows.{
   in_window,
   later_ones,

@@ -4,9 +4,9 @@
 ghost use Rattle.std.specs.Prelude.{◌≡◌, ◌≤◌, ℕ, ◌+◌, ◌*◌, true, false, List, All, length};
 ghost use Rattle.rtcp_timer.specs.Averages.{with_headers};
 ghost use Rattle.rtcp_timer.specs.Loads.{interval_of};
-ghost use Rattle.rtcp_engine.specs.Histories.{History};
-ghost use Rattle.rtcp_engine.specs.Taken.{IsHistory};
-ghost use Rattle.rtcp_engine.specs.Spacing.{HalfPasses};
+ghost use Rattle.rtcp_engine.specs.answers.Histories.{History};
+ghost use Rattle.rtcp_engine.specs.state.Taken.{IsHistory};
+ghost use Rattle.rtcp_engine.specs.bounds.Spacing.{HalfPasses};
 ghost use Rattle.rtcp_session.specs.Windows.{Joined, reports_within};
 ghost use Rattle.rtcp_session.specs.Crowds.{total_reports, total_octets, total_compounds, Terms, IsCrowd, carried_in};
 ghost use Rattle.rtcp_session.specs.Waits.{

@@ -1,13 +1,13 @@
 -- Whom a participant lists after a leave, and after what it says that others changed.
 use Rattle.std.proofs.Common.{◌≡◌, ℕ, Bool, true, false, not, nat_le, None, Ok, if◌then◌else◌, refl, sym, ap}
 use Rattle.std.proofs.lemmas.Bool.{and_parts, false≢true}
-use Rattle.rtcp_engine.specs.Acts.{Act, EventValue, IsActOfEvent, arrived, configured, forgotten, left, rtp_sent, ticked, rtcp_arrived, rtp_arrived, packet_sent, time_passed, leave_asked, settings_given, forget_asked}
-use Rattle.rtcp_engine.specs.Answers.{step_by}
-use Rattle.rtcp_engine.specs.Histories.{History, life_at, session_at, session_for, setup_after, with_act}
-use Rattle.rtcp_engine.specs.Leaving.{Life, present, backing_off, finished, backoff_from, few_members, is_unheard}
-use Rattle.rtcp_engine.specs.Lives.{lived, others_moved_by}
-use Rattle.rtcp_engine.specs.Outcomes.{Outcome, member_count}
-use Rattle.rtcp_engine.specs.Setups.{Setup}
+use Rattle.rtcp_engine.specs.answers.Acts.{Act, EventValue, IsActOfEvent, arrived, configured, forgotten, left, rtp_sent, ticked, rtcp_arrived, rtp_arrived, packet_sent, time_passed, leave_asked, settings_given, forget_asked}
+use Rattle.rtcp_engine.specs.answers.Answers.{step_by}
+use Rattle.rtcp_engine.specs.answers.Histories.{History, life_at, session_at, session_for, setup_after, with_act}
+use Rattle.rtcp_engine.specs.answers.Leaving.{Life, present, backing_off, finished, backoff_from, few_members, is_unheard}
+use Rattle.rtcp_engine.specs.answers.Lives.{lived, others_moved_by}
+use Rattle.rtcp_engine.specs.answers.Outcomes.{Outcome, member_count}
+use Rattle.rtcp_engine.specs.answers.Setups.{Setup}
 use Rattle.rtcp_show.specs.Changes.{is_leave, lists_anew}
 use Rattle.rtcp_show.specs.Listings.{takes_part, state_in_life, state_at}
 

@@ -1,6 +1,6 @@
 -- What a printer knows after one more seen.
 use Rattle.std.proofs.Common.{◌≡◌, ◌∷◌, [], ◌∙◌, ap, ℕ, Bool, true, false, List, Option, None, refl, sym, if◌then◌else◌}
-use Rattle.rtcp_engine.specs.Histories.{setup_at}
+use Rattle.rtcp_engine.specs.answers.Histories.{setup_at}
 use Rattle.rtcp_wire.specs.About.{blocks_about}
 use Rattle.rtcp_show.specs.declared.printer.Terms.{Terms}
 use Rattle.rtcp_show.specs.declared.printer.Printer.{Printer}

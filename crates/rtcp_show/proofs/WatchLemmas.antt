@@ -4,9 +4,9 @@ use Rattle.std.specs.Result.{is_ok, result_and}
 use Rattle.std.proofs.lemmas.Bool.{false≢true}
 use Rattle.std.proofs.KnownBytes.{Appends-trans}
 use Rattle.std.specs.Io.KnownBytes.{Appends}
-use Rattle.rtcp_engine.specs.Acts.{EventValue}
-use Rattle.rtcp_engine.specs.Histories.{History, setup_at}
-use Rattle.rtcp_engine.specs.Steps.{AnswerValue}
+use Rattle.rtcp_engine.specs.answers.Acts.{EventValue}
+use Rattle.rtcp_engine.specs.answers.Histories.{History, setup_at}
+use Rattle.rtcp_engine.specs.answers.Steps.{AnswerValue}
 use Rattle.rtcp_wire.specs.Values.{RtcpPacket}
 use Rattle.rtcp_show.specs.declared.board.Board.{Board}
 use Rattle.rtcp_show.specs.declared.page.Page.{Page}

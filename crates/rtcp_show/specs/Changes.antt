@@ -1,10 +1,10 @@
 -- The lines of sources that joined, left, began or ceased to send, as `rtcp listen --show` writes them.
 use Rattle.std.specs.Prelude.{◌≡◌, ◌&&◌, ℕ, not, Bool, true, false, if◌then◌else◌, List, [], ◌∷◌, ◌++◌, map, codes, Ok, Err}
 use Rattle.std.specs.List.{flat_map}
-use Rattle.rtcp_engine.specs.Acts.{EventValue, leave_asked, forget_asked}
-use Rattle.rtcp_engine.specs.Histories.{History, life_at, setup_at}
-use Rattle.rtcp_engine.specs.Lives.{WalksInLife}
-use Rattle.rtcp_engine.specs.Steps.{AnswerValue}
+use Rattle.rtcp_engine.specs.answers.Acts.{EventValue, leave_asked, forget_asked}
+use Rattle.rtcp_engine.specs.answers.Histories.{History, life_at, setup_at}
+use Rattle.rtcp_engine.specs.answers.Lives.{WalksInLife}
+use Rattle.rtcp_engine.specs.answers.Steps.{AnswerValue}
 use Rattle.rtcp_listing.specs.declared.change.Change.{Change}
 use Rattle.rtcp_listing.specs.declared.change.Role.TheVariants.{Away, Sender}
 use Rattle.rtcp_listing.specs.Differences.{ListedValue, changes, is_gone, is_same, listed_of, rises_from, went_without_bye}

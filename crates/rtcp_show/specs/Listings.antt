@@ -1,9 +1,9 @@
 -- What the participant tells of a source, by its SSRC.
 use Rattle.std.specs.Prelude.{ℕ, Bool, true, false, List, [], ◌∷◌, if◌then◌else◌, nat_eq, is_some, Option, Some, None, option_map}
 use Rattle.std.specs.Option.{option_or}
-use Rattle.rtcp_engine.specs.Histories.{History, life_at, setup_at}
-use Rattle.rtcp_engine.specs.Leaving.{Life, present, backing_off, finished}
-use Rattle.rtcp_engine.specs.Setups.{Setup}
+use Rattle.rtcp_engine.specs.answers.Histories.{History, life_at, setup_at}
+use Rattle.rtcp_engine.specs.answers.Leaving.{Life, present, backing_off, finished}
+use Rattle.rtcp_engine.specs.answers.Setups.{Setup}
 use Rattle.rtcp_members.specs.Stays.{stay_of}
 use Rattle.rtcp_members.specs.Listings.{StateValue, state_in_stay}
 

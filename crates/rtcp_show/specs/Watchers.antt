@@ -5,10 +5,10 @@ use Rattle.std.specs.Str.{bytes_eq}
 use Rattle.rtcp_listing.specs.Differences.{ListedValue, listed_of}
 use Rattle.rtcp_members.specs.ListViews.{state_value}
 use Rattle.rtcp_members.specs.Listings.{StateValue}
-use Rattle.rtcp_engine.specs.Acts.{EventValue}
-use Rattle.rtcp_engine.specs.Histories.{History, life_at, setup_at}
-use Rattle.rtcp_engine.specs.Lives.{WalksInLife, members_in_life, senders_in_life}
-use Rattle.rtcp_engine.specs.Steps.{AnswerValue}
+use Rattle.rtcp_engine.specs.answers.Acts.{EventValue}
+use Rattle.rtcp_engine.specs.answers.Histories.{History, life_at, setup_at}
+use Rattle.rtcp_engine.specs.answers.Lives.{WalksInLife, members_in_life, senders_in_life}
+use Rattle.rtcp_engine.specs.answers.Steps.{AnswerValue}
 use Rattle.rtcp_clock.specs.Moments.{ntp_moment}
 use Rattle.rtcp_wire.specs.Values.{RtcpPacket}
 use Rattle.rtcp_text.specs.declared.fault.TextFault.{TextFault}

@@ -1,9 +1,9 @@
 //! Who is there, once a second.
 
 ghost use Rattle.std.specs.Prelude.{◌≡◌, ◌++◌, [], ℕ, Option, OnOk, true, unwrap_or};
-ghost use Rattle.rtcp_engine.specs.Histories.{History, setup_at};
-ghost use Rattle.rtcp_engine.specs.States.{StandsAt};
-ghost use Rattle.rtcp_engine.specs.Views.{answer_value, event_value};
+ghost use Rattle.rtcp_engine.specs.answers.Histories.{History, setup_at};
+ghost use Rattle.rtcp_engine.specs.state.States.{StandsAt};
+ghost use Rattle.rtcp_engine.specs.state.Views.{answer_value, event_value};
 ghost use Rattle.rtcp_show.specs.Flows.{IsMediaOf, flow_in, heard_after, no_flow, peer_of_event};
 ghost use Rattle.rtcp_show.specs.Listings.{if_listed, lists};
 ghost use Rattle.rtcp_show.specs.Notes.{noted_after, noted_in, nothing};

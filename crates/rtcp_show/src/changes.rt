@@ -2,12 +2,12 @@
 
 ghost use Rattle.std.specs.Prelude.{◌≡◌, ◌++◌, [], Bool, List, ℕ, OnOk, map, true};
 ghost use Rattle.std.specs.List.{flat_map};
-ghost use Rattle.rtcp_engine.specs.Histories.{History, life_at, setup_at};
-ghost use Rattle.rtcp_engine.specs.Lives.{WalksInLife};
-ghost use Rattle.rtcp_engine.specs.States.{StandsAt};
+ghost use Rattle.rtcp_engine.specs.answers.Histories.{History, life_at, setup_at};
+ghost use Rattle.rtcp_engine.specs.answers.Lives.{WalksInLife};
+ghost use Rattle.rtcp_engine.specs.state.States.{StandsAt};
 ghost use Rattle.rtcp_listing.specs.Differences.{changes, listed_of, rises_from};
 ghost use Rattle.rtcp_members.specs.ListViews.{state_value};
-ghost use Rattle.rtcp_engine.specs.Views.{answer_value, event_value};
+ghost use Rattle.rtcp_engine.specs.state.Views.{answer_value, event_value};
 ghost use Rattle.rtcp_show.specs.Changes.{KeepsListing, ShowsChanges, change_text, changes_text, is_forgetting, is_leave, line_where, lists_anew, shows_others, shown_changes};
 
 use crate::numbers::push_moment;

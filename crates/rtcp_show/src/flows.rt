@@ -1,9 +1,9 @@
 //! What is kept of the packets of sources beside their table.
 
 ghost use Rattle.std.specs.Prelude.{◌≡◌, ◌<◌, [], ℕ, Option, OnOk, option_map, unwrap_or};
-ghost use Rattle.rtcp_engine.specs.Histories.{History};
-ghost use Rattle.rtcp_engine.specs.States.{StandsAt};
-ghost use Rattle.rtcp_engine.specs.Views.{answer_value, event_value};
+ghost use Rattle.rtcp_engine.specs.answers.Histories.{History};
+ghost use Rattle.rtcp_engine.specs.state.States.{StandsAt};
+ghost use Rattle.rtcp_engine.specs.state.Views.{answer_value, event_value};
 ghost use Rattle.rtcp_members.specs.ListViews.{state_value};
 ghost use Rattle.rtcp_source.specs.Views.{reception_value};
 ghost use Rattle.rtcp_show.specs.Flows.{IsMedia, IsMediaOf, counted_in, flow_in, heard_after, heard_at, looked_at, loss_of, lost_packets, no_flow, packet_rate_between, peer_at, peer_of_event, reporter_of, with_peer};

@@ -1,9 +1,9 @@
 //! Laws of what a printer tells and knows. Each is an empty function whose postcondition is the law.
 
 ghost use Rattle.std.specs.Prelude.{◌≡◌, ◌∷◌, ℕ, List, None, Ok, true};
-ghost use Rattle.rtcp_engine.specs.Acts.{Act, EventValue, IsActOfEvent, left};
-ghost use Rattle.rtcp_engine.specs.Answers.{step_by};
-ghost use Rattle.rtcp_engine.specs.Histories.{History, life_at, with_act};
+ghost use Rattle.rtcp_engine.specs.answers.Acts.{Act, EventValue, IsActOfEvent, left};
+ghost use Rattle.rtcp_engine.specs.answers.Answers.{step_by};
+ghost use Rattle.rtcp_engine.specs.answers.Histories.{History, life_at, with_act};
 ghost use Rattle.rtcp_show.specs.Changes.{lists_anew};
 ghost use Rattle.rtcp_show.specs.Listings.{takes_part, state_at};
 ghost use Rattle.rtcp_show.specs.Observations.{IsRead, Knows, Observation, heard_of, newest_note, note_of};

@@ -3,7 +3,7 @@
 ghost use Rattle.std.specs.Prelude.{◌≡◌, ◌++◌, [], List, ℕ, IfSome, OnOk, option_map, unwrap_or};
 ghost use Rattle.rtcp_wire.specs.Grammar.{IsAccepted};
 ghost use Rattle.rtcp_wire.specs.Values.{RtcpPacket};
-ghost use Rattle.rtcp_engine.specs.Views.{answer_value, event_value, out_value, step_value};
+ghost use Rattle.rtcp_engine.specs.state.Views.{answer_value, event_value, out_value, step_value};
 ghost use Rattle.rtcp_text.specs.Check.{IsAnswerBy};
 ghost use Rattle.rtcp_show.specs.Wordings.{shown_in};
 ghost use Rattle.rtcp_show.specs.Lines.{ArePackets, HasPackets, ReadsAs, ShowsAnswer, ShowsBoth, ShowsBothBy, ShowsEvent, ShowsOut, ShowsRtcp, changed_text, moment_of_event as moment_in, passing_text, rtp_text, told_text, unsent_text};

@@ -2,9 +2,9 @@
 
 ghost use Rattle.std.specs.Prelude.{◌≡◌, [], IfErr, OnOk, is_ok};
 ghost use Rattle.std.specs.Io.KnownBytes.{Appends};
-ghost use Rattle.rtcp_engine.specs.Histories.{History};
-ghost use Rattle.rtcp_engine.specs.States.{StandsAt};
-ghost use Rattle.rtcp_engine.specs.Views.{answer_value, event_value};
+ghost use Rattle.rtcp_engine.specs.answers.Histories.{History};
+ghost use Rattle.rtcp_engine.specs.state.States.{StandsAt};
+ghost use Rattle.rtcp_engine.specs.state.Views.{answer_value, event_value};
 ghost use Rattle.rtcp_serve.specs.Links.{endpoint_number};
 ghost use Rattle.rtcp_show.specs.Watchers.{IsOutFault, arrival_at};
 ghost use Rattle.rtcp_show.specs.Lines.{unsent_text};

@@ -2,9 +2,9 @@
 
 ghost use Rattle.std.specs.Prelude.{◌≡◌, IsOk, None, Some, false, true};
 ghost use Rattle.std.specs.Io.KnownBytes.{Appends};
-ghost use Rattle.rtcp_engine.specs.Histories.{History};
-ghost use Rattle.rtcp_engine.specs.States.{StandsAt};
-ghost use Rattle.rtcp_engine.specs.Views.{answer_value, event_value};
+ghost use Rattle.rtcp_engine.specs.answers.Histories.{History};
+ghost use Rattle.rtcp_engine.specs.state.States.{StandsAt};
+ghost use Rattle.rtcp_engine.specs.state.Views.{answer_value, event_value};
 ghost use Rattle.rtcp_text.specs.declared.fault.TextFault.{TextFault as Fault};
 ghost use Rattle.rtcp_show.specs.Lines.{moment_of_event as moment_in, unsent_text};
 

@@ -1,9 +1,9 @@
 -- What a session writes: the line for the start, and then what the answers leave.
 use Rattle.std.proofs.Common.{◌≡◌, ℕ, List, [], ◌++◌, Option, Some, None, Result, Ok, Err, sym, ◌∙◌, ap, subst, append_assoc, append-nil}
 use Rattle.std.specs.Io.KnownBytes.{Appends}
-use Rattle.rtcp_engine.specs.Histories.{History, life_at}
-use Rattle.rtcp_engine.specs.Lives.{next_in_life}
-use Rattle.rtcp_engine.specs.States.{ParticipantValue, StandsAt}
+use Rattle.rtcp_engine.specs.answers.Histories.{History, life_at}
+use Rattle.rtcp_engine.specs.answers.Lives.{next_in_life}
+use Rattle.rtcp_engine.specs.state.States.{ParticipantValue, StandsAt}
 use Rattle.rtcp_text.specs.AnswerText.{start_text}
 use Rattle.rtcp_text.specs.declared.fault.TextFault.{TextFault}
 use Rattle.rtcp_text.specs.declared.fault.TextFault.TheVariants.{Text, Read, Write, Memory}

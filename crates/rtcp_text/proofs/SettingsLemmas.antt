@@ -17,7 +17,7 @@ use Rattle.hex.specs.Hex.{IsBytes, decode_of, encode_lower, is_hex_digit, lower_
 use Rattle.hex.specs.declared.error.FromHexError.{FromHexError}
 use Rattle.hex.proofs.HexLemmas.{decode_of-encode_lower, decode_of-ok, length-encode_with}
 use Rattle.rtcp_wire.specs.Values.{ItemValue}
-use Rattle.rtcp_engine.specs.Setups.{ClockValue, SettingsValue}
+use Rattle.rtcp_engine.specs.answers.Setups.{ClockValue, SettingsValue}
 use Rattle.rtcp_text.specs.declared.fault.LineFault.{LineFault}
 use Rattle.rtcp_text.specs.declared.fault.LineFault.TheVariants.{Hex, Number}
 use Rattle.rtcp_text.specs.EventLines.{settings_in, short_in}

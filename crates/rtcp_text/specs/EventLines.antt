@@ -6,8 +6,8 @@ use Rattle.std.specs.Int.{w32}
 use Rattle.std.specs.Option.{ok_or}
 use Rattle.std.specs.Str.{bytes_eq}
 use Rattle.hex.specs.Hex.{IsBytes, encode_lower}
-use Rattle.rtcp_engine.specs.Setups.{SettingsValue}
-use Rattle.rtcp_engine.specs.Acts.{EventValue, rtcp_arrived, rtp_arrived, packet_sent, time_passed, leave_asked, settings_given, forget_asked}
+use Rattle.rtcp_engine.specs.answers.Setups.{SettingsValue}
+use Rattle.rtcp_engine.specs.answers.Acts.{EventValue, rtcp_arrived, rtp_arrived, packet_sent, time_passed, leave_asked, settings_given, forget_asked}
 use Rattle.rtcp_text.specs.declared.event_line.LineKind.{LineKind}
 use Rattle.rtcp_text.specs.declared.event_line.LineKind.TheVariants.{Rtcp, Rtp, Sent, Ticked, Left, Configured, Forgotten}
 use Rattle.rtcp_text.specs.declared.fault.LineFault.{LineFault}

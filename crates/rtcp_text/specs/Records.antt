@@ -1,7 +1,7 @@
 -- A record of a session: what a clause sees of what writes it.
 use Rattle.std.specs.Prelude.{◌≡◌, ℕ, ◌==◌, ◌||◌, not, Bool, List, [], ◌∷◌, ◌++◌, Option}
 use Rattle.std.specs.Io.KnownBytes.{Appends}
-use Rattle.rtcp_engine.specs.Acts.{EventValue}
+use Rattle.rtcp_engine.specs.answers.Acts.{EventValue}
 use Rattle.rtcp_text.specs.declared.record.Recorder.{Recorder}
 use Rattle.rtcp_text.specs.Counted.{failures_of, inner_of}
 use Rattle.rtcp_text.specs.EventLines.{event_text}

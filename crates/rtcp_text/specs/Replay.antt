@@ -1,11 +1,11 @@
 -- The text of a session: what a participant answers to the events that the lines of an input say.
 use Rattle.std.specs.Prelude.{◌≡◌, ℕ, ◌⊎◌, List, [], ◌++◌, Option, Some, None, Result, Ok, Err, OnOk}
-use Rattle.rtcp_engine.specs.Acts.{Act, EventValue, IsActOfEvent}
-use Rattle.rtcp_engine.specs.Histories.{History, life_at}
-use Rattle.rtcp_engine.specs.Lives.{next_in_life}
-use Rattle.rtcp_engine.specs.Answers.{answer_of, followed_by}
-use Rattle.rtcp_engine.specs.States.{ParticipantValue, StandsAt}
-use Rattle.rtcp_engine.specs.Refused.{error_in}
+use Rattle.rtcp_engine.specs.answers.Acts.{Act, EventValue, IsActOfEvent}
+use Rattle.rtcp_engine.specs.answers.Histories.{History, life_at}
+use Rattle.rtcp_engine.specs.answers.Lives.{next_in_life}
+use Rattle.rtcp_engine.specs.answers.Answers.{answer_of, followed_by}
+use Rattle.rtcp_engine.specs.state.States.{ParticipantValue, StandsAt}
+use Rattle.rtcp_engine.specs.answers.Refused.{error_in}
 use Rattle.rtcp_text.specs.declared.fault.LineFault.{LineFault}
 use Rattle.rtcp_text.specs.declared.fault.ReplayFault.{ReplayFault}
 use Rattle.rtcp_text.specs.declared.fault.ReplayFault.TheVariants.{Run}

@@ -6,7 +6,7 @@ use Rattle.std.specs.List.{join_with_byte, slice_split}
 use Rattle.std.specs.Str.{bytes_eq}
 use Rattle.hex.specs.Hex.{IsBytes, encode_lower}
 use Rattle.rtcp_wire.specs.Values.{ItemValue}
-use Rattle.rtcp_engine.specs.Setups.{ClockValue, SettingsValue}
+use Rattle.rtcp_engine.specs.answers.Setups.{ClockValue, SettingsValue}
 use Rattle.rtcp_text.specs.Numerals.{decimal_in, hex_text_in}
 
 -- ---- Lists

@@ -3,8 +3,8 @@
 
 ghost use Rattle.std.specs.Prelude.{◌≡◌, ◌≤◌, ◌∷◌, ◌++◌, [], ℕ, All, List, Ok, Option, length, map};
 ghost use Rattle.std.specs.List.{flat_map};
-ghost use Rattle.rtcp_engine.specs.Acts.{EventValue};
-ghost use Rattle.rtcp_engine.specs.Histories.{History};
+ghost use Rattle.rtcp_engine.specs.answers.Acts.{EventValue};
+ghost use Rattle.rtcp_engine.specs.answers.Histories.{History};
 ghost use Rattle.rtcp_wire.specs.Values.{RtcpPacket};
 ghost use Rattle.rtcp_text.specs.Check.{IsTextOfBy};
 ghost use Rattle.rtcp_text.specs.EventLines.{IsCallable, datagram_in_event, event_in, event_text};

@@ -2,7 +2,7 @@
 
 ghost use Rattle.std.specs.Prelude.{◌≡◌, ◌||◌, Bool, true, false, OnOk, Ok, is_err};
 ghost use Rattle.std.specs.Io.KnownBytes.{Appends, Keeps};
-ghost use Rattle.rtcp_engine.specs.Views.{event_value};
+ghost use Rattle.rtcp_engine.specs.state.Views.{event_value};
 
 use crate::counted::Counted;
 use crate::fault::TextFault;

@@ -2,8 +2,8 @@
 use Rattle.std.proofs.Common.{◌≡◌, ℕ, [], ◌∷◌, Err, None, Ok}
 use Rattle.rtcp_wire.specs.Values.{rr, bye}
 use Rattle.rtcp_engine.specs.declared.refusal.Refusal.TheVariants.{Backwards}
-use Rattle.rtcp_engine.specs.Acts.{Act, rtcp, arrived, ticked, forgotten}
-use Rattle.rtcp_engine.specs.Answers.{answers_to}
+use Rattle.rtcp_engine.specs.answers.Acts.{Act, rtcp, arrived, ticked, forgotten}
+use Rattle.rtcp_engine.specs.answers.Answers.{answers_to}
 use Rattle.rtcp_engine.proofs.examples.Rows.{start, named_came, ok, moved, sends, empty_report}
 
 abbrev bye_came : (moment ssrc : ℕ) → Act

@@ -1,9 +1,9 @@
 -- Worked rows: who is a member from a compound with its CNAME on, and until when.
 use Rattle.std.proofs.Common.{◌≡◌, ℕ, true, false, [], ◌∷◌, None, Ok}
 use Rattle.rtcp_wire.specs.Values.{rr, sdes, bye}
-use Rattle.rtcp_engine.specs.Acts.{Act, arrived, rtcp, ticked, forgotten}
-use Rattle.rtcp_engine.specs.Hearing.{is_member_at, with_acts}
-use Rattle.rtcp_engine.specs.Histories.{History, with_act}
+use Rattle.rtcp_engine.specs.answers.Acts.{Act, arrived, rtcp, ticked, forgotten}
+use Rattle.rtcp_engine.specs.bounds.Hearing.{is_member_at, with_acts}
+use Rattle.rtcp_engine.specs.answers.Histories.{History, with_act}
 use Rattle.rtcp_engine.proofs.examples.Rows.{items_a, named_came, setup, start, start_of}
 
 abbrev bye_came : (moment ssrc : ℕ) → Act

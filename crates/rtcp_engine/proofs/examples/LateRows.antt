@@ -1,9 +1,9 @@
 -- Worked rows: how late a report comes at the latest.
 use Rattle.std.proofs.Common.{◌≡◌, List, [], ◌∷◌, None, Ok, refl, arith}
 use Rattle.rtcp_wire.specs.Values.{rr, bye}
-use Rattle.rtcp_engine.specs.Acts.{rtcp, Act, arrived, ticked}
-use Rattle.rtcp_engine.specs.Histories.{History}
-use Rattle.rtcp_engine.specs.InTime.{greatest_interval, last_fall, longest_wait, IsOverdue}
+use Rattle.rtcp_engine.specs.answers.Acts.{rtcp, Act, arrived, ticked}
+use Rattle.rtcp_engine.specs.answers.Histories.{History}
+use Rattle.rtcp_engine.specs.bounds.InTime.{greatest_interval, last_fall, longest_wait, IsOverdue}
 use Rattle.rtcp_engine.proofs.examples.Rows.{setup, named_came}
 
 abbrev after : List Act → History

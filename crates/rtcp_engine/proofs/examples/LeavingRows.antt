@@ -3,9 +3,9 @@ use Rattle.std.proofs.Common.{◌≡◌, ℕ, zero, suc, List, [], ◌∷◌, �
 use Rattle.rtcp_wire.specs.Values.{rr, bye}
 use Rattle.rtcp_engine.specs.declared.refusal.Refusal.TheVariants.{Left}
 use Rattle.rtcp_engine.specs.declared.step.OutKind.TheVariants.{Bye}
-use Rattle.rtcp_engine.specs.Acts.{rtcp, Act, arrived, rtp_sent, ticked, left}
-use Rattle.rtcp_engine.specs.Steps.{AnswerValue}
-use Rattle.rtcp_engine.specs.Answers.{answers_to}
+use Rattle.rtcp_engine.specs.answers.Acts.{rtcp, Act, arrived, rtp_sent, ticked, left}
+use Rattle.rtcp_engine.specs.answers.Steps.{AnswerValue}
+use Rattle.rtcp_engine.specs.answers.Answers.{answers_to}
 use Rattle.rtcp_engine.proofs.examples.Rows.{start, ok, moved, sends, step_with, empty_report, named_came}
 
 abbrev silently_gone : AnswerValue

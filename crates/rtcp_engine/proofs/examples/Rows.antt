@@ -6,12 +6,12 @@ use Rattle.rtcp_wire.specs.Values.{ItemValue, RtcpPacket, rr, sdes, bye}
 use Rattle.rtcp_wire.specs.RtpHeads.{RtpValue}
 use Rattle.rtcp_engine.specs.declared.refusal.Refusal.TheVariants.{Backwards, TooFar, Wire, Rtp}
 use Rattle.rtcp_engine.specs.declared.step.OutKind.TheVariants.{Report}
-use Rattle.rtcp_engine.specs.Setups.{Setup}
-use Rattle.rtcp_engine.specs.Acts.{rtcp, rtp, Act, arrived, rtp_sent, ticked}
-use Rattle.rtcp_engine.specs.Outcomes.{timing_of, beginning}
-use Rattle.rtcp_engine.specs.Histories.{History}
-use Rattle.rtcp_engine.specs.Steps.{AnswerValue, OutValue, StepValue}
-use Rattle.rtcp_engine.specs.Answers.{answers_to}
+use Rattle.rtcp_engine.specs.answers.Setups.{Setup}
+use Rattle.rtcp_engine.specs.answers.Acts.{rtcp, rtp, Act, arrived, rtp_sent, ticked}
+use Rattle.rtcp_engine.specs.answers.Outcomes.{timing_of, beginning}
+use Rattle.rtcp_engine.specs.answers.Histories.{History}
+use Rattle.rtcp_engine.specs.answers.Steps.{AnswerValue, OutValue, StepValue}
+use Rattle.rtcp_engine.specs.answers.Answers.{answers_to}
 
 abbrev pub setup : Setup
 setup = record {

@@ -2,10 +2,10 @@
 use Rattle.std.proofs.Common.{◌≡◌, [], ◌∷◌, Err}
 use Rattle.rtcp_engine.specs.declared.config.ConfigError.TheVariants.{Bandwidth, Rate, Item}
 use Rattle.rtcp_engine.specs.declared.refusal.Refusal.TheVariants.{Settings}
-use Rattle.rtcp_engine.specs.Setups.{SettingsValue}
-use Rattle.rtcp_engine.specs.Acts.{configured, ticked}
-use Rattle.rtcp_engine.specs.Answers.{answers_to}
-use Rattle.rtcp_engine.specs.Histories.{History}
+use Rattle.rtcp_engine.specs.answers.Setups.{SettingsValue}
+use Rattle.rtcp_engine.specs.answers.Acts.{configured, ticked}
+use Rattle.rtcp_engine.specs.answers.Answers.{answers_to}
+use Rattle.rtcp_engine.specs.answers.Histories.{History}
 use Rattle.rtcp_engine.proofs.examples.Rows.{setup, start, start_of, named_came, ok, moved, sends, empty_report}
 
 -- With these the interval of one member is 3 seconds, where its minimum is less.

@@ -7,20 +7,20 @@ use Rattle.rtcp_wire.specs.Values.{ChunkValue, rr, sdes, bye}
 use Rattle.rtcp_members.specs.Traces.{TraceStep}
 use Rattle.rtcp_members.specs.Stays.{stay_of}
 use Rattle.rtcp_members.specs.Listings.{StateValue, state_in_stay}
-use Rattle.rtcp_engine.specs.Setups.{IsUsable}
-use Rattle.rtcp_engine.specs.Acts.{Datagram, rtcp, Act, arrived, rtp_sent, ticked, left}
-use Rattle.rtcp_engine.specs.Answers.{followed_by}
-use Rattle.rtcp_engine.specs.Changes.{is_taken, new_identifier}
-use Rattle.rtcp_engine.specs.Histories.{History, last_moment, life_at, session_at, setup_at}
-use Rattle.rtcp_engine.specs.InTime.{BringsOut, longest_wait}
-use Rattle.rtcp_engine.specs.Leaving.{Backoff, Life, present, backing_off, finished, backoff_from, leaving_timing}
-use Rattle.rtcp_engine.specs.Lives.{ListsInLife}
-use Rattle.rtcp_engine.specs.Outcomes.{Outcome}
-use Rattle.rtcp_engine.specs.Refusals.{refusal_after}
-use Rattle.rtcp_engine.specs.Sent.{Sent, reports_in, sent_at}
-use Rattle.rtcp_engine.specs.Spacing.{HalfPasses, newest_moment, count_within, leave_moment, first_leave, is_last_bye, EndsWithBye, LiesAfter}
-use Rattle.rtcp_engine.specs.States.{ParticipantValue, StandsAt}
-use Rattle.rtcp_engine.specs.Taken.{IsHistory, NamesFew}
+use Rattle.rtcp_engine.specs.answers.Setups.{IsUsable}
+use Rattle.rtcp_engine.specs.answers.Acts.{Datagram, rtcp, Act, arrived, rtp_sent, ticked, left}
+use Rattle.rtcp_engine.specs.answers.Answers.{followed_by}
+use Rattle.rtcp_engine.specs.answers.Changes.{is_taken, new_identifier}
+use Rattle.rtcp_engine.specs.answers.Histories.{History, last_moment, life_at, session_at, setup_at}
+use Rattle.rtcp_engine.specs.bounds.InTime.{BringsOut, longest_wait}
+use Rattle.rtcp_engine.specs.answers.Leaving.{Backoff, Life, present, backing_off, finished, backoff_from, leaving_timing}
+use Rattle.rtcp_engine.specs.answers.Lives.{ListsInLife}
+use Rattle.rtcp_engine.specs.answers.Outcomes.{Outcome}
+use Rattle.rtcp_engine.specs.answers.Refusals.{refusal_after}
+use Rattle.rtcp_engine.specs.bounds.Sent.{Sent, reports_in, sent_at}
+use Rattle.rtcp_engine.specs.bounds.Spacing.{HalfPasses, newest_moment, count_within, leave_moment, first_leave, is_last_bye, EndsWithBye, LiesAfter}
+use Rattle.rtcp_engine.specs.state.States.{ParticipantValue, StandsAt}
+use Rattle.rtcp_engine.specs.state.Taken.{IsHistory, NamesFew}
 use Rattle.rtcp_engine.proofs.LawLemmas.{usable_is_unrefused}
 use Rattle.rtcp_engine.proofs.AnswerLemmas.{taken_history}
 use Rattle.rtcp_engine.proofs.examples.Rows.{setup, start, items_a, named_came}

@@ -1,11 +1,11 @@
 //! Where a participant stands, and what it answers to a call that was taken.
 
 ghost use Rattle.std.specs.Prelude.{◌≡◌, ℕ, List, None};
-ghost use Rattle.rtcp_engine.specs.Leaving.{Life};
-ghost use Rattle.rtcp_engine.specs.Lives.{standing_in_life, step_into};
-ghost use Rattle.rtcp_engine.specs.Promises.{SaysStanding};
-ghost use Rattle.rtcp_engine.specs.States.{IsAt, taking_part};
-ghost use Rattle.rtcp_engine.specs.Views.{out_in, written_step_value};
+ghost use Rattle.rtcp_engine.specs.answers.Leaving.{Life};
+ghost use Rattle.rtcp_engine.specs.answers.Lives.{standing_in_life, step_into};
+ghost use Rattle.rtcp_engine.specs.state.Promises.{SaysStanding};
+ghost use Rattle.rtcp_engine.specs.state.States.{IsAt, taking_part};
+ghost use Rattle.rtcp_engine.specs.state.Views.{out_in, written_step_value};
 
 use super::{Participant, Phase};
 use crate::step::{Brought, Standing, WrittenStep};

@@ -1,9 +1,9 @@
 //! A participant from its leave until its BYE is sent (RFC 3550, 6.3.7).
 
 ghost use Rattle.std.specs.Prelude.{◌≡◌, ◌≤◌, ℕ, Bool, Ok, None, false};
-ghost use Rattle.rtcp_engine.specs.Acts.{arrived, left, rtcp, ticked};
-ghost use Rattle.rtcp_engine.specs.States.{Acts, KeepsCapacity, HasOthers, leaving, taking_part};
-ghost use Rattle.rtcp_engine.specs.Views.{LeavesRest, out_in};
+ghost use Rattle.rtcp_engine.specs.answers.Acts.{arrived, left, rtcp, ticked};
+ghost use Rattle.rtcp_engine.specs.state.States.{Acts, KeepsCapacity, HasOthers, leaving, taking_part};
+ghost use Rattle.rtcp_engine.specs.state.Views.{LeavesRest, out_in};
 
 use super::{FEW_MEMBERS, Participant, Phase};
 use crate::byes::{MAX_LEAVING, count_byes};

@@ -1,14 +1,14 @@
 //! A change of the participant's identifier, for a datagram that names it (RFC 3550, 8.2).
 
 ghost use Rattle.std.specs.Prelude.{◌≡◌, ◌≤◌, ◌<◌, length, map, true};
-ghost use Rattle.rtcp_engine.specs.Identities.{is_among, may_change};
-ghost use Rattle.rtcp_engine.specs.Acts.{arrived};
-ghost use Rattle.rtcp_engine.specs.Changes.{Session, changed_to, identifiers, is_about, is_taken as is_taken_of, new_identifier};
-ghost use Rattle.rtcp_engine.specs.Histories.{History, session_at};
-ghost use Rattle.rtcp_engine.specs.Lives.{own_bye};
-ghost use Rattle.rtcp_engine.specs.Promises.{Spares, Takes, WritesReply};
-ghost use Rattle.rtcp_engine.specs.States.{Admits, IsIn, KeepsCapacity, StandsAt, over, refusal_by};
-ghost use Rattle.rtcp_engine.specs.Views.{LeavesRest, NamesFewer, datagram_of, out_in, reply_value, size_of};
+ghost use Rattle.rtcp_engine.specs.answers.Identities.{is_among, may_change};
+ghost use Rattle.rtcp_engine.specs.answers.Acts.{arrived};
+ghost use Rattle.rtcp_engine.specs.answers.Changes.{Session, changed_to, identifiers, is_about, is_taken as is_taken_of, new_identifier};
+ghost use Rattle.rtcp_engine.specs.answers.Histories.{History, session_at};
+ghost use Rattle.rtcp_engine.specs.answers.Lives.{own_bye};
+ghost use Rattle.rtcp_engine.specs.state.Promises.{Spares, Takes, WritesReply};
+ghost use Rattle.rtcp_engine.specs.state.States.{Admits, IsIn, KeepsCapacity, StandsAt, over, refusal_by};
+ghost use Rattle.rtcp_engine.specs.state.Views.{LeavesRest, NamesFewer, datagram_of, out_in, reply_value, size_of};
 
 use super::Participant;
 use crate::arrival::Arrival;

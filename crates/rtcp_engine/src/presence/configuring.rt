@@ -1,10 +1,10 @@
 //! What a participant does as its host gives it other settings (RFC 3550, 6.2, 6.3.1).
 
 ghost use Rattle.std.specs.Prelude.{◌≡◌, None, IfSome};
-ghost use Rattle.rtcp_engine.specs.Outcomes.{Outcome, pace_at, IsPace};
-ghost use Rattle.rtcp_engine.specs.Refused.{settings_error};
-ghost use Rattle.rtcp_engine.specs.States.{Agrees, IsPaceOf, KeepsCapacity, with_settings_in};
-ghost use Rattle.rtcp_engine.specs.Views.{settings_value};
+ghost use Rattle.rtcp_engine.specs.answers.Outcomes.{Outcome, pace_at, IsPace};
+ghost use Rattle.rtcp_engine.specs.answers.Refused.{settings_error};
+ghost use Rattle.rtcp_engine.specs.state.States.{Agrees, IsPaceOf, KeepsCapacity, with_settings_in};
+ghost use Rattle.rtcp_engine.specs.state.Views.{settings_value};
 
 use super::Presence;
 use crate::pace::{Pace, end_of, slowed};

@@ -1,8 +1,8 @@
 //! What a participant does as its host says that another source is gone (RFC 3550, 6.3.4, 6.3.5).
 
 ghost use Rattle.std.specs.Prelude.{◌≡◌};
-ghost use Rattle.rtcp_engine.specs.States.{Does, MovesOthers};
-ghost use Rattle.rtcp_engine.specs.Ticks.{with_forgotten, without_source};
+ghost use Rattle.rtcp_engine.specs.state.States.{Does, MovesOthers};
+ghost use Rattle.rtcp_engine.specs.answers.Ticks.{with_forgotten, without_source};
 
 use super::Presence;
 use crate::table::forget;

@@ -1,12 +1,12 @@
 //! What a participant does as it leaves (RFC 3550, 6.3.7).
 
 ghost use Rattle.std.specs.Prelude.{◌≡◌, ◌≤◌, ◌<◌, ◌*◌, ◌^◌, ℕ, Some, length};
-ghost use Rattle.rtcp_engine.specs.Leaving.{Backoff, after_wait, backoff_from, is_bye_due, sent_nothing, leaving_count, leaving_interval, leaving_load, with_byes_of};
-ghost use Rattle.rtcp_engine.specs.Lives.{bye_out};
-ghost use Rattle.rtcp_engine.specs.Outcomes.{Outcome};
-ghost use Rattle.rtcp_engine.specs.Reporting.{bye_octets};
-ghost use Rattle.rtcp_engine.specs.States.{Agrees, DoesWaiting, KeepsCapacity, Stays, Waits};
-ghost use Rattle.rtcp_engine.specs.Views.{LeavesRest, out_in};
+ghost use Rattle.rtcp_engine.specs.answers.Leaving.{Backoff, after_wait, backoff_from, is_bye_due, sent_nothing, leaving_count, leaving_interval, leaving_load, with_byes_of};
+ghost use Rattle.rtcp_engine.specs.answers.Lives.{bye_out};
+ghost use Rattle.rtcp_engine.specs.answers.Outcomes.{Outcome};
+ghost use Rattle.rtcp_engine.specs.answers.Reporting.{bye_octets};
+ghost use Rattle.rtcp_engine.specs.state.States.{Agrees, DoesWaiting, KeepsCapacity, Stays, Waits};
+ghost use Rattle.rtcp_engine.specs.state.Views.{LeavesRest, out_in};
 
 use super::Presence;
 use crate::step::{OutKind, Written};

@@ -4,13 +4,13 @@ ghost use Rattle.std.specs.Prelude.{◌≡◌, ◌≤◌, ◌<◌, ◌-◌, ◌^
 ghost use Rattle.rtcp_wire.specs.Writing.{written_all};
 ghost use Rattle.rtcp_members.specs.Pending.{after_blocks, last_reported as last_of};
 ghost use Rattle.rtcp_report.specs.Sizes.{reported_rows, report_of};
-ghost use Rattle.rtcp_engine.specs.Setups.{IsUsable};
-ghost use Rattle.rtcp_engine.specs.Lives.{report_out};
-ghost use Rattle.rtcp_engine.specs.Views.{LeavesRest, out_in, reporter_of, setup_of};
-ghost use Rattle.rtcp_engine.specs.States.{Agrees, Does, MovesOthers};
-ghost use Rattle.rtcp_engine.specs.Outcomes.{Outcome, check_interval, check_load, receiver_load};
-ghost use Rattle.rtcp_engine.specs.Reporting.{report_octets};
-ghost use Rattle.rtcp_engine.specs.Ticks.{with_recount, without_silent, checked, is_report_due, report_due, with_report, drawn_anew, reported, tried_at, after_check, after_tick};
+ghost use Rattle.rtcp_engine.specs.answers.Setups.{IsUsable};
+ghost use Rattle.rtcp_engine.specs.answers.Lives.{report_out};
+ghost use Rattle.rtcp_engine.specs.state.Views.{LeavesRest, out_in, reporter_of, setup_of};
+ghost use Rattle.rtcp_engine.specs.state.States.{Agrees, Does, MovesOthers};
+ghost use Rattle.rtcp_engine.specs.answers.Outcomes.{Outcome, check_interval, check_load, receiver_load};
+ghost use Rattle.rtcp_engine.specs.answers.Reporting.{report_octets};
+ghost use Rattle.rtcp_engine.specs.answers.Ticks.{with_recount, without_silent, checked, is_report_due, report_due, with_report, drawn_anew, reported, tried_at, after_check, after_tick};
 
 use super::Presence;
 use crate::config::Config;

@@ -1,7 +1,7 @@
 //! Runs over several events.
 
 ghost use Rattle.std.specs.Prelude.{◌≡◌, map};
-ghost use Rattle.rtcp_engine.specs.Views.{answer_value};
+ghost use Rattle.rtcp_engine.specs.state.Views.{answer_value};
 
 use super::*;
 use std::alloc::Global;

@@ -1,7 +1,7 @@
 //! What a session over a link counts.
 
 ghost use Rattle.std.specs.Prelude.{◌≡◌, ◌≤◌, ◌<◌, ◌+◌, ◌^◌};
-ghost use Rattle.rtcp_engine.specs.Views.{answer_value};
+ghost use Rattle.rtcp_engine.specs.state.Views.{answer_value};
 ghost use Rattle.rtcp_serve.specs.Tallies.{end_of, is_limit, no_calls, with_arrival, with_datagram, with_failed_receive, with_moment, with_send, with_silence, EndsRow};
 
 use crate::serving::{Cause, End};

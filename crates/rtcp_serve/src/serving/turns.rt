@@ -2,8 +2,8 @@
 
 ghost use Rattle.std.specs.Prelude.{◌≡◌, ◌≤◌, ◌<◌, ◌+◌, ◌*◌, ℕ, Bool, true, false, List, [], ◌∷◌, OnOk};
 ghost use Rattle.rand_core.specs.Stream.{Stream, next_u32};
-ghost use Rattle.rtcp_engine.specs.States.{ParticipantValue};
-ghost use Rattle.rtcp_engine.specs.Views.{answer_value, event_value};
+ghost use Rattle.rtcp_engine.specs.state.States.{ParticipantValue};
+ghost use Rattle.rtcp_engine.specs.state.Views.{answer_value, event_value};
 ghost use Rattle.rtcp_serve.specs.Endings.{AreHeeded, IsCut, Pause, pause};
 ghost use Rattle.rtcp_serve.specs.Links.{WereCalled, clock_read};
 ghost use Rattle.rtcp_serve.specs.Observers.{event_told, telling};

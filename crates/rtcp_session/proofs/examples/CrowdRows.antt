@@ -13,14 +13,14 @@ use Rattle.std.specs.List.{IsDistinct}
 use Rattle.rtcp_members.specs.Entries.{entry_at, is_member, is_such}
 use Rattle.rtcp_timer.specs.declared.load.Load.{Load}
 use Rattle.rtcp_timer.specs.Averages.{with_headers}
-use Rattle.rtcp_engine.specs.Setups.{Setup}
-use Rattle.rtcp_engine.specs.Acts.{Act, arrived, rtcp, rtp, rtp_sent, ticked, left, configured, forgotten}
-use Rattle.rtcp_engine.specs.Histories.{History}
-use Rattle.rtcp_engine.specs.Outcomes.{Outcome, first_size_of}
-use Rattle.rtcp_engine.specs.Refused.{error_in}
-use Rattle.rtcp_engine.specs.Refusals.{refusal_after}
-use Rattle.rtcp_engine.specs.Taken.{HasWords, AllTaken, IsHistory}
-use Rattle.rtcp_engine.specs.Sent.{reports_in, sent_at}
+use Rattle.rtcp_engine.specs.answers.Setups.{Setup}
+use Rattle.rtcp_engine.specs.answers.Acts.{Act, arrived, rtcp, rtp, rtp_sent, ticked, left, configured, forgotten}
+use Rattle.rtcp_engine.specs.answers.Histories.{History}
+use Rattle.rtcp_engine.specs.answers.Outcomes.{Outcome, first_size_of}
+use Rattle.rtcp_engine.specs.answers.Refused.{error_in}
+use Rattle.rtcp_engine.specs.answers.Refusals.{refusal_after}
+use Rattle.rtcp_engine.specs.state.Taken.{HasWords, AllTaken, IsHistory}
+use Rattle.rtcp_engine.specs.bounds.Sent.{reports_in, sent_at}
 use Rattle.rtcp_session.specs.Windows.{in_window, later_ones, intervals_of, Decided, load_at, decided_at, HasSize, Joined, decided_within, later_within}
 use Rattle.rtcp_engine.proofs.LawLemmas.{usable_is_unrefused}
 use Rattle.rtcp_session.specs.Crowds.{HasAtMost, total_reports, total_as, those_as, alike_in, shares_within, AreHeard, Terms, CountsMost, TakesPart, IsCrowd, carried_in}

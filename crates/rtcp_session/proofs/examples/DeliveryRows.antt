@@ -8,7 +8,7 @@ use Rattle.rtcp_wire.specs.Facts.{facts_of}
 use Rattle.rtcp_members.specs.Traces.{TraceStep}
 use Rattle.rtcp_members.specs.Lasting.{says_bye}
 use Rattle.rtcp_members.specs.Entries.{entry_at, is_such, is_sender}
-use Rattle.rtcp_engine.specs.Acts.{Act, arrived, rtcp, rtp, rtp_sent, ticked, left, configured, forgotten}
+use Rattle.rtcp_engine.specs.answers.Acts.{Act, arrived, rtcp, rtp, rtp_sent, ticked, left, configured, forgotten}
 use Rattle.rtcp_session.specs.Windows.{Joined, load_at}
 use Rattle.rtcp_session.specs.Crowds.{Terms}
 use Rattle.rtcp_session.specs.Waits.{Wait, all_waits, waits_within}

@@ -10,9 +10,9 @@ use Rattle.rtcp_wire.specs.Facts.{facts_of}
 use Rattle.rtcp_members.specs.Traces.{TraceStep, fact_came, check_made, horizons_at}
 use Rattle.rtcp_members.specs.Lasting.{says_bye}
 use Rattle.rtcp_members.specs.Entries.{entry_at, is_member, is_sender, is_such}
-use Rattle.rtcp_engine.specs.Acts.{Act, arrived, rtcp, ticked}
-use Rattle.rtcp_engine.specs.Taken.{IsHistory}
-use Rattle.rtcp_engine.specs.Histories.{History}
+use Rattle.rtcp_engine.specs.answers.Acts.{Act, arrived, rtcp, ticked}
+use Rattle.rtcp_engine.specs.state.Taken.{IsHistory}
+use Rattle.rtcp_engine.specs.answers.Histories.{History}
 use Rattle.rtcp_session.specs.Windows.{Joined, Decided, decided_at, load_at}
 use Rattle.rtcp_session.specs.Crowds.{total_reports, Terms}
 use Rattle.rtcp_session.specs.Waits.{Wait, all_waits, averages_of, rtcp_bw, waits_as, HasBandwidth, HasAverage}

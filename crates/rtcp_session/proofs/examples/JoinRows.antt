@@ -4,7 +4,7 @@ use Rattle.std.proofs.Common.{◌≡◌, ℕ, ◌+◌, ◌*◌, ◌/◌, ◌≤�
 use Rattle.std.specs.List.{list_all}
 use Rattle.std.proofs.lemmas.Bool.{and_parts, leb-true}
 use Rattle.std.proofs.lemmas.List.Elements.{All-nil}
-use Rattle.rtcp_engine.specs.Acts.{ticked}
+use Rattle.rtcp_engine.specs.answers.Acts.{ticked}
 use Rattle.rtcp_session.specs.Windows.{load_at, Joined}
 use Rattle.rtcp_session.specs.Crowds.{alike_in, Terms, total_reports, carried_in}
 use Rattle.rtcp_session.specs.Waits.{Wait, all_waits, waits_as, rtcp_bw, HasBandwidth, IsCounted, HasAverage}

@@ -5,10 +5,10 @@ use Rattle.std.specs.List.{list_all}
 use Rattle.std.proofs.lemmas.Bool.{and_parts, leb-true}
 use Rattle.rtcp_wire.specs.Values.{rr, sdes, bye, ChunkValue}
 use Rattle.rtcp_timer.specs.Averages.{with_headers}
-use Rattle.rtcp_engine.specs.Acts.{Act, arrived, rtcp, rtp_sent, ticked, left}
-use Rattle.rtcp_engine.specs.Reporting.{bye_octets}
-use Rattle.rtcp_engine.specs.Leaving.{ByeCompound, leaving_count}
-use Rattle.rtcp_engine.specs.Taken.{IsHistory}
+use Rattle.rtcp_engine.specs.answers.Acts.{Act, arrived, rtcp, rtp_sent, ticked, left}
+use Rattle.rtcp_engine.specs.answers.Reporting.{bye_octets}
+use Rattle.rtcp_engine.specs.answers.Leaving.{ByeCompound, leaving_count}
+use Rattle.rtcp_engine.specs.state.Taken.{IsHistory}
 use Rattle.rtcp_session.specs.Windows.{Joined}
 use Rattle.rtcp_session.specs.Crowds.{Terms, HasAtMost, carried_in}
 use Rattle.rtcp_session.specs.BackoffByes.{ByeWait, all_bye_waits, bye_during, bye_waits_within, CountsByes, HasByeSizes, ByesAreCounted}

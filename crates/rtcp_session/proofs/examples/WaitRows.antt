@@ -6,8 +6,8 @@ use Rattle.std.proofs.lemmas.List.Elements.{All-head, All-map, All-weaker}
 use Rattle.std.proofs.lemmas.List.Sums.{AllPass-from_list_all}
 use Rattle.rtcp_wire.specs.Values.{rr, sdes, bye}
 use Rattle.rtcp_timer.specs.declared.load.Load.{Load}
-use Rattle.rtcp_engine.specs.Setups.{Setup}
-use Rattle.rtcp_engine.specs.Acts.{Act, arrived, rtcp, rtp_sent, ticked, left}
+use Rattle.rtcp_engine.specs.answers.Setups.{Setup}
+use Rattle.rtcp_engine.specs.answers.Acts.{Act, arrived, rtcp, rtp_sent, ticked, left}
 use Rattle.rtcp_session.specs.Windows.{Joined, Decided, load_at, decided_at, later_within}
 use Rattle.rtcp_session.specs.Crowds.{alike_in, CountsMost, TakesPart, IsCrowd, Terms, total_reports, carried_in}
 use Rattle.rtcp_session.specs.Waits.{Wait, all_waits, averages_of, open_at, waits_as, CountsWaiting, AreCounted, HasBandwidth, IsCounted, rtcp_bw}

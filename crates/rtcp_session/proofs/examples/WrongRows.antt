@@ -9,12 +9,12 @@ use Rattle.rtcp_wire.specs.Values.{RtcpPacket, rr, bye}
 use Rattle.rtcp_wire.specs.Grammar.{IsSpelling, IsAccepted}
 use Rattle.rtcp_members.specs.Entries.{entry_at, is_member, is_such}
 use Rattle.rtcp_timer.specs.Loads.{interval_of}
-use Rattle.rtcp_engine.specs.Setups.{Setup}
-use Rattle.rtcp_engine.specs.Acts.{Act, arrived, rtcp, ticked, IsReading, rtcp_came}
-use Rattle.rtcp_engine.specs.Outcomes.{Outcome, load_of, nothing_yet}
-use Rattle.rtcp_engine.specs.Taken.{IsHistory}
-use Rattle.rtcp_engine.specs.Histories.{History}
-use Rattle.rtcp_engine.specs.Sent.{Sent, reports_in, sent_at}
+use Rattle.rtcp_engine.specs.answers.Setups.{Setup}
+use Rattle.rtcp_engine.specs.answers.Acts.{Act, arrived, rtcp, ticked, IsReading, rtcp_came}
+use Rattle.rtcp_engine.specs.answers.Outcomes.{Outcome, load_of, nothing_yet}
+use Rattle.rtcp_engine.specs.state.Taken.{IsHistory}
+use Rattle.rtcp_engine.specs.answers.Histories.{History}
+use Rattle.rtcp_engine.specs.bounds.Sent.{Sent, reports_in, sent_at}
 use Rattle.rtcp_session.specs.Windows.{in_window, later_ones, intervals_of, Decided, load_at, decided_at, HasSize, Joined, reports_within}
 use Rattle.rtcp_session.specs.Crowds.{total_reports, total_octets, alike_in, Paced, IsPaced, total_as, shares_within, AreHeard, Terms, IsCrowd, carried_in}
 use Rattle.rtcp_session.specs.Waits.{AreCounted, octets_next, Wait, all_waits, averages_of, open_at, waits_as, rtcp_bw, HasBandwidth, IsCounted, KeepsToAverage, octets_in}

@@ -1,6 +1,6 @@
 -- What would be wrong: a law with a premise left out, and an event of which it does not hold.
 use Rattle.std.proofs.Common.{◌≡◌, ◌<◌, Ok, arith}
-use Rattle.rtcp_engine.specs.Acts.{EventValue, leave_asked}
+use Rattle.rtcp_engine.specs.answers.Acts.{EventValue, leave_asked}
 use Rattle.rtcp_text.specs.EventLines.{event_in, event_text}
 use Rattle.rtcp_text.proofs.LawLemmas.{events_are_read_back-callable}
 

@@ -1,7 +1,7 @@
 //! The text of what a participant answers, as `rtcp replay` shows it.
 
 ghost use Rattle.std.specs.Prelude.{◌≡◌, ◌+◌, ◌≤◌, ◌++◌, Err, Ok, OnOk, Some, codes, drop};
-ghost use Rattle.rtcp_engine.specs.Views.{out_in, out_written, reply_value, size_written, written_step_value};
+ghost use Rattle.rtcp_engine.specs.state.Views.{out_in, out_written, reply_value, size_written, written_step_value};
 ghost use Rattle.rtcp_engine.specs.declared.refusal.Refusal.TheVariants.{Settings};
 ghost use Rattle.rtcp_text.specs.AnswerText.{answer_text, changed_text, counts_text, kind_text, next_text, out_text, refusal_text, rtp_fault_text, start_text};
 

@@ -2,7 +2,7 @@
 
 ghost use Rattle.std.specs.Prelude.{◌≡◌, ◌++◌, ◌∷◌, [], OnOk, codes};
 ghost use Rattle.std.specs.Fmt.{decimal};
-ghost use Rattle.rtcp_engine.specs.Views.{event_value};
+ghost use Rattle.rtcp_engine.specs.state.Views.{event_value};
 ghost use Rattle.rtcp_text.specs.EventLines.{arrival_fields, datagram_text, event_text, spaced};
 
 use super::digits::{push_decimal, push_octets, push_word};

@@ -1,8 +1,8 @@
 -- What begins is the participant of the configuration that was filled in, at the start that this gives.
 use Rattle.std.proofs.Common.{◌≡◌, ℕ, Option, Some, None, inl, inr, refl, sym, subst, ◌∙◌, ap, arith}
-use Rattle.rtcp_engine.specs.Refused.{error_in}
-use Rattle.rtcp_engine.specs.States.{StandsAt}
-use Rattle.rtcp_engine.specs.Taken.{begun}
+use Rattle.rtcp_engine.specs.answers.Refused.{error_in}
+use Rattle.rtcp_engine.specs.state.States.{StandsAt}
+use Rattle.rtcp_engine.specs.state.Taken.{begun}
 use Rattle.jalwedd_host.specs.declared.session.HostSession.{HostSession}
 use Rattle.jalwedd_host.specs.Answers.{IsBlank}
 use Rattle.jalwedd_host.specs.Configs.{setup_given}

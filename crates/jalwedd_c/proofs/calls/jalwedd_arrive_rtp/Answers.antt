@@ -1,6 +1,6 @@
 -- The moment is counted from the start of the session that is held.
 use Rattle.std.proofs.Common.{refl}
-use Rattle.rtcp_engine.specs.Acts.{rtp_arrived}
+use Rattle.rtcp_engine.specs.answers.Acts.{rtp_arrived}
 use Rattle.jalwedd_c.proofs.Serving.{tells}
 use Rattle.jalwedd_c.proofs.calls.jalwedd_arrive_rtp.Goals as goal
 

@@ -1,6 +1,6 @@
 -- The moment is counted from the start of the session that is held.
 use Rattle.std.proofs.Common.{refl}
-use Rattle.rtcp_engine.specs.Acts.{forget_asked}
+use Rattle.rtcp_engine.specs.answers.Acts.{forget_asked}
 use Rattle.jalwedd_c.proofs.Serving.{tells}
 use Rattle.jalwedd_c.proofs.calls.jalwedd_forget.Goals as goal
 

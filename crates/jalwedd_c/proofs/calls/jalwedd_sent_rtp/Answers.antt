@@ -1,6 +1,6 @@
 -- The moment is counted from the start of the session that is held.
 use Rattle.std.proofs.Common.{refl}
-use Rattle.rtcp_engine.specs.Acts.{packet_sent}
+use Rattle.rtcp_engine.specs.answers.Acts.{packet_sent}
 use Rattle.jalwedd_c.proofs.Serving.{tells}
 use Rattle.jalwedd_c.proofs.calls.jalwedd_sent_rtp.Goals as goal
 

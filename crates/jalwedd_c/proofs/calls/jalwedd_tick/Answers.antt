@@ -1,6 +1,6 @@
 -- The moment is counted from the start of the session that is held.
 use Rattle.std.proofs.Common.{refl}
-use Rattle.rtcp_engine.specs.Acts.{time_passed}
+use Rattle.rtcp_engine.specs.answers.Acts.{time_passed}
 use Rattle.jalwedd_c.proofs.Serving.{tells}
 use Rattle.jalwedd_c.proofs.calls.jalwedd_tick.Goals as goal
 

@@ -1,5 +1,5 @@
 -- The source given is the one that the history tells of, and its moments are those of taken calls.
-use Rattle.rtcp_engine.specs.Histories.{life_at, setup_at}
+use Rattle.rtcp_engine.specs.answers.Histories.{life_at, setup_at}
 use Rattle.jalwedd_host.specs.Sources.{after_of}
 use Rattle.jalwedd_host.proofs.LawLemmas.{history_of, start_of}
 use Rattle.jalwedd_host.proofs.LawLemmas.{shows_left, shows_this, shows_report}

@@ -1,4 +1,4 @@
-use Rattle.rtcp_engine.specs.Histories.{last_moment}
+use Rattle.rtcp_engine.specs.answers.Histories.{last_moment}
 use Rattle.jalwedd_host.proofs.Listing.{listed_as_known}
 use Rattle.jalwedd_host.proofs.Never.{in_range}
 use Rattle.jalwedd_host.proofs.laws.shown_sources_are_listed.Goals as goal

@@ -1,6 +1,6 @@
 use Rattle.std.proofs.Common.{◌++◌, ◌∷◌, [], codes, ap, ◌∙◌}
-use Rattle.rtcp_engine.specs.Setups.{Setup}
-use Rattle.rtcp_engine.specs.Views.{setup_of}
+use Rattle.rtcp_engine.specs.answers.Setups.{Setup}
+use Rattle.rtcp_engine.specs.state.Views.{setup_of}
 use Rattle.rtcp_text.specs.Text.{hex_word}
 use Rattle.rtcp_command.specs.ReplayCommand.{quoted, setup_text}
 use Rattle.rtcp_command.proofs.replay_command.replay_line.Goals as goal

@@ -1,5 +1,5 @@
 use Rattle.std.proofs.Common.{◌≡◌, ◌+◌, ◌≤◌, min}
-use Rattle.rtcp_engine.specs.Leaving.{bye_count}
+use Rattle.rtcp_engine.specs.answers.Leaving.{bye_count}
 use Rattle.rtcp_engine.proofs.byes.count_byes.Given as goal
 
 -- the packets that are left bring it to what all bring it to

@@ -1,6 +1,6 @@
 use Rattle.rtcp_engine.proofs.IdentifierSearch.{chosen_is_first}
-use Rattle.rtcp_engine.specs.Histories.{session_at}
-use Rattle.rtcp_engine.specs.Changes.{is_taken, most_taken}
+use Rattle.rtcp_engine.specs.answers.Histories.{session_at}
+use Rattle.rtcp_engine.specs.answers.Changes.{is_taken, most_taken}
 use Rattle.rtcp_engine.proofs.NewIdentifiers.{new_is_free}
 use Rattle.rtcp_engine.proofs.laws.new_identifiers_are_free.Goals as goal
 

@@ -1,4 +1,4 @@
-use Rattle.rtcp_engine.specs.Histories.{with_act}
+use Rattle.rtcp_engine.specs.answers.Histories.{with_act}
 use Rattle.std.proofs.Common.{Some, None, ap}
 use Rattle.rtcp_engine.proofs.laws.refused_acts_are_forgotten.Goals as goal
 

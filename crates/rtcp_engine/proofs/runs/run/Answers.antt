@@ -1,12 +1,12 @@
 use Rattle.std.proofs.Common.{◌≡◌, ◌++◌, ◌+◌, ◌-◌, ◌∙◌, ℕ, List, [], ◌∷◌, length, take, ap, sym, subst, arith}
 use Rattle.std.proofs.lemmas.List.{append_assoc, length-append}
-use Rattle.rtcp_engine.specs.Histories.{History}
-use Rattle.rtcp_engine.specs.Steps.{AnswerValue}
-use Rattle.rtcp_engine.specs.Answers.{answer_of, answers_to, followed_by_all}
+use Rattle.rtcp_engine.specs.answers.Histories.{History}
+use Rattle.rtcp_engine.specs.answers.Steps.{AnswerValue}
+use Rattle.rtcp_engine.specs.answers.Answers.{answer_of, answers_to, followed_by_all}
 use Rattle.rtcp_engine.specs.declared.event.Event.{Event}
-use Rattle.rtcp_engine.specs.Views.{answer_value, IsActOf}
-use Rattle.rtcp_engine.specs.Runs.{HandsOver, taken_since}
-use Rattle.rtcp_engine.specs.States.{StandsAt}
+use Rattle.rtcp_engine.specs.state.Views.{answer_value, IsActOf}
+use Rattle.rtcp_engine.specs.bounds.Runs.{HandsOver, taken_since}
+use Rattle.rtcp_engine.specs.state.States.{StandsAt}
 use Rattle.rtcp_engine.proofs.HandingOver.{hands_over}
 use Rattle.rtcp_engine.proofs.OneMore.{answers_more, followed_more, next_act, of_error, of_no_error}
 use Rattle.rtcp_engine.proofs.runs.run.Goals as goal

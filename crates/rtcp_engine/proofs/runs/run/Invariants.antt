@@ -1,9 +1,9 @@
 use Rattle.std.proofs.Common.{◌≡◌, ◌+◌, ◌++◌, List, length, take}
-use Rattle.rtcp_engine.specs.Acts.{Act}
-use Rattle.rtcp_engine.specs.Histories.{History}
-use Rattle.rtcp_engine.specs.Answers.{answers_to, followed_by_all}
-use Rattle.rtcp_engine.specs.Views.{AreActsOf}
-use Rattle.rtcp_engine.specs.States.{KeepsCapacity, StandsAt}
+use Rattle.rtcp_engine.specs.answers.Acts.{Act}
+use Rattle.rtcp_engine.specs.answers.Histories.{History}
+use Rattle.rtcp_engine.specs.answers.Answers.{answers_to, followed_by_all}
+use Rattle.rtcp_engine.specs.state.Views.{AreActsOf}
+use Rattle.rtcp_engine.specs.state.States.{KeepsCapacity, StandsAt}
 use Rattle.rtcp_engine.proofs.runs.run.Given as goal
 
 abbrev pub invariant-events : goal.invariant-events

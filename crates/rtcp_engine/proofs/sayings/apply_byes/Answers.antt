@@ -1,6 +1,6 @@
 use Rattle.std.proofs.Common.{◌∷◌, [], ap}
 use Rattle.rtcp_wire.specs.declared.fact.Fact.TheVariants.{Gone}
-use Rattle.rtcp_engine.specs.Sayings.{facts_of_byes}
+use Rattle.rtcp_engine.specs.state.Sayings.{facts_of_byes}
 use Rattle.rtcp_engine.proofs.Saying.{leads_on}
 use Rattle.rtcp_engine.proofs.sayings.apply_byes.Goals as goal
 

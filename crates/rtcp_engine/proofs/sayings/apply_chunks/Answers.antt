@@ -1,6 +1,6 @@
 use Rattle.std.proofs.Common.{ap}
 use Rattle.rtcp_wire.specs.Facts.{facts_of_chunk}
-use Rattle.rtcp_engine.specs.Sayings.{facts_of_chunks}
+use Rattle.rtcp_engine.specs.state.Sayings.{facts_of_chunks}
 use Rattle.rtcp_engine.proofs.Saying.{leads_on}
 use Rattle.rtcp_engine.proofs.sayings.apply_chunks.Goals as goal
 

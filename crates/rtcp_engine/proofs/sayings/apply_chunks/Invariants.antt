@@ -1,4 +1,4 @@
-use Rattle.rtcp_engine.specs.Sayings.{facts_of_chunks}
+use Rattle.rtcp_engine.specs.state.Sayings.{facts_of_chunks}
 use Rattle.rtcp_engine.proofs.Saying.{Leads}
 use Rattle.rtcp_engine.proofs.sayings.apply_chunks.Given as goal
 

@@ -1,7 +1,7 @@
 use Rattle.std.proofs.Common.{◌≡◌, ◌==◌}
 use Rattle.std.specs.List.{list_any}
 use Rattle.rtcp_wire.specs.Facts.{subject}
-use Rattle.rtcp_engine.specs.Sayings.{facts_of_byes}
+use Rattle.rtcp_engine.specs.state.Sayings.{facts_of_byes}
 use Rattle.rtcp_engine.proofs.sayings.are_among.Given as goal
 
 -- what is left tells it as all does

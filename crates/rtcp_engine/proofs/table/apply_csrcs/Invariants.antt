@@ -1,4 +1,4 @@
-use Rattle.rtcp_engine.specs.Arrivals.{facts_of_csrcs}
+use Rattle.rtcp_engine.specs.answers.Arrivals.{facts_of_csrcs}
 use Rattle.rtcp_engine.proofs.Saying.{Leads}
 use Rattle.rtcp_engine.proofs.table.apply_csrcs.Given as goal
 

@@ -1,5 +1,5 @@
 use Rattle.std.proofs.Common.{Some, Err, ap, sym, ◌∙◌}
-use Rattle.rtcp_engine.specs.Acts.{rtcp_arrived, rtp_arrived}
+use Rattle.rtcp_engine.specs.answers.Acts.{rtcp_arrived, rtp_arrived}
 use Rattle.rtcp_text.specs.EventLines.{fields_left}
 use Rattle.rtcp_text.specs.declared.event_line.LineKind.TheVariants.{Rtcp, Rtp}
 use Rattle.rtcp_text.proofs.FieldLemmas.{event_in-named}

@@ -1,7 +1,7 @@
 -- A configuration is refused, or each promise is one case of what the session leaves.
 use Rattle.std.proofs.Common.{[], Ok, Err, Some, refl, ap, sym, ◌∙◌, append-nil, inl}
-use Rattle.rtcp_engine.specs.Taken.{begun}
-use Rattle.rtcp_engine.specs.Views.{setup_of}
+use Rattle.rtcp_engine.specs.state.Taken.{begun}
+use Rattle.rtcp_engine.specs.state.Views.{setup_of}
 use Rattle.rtcp_text.specs.Counted.{inner_of}
 use Rattle.rtcp_text.specs.declared.fault.TextFault.TheVariants.{Memory}
 use Rattle.rtcp_text.proofs.SessionLemmas.{replays}

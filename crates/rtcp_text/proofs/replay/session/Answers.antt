@@ -1,6 +1,6 @@
 -- The line for the start comes first, or a prefix of it, and what the answers leave comes after it.
 use Rattle.std.proofs.Common.{◌∙◌, sym, subst}
-use Rattle.rtcp_engine.specs.States.{StandsAt}
+use Rattle.rtcp_engine.specs.state.States.{StandsAt}
 use Rattle.rtcp_text.specs.Counted.{inner_of}
 use Rattle.rtcp_text.specs.Lines.{Writes}
 use Rattle.rtcp_text.specs.Replay.{SessionLeaves}

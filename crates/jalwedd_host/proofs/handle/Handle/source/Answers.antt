@@ -2,8 +2,8 @@
 use Rattle.std.proofs.Common.{◌≡◌, ◌+◌, ◌<◌, ◌-◌, ◌^◌, ℕ, Option, Some, subst, ◌∙◌, arith}
 use Rattle.rtcp_members.specs.ListViews.{state_value}
 use Rattle.rtcp_members.specs.Past.{IsKnownBy}
-use Rattle.rtcp_engine.specs.Histories.{last_moment, life_at, setup_at}
-use Rattle.rtcp_engine.specs.Lives.{ListsInLife}
+use Rattle.rtcp_engine.specs.answers.Histories.{last_moment, life_at, setup_at}
+use Rattle.rtcp_engine.specs.answers.Lives.{ListsInLife}
 use Rattle.jalwedd_host.specs.Sources.{IsShown, after_of}
 use Rattle.jalwedd_host.proofs.Held.{leads_as, session_of}
 use Rattle.jalwedd_host.proofs.handle.Handle.source.Goals as goal

@@ -4,8 +4,8 @@ use Rattle.rtcp_wire.specs.declared.fact.Fact.{Fact}
 use Rattle.rtcp_wire.specs.Values.{RtcpPacket}
 use Rattle.rtcp_wire.specs.Facts.{subject, facts_of}
 use Rattle.rtcp_engine.specs.declared.arrival.Arrival.{Arrival}
-use Rattle.rtcp_engine.specs.Changes.{is_about}
-use Rattle.rtcp_engine.specs.Views.{datagram_of}
+use Rattle.rtcp_engine.specs.answers.Changes.{is_about}
+use Rattle.rtcp_engine.specs.state.Views.{datagram_of}
 use Rattle.rtcp_engine.proofs.arrival.Arrival.is_of.Goals as goal
 
 pub returns-in-Rtcp : goal.returns-in-Rtcp

@@ -5,9 +5,9 @@ use Rattle.std.proofs.lemmas.Iterator.Search.{any_from_yields_List}
 use borrow.Author.Tests.{tests}
 use Rattle.rtcp_wire.specs.Facts.{subject}
 use Rattle.rtcp_engine.specs.declared.arrival.Arrival.{Arrival}
-use Rattle.rtcp_engine.specs.Changes.{named_by}
-use Rattle.rtcp_engine.specs.Identities.{is_among}
-use Rattle.rtcp_engine.specs.Views.{datagram_of}
+use Rattle.rtcp_engine.specs.answers.Changes.{named_by}
+use Rattle.rtcp_engine.specs.answers.Identities.{is_among}
+use Rattle.rtcp_engine.specs.state.Views.{datagram_of}
 use Rattle.rtcp_engine.proofs.Among.{among_map}
 use Rattle.rtcp_engine.proofs.arrival.Arrival.names.Goals as goal
 

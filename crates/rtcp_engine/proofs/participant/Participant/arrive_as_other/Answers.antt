@@ -1,9 +1,9 @@
 use Rattle.std.proofs.Common.{◌∙◌, None, ap, sym, subst}
-use Rattle.rtcp_engine.specs.Acts.{arrived}
-use Rattle.rtcp_engine.specs.Changes.{is_about}
-use Rattle.rtcp_engine.specs.Setups.{Setup}
-use Rattle.rtcp_engine.specs.States.{Acts, ParticipantValue}
-use Rattle.rtcp_engine.specs.Views.{datagram_of}
+use Rattle.rtcp_engine.specs.answers.Acts.{arrived}
+use Rattle.rtcp_engine.specs.answers.Changes.{is_about}
+use Rattle.rtcp_engine.specs.answers.Setups.{Setup}
+use Rattle.rtcp_engine.specs.state.States.{Acts, ParticipantValue}
+use Rattle.rtcp_engine.specs.state.Views.{datagram_of}
 use Rattle.rtcp_engine.proofs.ActLemmas.{takes}
 use Rattle.rtcp_engine.proofs.Arriving.{plain}
 use Rattle.rtcp_engine.proofs.participant.Participant.arrive_as_other.Goals as goal

@@ -1,10 +1,10 @@
 use Rattle.std.proofs.Common.{◌∙◌, map, ap, sym}
 use Rattle.rtcp_engine.specs.declared.changes.IdentifierChange.{IdentifierChange}
 use Rattle.rtcp_engine.specs.declared.refusal.Refusal.TheVariants.{OwnSsrc}
-use Rattle.rtcp_engine.specs.Acts.{arrived}
-use Rattle.rtcp_engine.specs.Identities.{may_change}
-use Rattle.rtcp_engine.specs.States.{ParticipantValue}
-use Rattle.rtcp_engine.specs.Views.{datagram_of}
+use Rattle.rtcp_engine.specs.answers.Acts.{arrived}
+use Rattle.rtcp_engine.specs.answers.Identities.{may_change}
+use Rattle.rtcp_engine.specs.state.States.{ParticipantValue}
+use Rattle.rtcp_engine.specs.state.Views.{datagram_of}
 use Rattle.rtcp_engine.proofs.ActLemmas.{refuses}
 use Rattle.rtcp_engine.proofs.Arriving.{is_own, may_is, refused_as_own}
 use Rattle.rtcp_engine.proofs.participant.Participant.arrive_as_own.Goals as goal

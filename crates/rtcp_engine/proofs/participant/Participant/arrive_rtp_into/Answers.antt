@@ -1,5 +1,5 @@
 use Rattle.std.proofs.Common.{◌∙◌, Ok, Err, refl, ap, sym}
-use Rattle.rtcp_engine.specs.Acts.{moment_of, rtp}
+use Rattle.rtcp_engine.specs.answers.Acts.{moment_of, rtp}
 use Rattle.rtcp_engine.proofs.ActLemmas.{call_refused, leaves_all, refused, replied}
 use Rattle.rtcp_engine.proofs.Arriving.{as_packet, fault_answered}
 use Rattle.rtcp_engine.proofs.participant.Participant.arrive_rtp_into.Goals as goal

@@ -1,7 +1,7 @@
 use Rattle.std.proofs.Common.{◌≡◌, ◌∙◌, ◌∷◌, option_map, ap}
-use Rattle.rtcp_engine.specs.Lives.{bye_out}
-use Rattle.rtcp_engine.specs.States.{ParticipantValue, own_bye_in, after_change}
-use Rattle.rtcp_engine.specs.Views.{phase_value}
+use Rattle.rtcp_engine.specs.answers.Lives.{bye_out}
+use Rattle.rtcp_engine.specs.state.States.{ParticipantValue, own_bye_in, after_change}
+use Rattle.rtcp_engine.specs.state.Views.{phase_value}
 use Rattle.rtcp_engine.proofs.ChangeLemmas.{changed_is_in, changed_out}
 use Rattle.rtcp_engine.proofs.participant.Participant.change.Goals as goal
 

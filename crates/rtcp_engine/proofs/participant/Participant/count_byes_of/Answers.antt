@@ -1,8 +1,8 @@
 use Rattle.std.proofs.Common.{◌≡◌, ◌+◌, ◌==◌, ◌∙◌, ℕ, List, Bool, true, false, min, if◌then◌else◌, refl, ap, sym, subst, arith, eq-eqb}
 use Rattle.std.proofs.lemmas.Bool.{ne_eqb}
 use Rattle.rtcp_wire.specs.Values.{RtcpPacket}
-use Rattle.rtcp_engine.specs.Leaving.{backing_off, bye_count, with_byes_of}
-use Rattle.rtcp_engine.specs.States.{ParticipantValue, IsAt, leaving}
+use Rattle.rtcp_engine.specs.answers.Leaving.{backing_off, bye_count, with_byes_of}
+use Rattle.rtcp_engine.specs.state.States.{ParticipantValue, IsAt, leaving}
 use Rattle.rtcp_engine.proofs.ActLemmas.{acts_from_backoff, outside, same_stays}
 use Rattle.rtcp_engine.proofs.LifeLemmas.{leaving_counts}
 use Rattle.rtcp_engine.proofs.participant.Participant.count_byes_of.Goals as goal

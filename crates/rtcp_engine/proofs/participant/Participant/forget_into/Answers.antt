@@ -1,6 +1,6 @@
 use Rattle.std.proofs.Common.{◌∙◌, refl, ap, sym}
-use Rattle.rtcp_engine.specs.Acts.{forgotten, moment_of}
-use Rattle.rtcp_engine.specs.States.{ParticipantValue}
+use Rattle.rtcp_engine.specs.answers.Acts.{forgotten, moment_of}
+use Rattle.rtcp_engine.specs.state.States.{ParticipantValue}
 use Rattle.rtcp_engine.proofs.ActLemmas.{alone, call_refused, leaves_all, outside_at, plain_call, replied, takes}
 use Rattle.rtcp_engine.proofs.participant.Participant.forget_into.Goals as goal
 

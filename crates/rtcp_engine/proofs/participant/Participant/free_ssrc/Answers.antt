@@ -1,7 +1,7 @@
 use Rattle.std.proofs.Common.{◌≡◌, ◌∙◌, Bool, true, false, sym, arith}
-use Rattle.rtcp_engine.specs.Changes.{is_taken, most_taken, new_identifier}
-use Rattle.rtcp_engine.specs.Histories.{session_at}
-use Rattle.rtcp_engine.specs.Views.{datagram_of}
+use Rattle.rtcp_engine.specs.answers.Changes.{is_taken, most_taken, new_identifier}
+use Rattle.rtcp_engine.specs.answers.Histories.{session_at}
+use Rattle.rtcp_engine.specs.state.Views.{datagram_of}
 use Rattle.rtcp_engine.proofs.NewIdentifiers.{few_are_taken, new_is_free}
 use Rattle.rtcp_engine.proofs.IdentifierSearch.{first_is_chosen, one_more_taken, some_is_free}
 use Rattle.rtcp_engine.proofs.participant.Participant.free_ssrc.Goals as goal

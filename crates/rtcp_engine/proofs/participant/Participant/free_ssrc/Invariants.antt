@@ -1,8 +1,8 @@
 use Rattle.std.proofs.Common.{◌≡◌, ℕ, ◌+◌, ◌%◌, ◌^◌, ◌<◌, true}
-use Rattle.rtcp_engine.specs.Changes.{is_taken}
-use Rattle.rtcp_engine.specs.Histories.{History, session_at}
-use Rattle.rtcp_engine.specs.States.{StandsAt, over}
-use Rattle.rtcp_engine.specs.Views.{datagram_of}
+use Rattle.rtcp_engine.specs.answers.Changes.{is_taken}
+use Rattle.rtcp_engine.specs.answers.Histories.{History, session_at}
+use Rattle.rtcp_engine.specs.state.States.{StandsAt, over}
+use Rattle.rtcp_engine.specs.state.Views.{datagram_of}
 use Rattle.rtcp_engine.proofs.participant.Participant.free_ssrc.Given as goal
 
 -- all that were tried are taken

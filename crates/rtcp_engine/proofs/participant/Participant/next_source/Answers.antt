@@ -1,7 +1,7 @@
 use Rattle.std.proofs.Common.{option_map, ap}
 use Rattle.rtcp_members.specs.ListViews.{state_value}
-use Rattle.rtcp_engine.specs.Lives.{ListsInLife}
-use Rattle.rtcp_engine.specs.Views.{phase_value}
+use Rattle.rtcp_engine.specs.answers.Lives.{ListsInLife}
+use Rattle.rtcp_engine.specs.state.Views.{phase_value}
 use Rattle.rtcp_engine.proofs.ActLemmas.{said_present}
 use Rattle.rtcp_engine.proofs.Agreeing.{lists_agree}
 use Rattle.rtcp_engine.proofs.participant.Participant.next_source.Goals as goal

@@ -1,5 +1,5 @@
 use Rattle.std.proofs.Common.{◌∙◌, refl, ap, sym}
-use Rattle.rtcp_engine.specs.Acts.{moment_of, rtp_sent}
+use Rattle.rtcp_engine.specs.answers.Acts.{moment_of, rtp_sent}
 use Rattle.rtcp_engine.proofs.ActLemmas.{alone, call_refused, leaves_all, outside, plain_call, replied, takes}
 use Rattle.rtcp_engine.proofs.participant.Participant.sent_rtp_into.Goals as goal
 

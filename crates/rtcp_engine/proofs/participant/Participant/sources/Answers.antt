@@ -1,6 +1,6 @@
 use Rattle.std.proofs.Common.{ap}
-use Rattle.rtcp_engine.specs.Lives.{WalksInLife}
-use Rattle.rtcp_engine.specs.Views.{phase_value}
+use Rattle.rtcp_engine.specs.answers.Lives.{WalksInLife}
+use Rattle.rtcp_engine.specs.state.Views.{phase_value}
 use Rattle.rtcp_engine.proofs.ActLemmas.{said_present}
 use Rattle.rtcp_engine.proofs.Agreeing.{walks_agree}
 use Rattle.rtcp_engine.proofs.participant.Participant.sources.Goals as goal

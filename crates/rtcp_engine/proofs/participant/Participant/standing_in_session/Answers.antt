@@ -1,10 +1,10 @@
 use Rattle.std.proofs.Common.{◌≡◌, ◌∙◌, Some, ap}
 use Rattle.rtcp_timer.specs.Schedules.{Timing}
 use Rattle.rtcp_engine.specs.declared.step.Standing.{Standing}
-use Rattle.rtcp_engine.specs.Histories.{life_at}
-use Rattle.rtcp_engine.specs.Lives.{standing_in_life}
-use Rattle.rtcp_engine.specs.Setups.{Setup}
-use Rattle.rtcp_engine.specs.States.{ParticipantValue}
+use Rattle.rtcp_engine.specs.answers.Histories.{life_at}
+use Rattle.rtcp_engine.specs.answers.Lives.{standing_in_life}
+use Rattle.rtcp_engine.specs.answers.Setups.{Setup}
+use Rattle.rtcp_engine.specs.state.States.{ParticipantValue}
 use Rattle.rtcp_engine.proofs.ActLemmas.{said_at}
 use Rattle.rtcp_engine.proofs.Agreeing.{entries_agree}
 use Rattle.rtcp_engine.proofs.participant.Participant.standing_in_session.Goals as goal

@@ -1,8 +1,8 @@
 use Rattle.std.proofs.Common.{false, None, sym, subst}
 use Rattle.rtcp_engine.specs.declared.arrival.Arrival.{Arrival}
-use Rattle.rtcp_engine.specs.Acts.{arrived}
-use Rattle.rtcp_engine.specs.States.{Acts}
-use Rattle.rtcp_engine.specs.Views.{datagram_of}
+use Rattle.rtcp_engine.specs.answers.Acts.{arrived}
+use Rattle.rtcp_engine.specs.state.States.{Acts}
+use Rattle.rtcp_engine.specs.state.Views.{datagram_of}
 use Rattle.rtcp_engine.proofs.participant.Participant.take_datagram.Goals as goal
 
 pub returns-in-Rtcp-clause-new : goal.returns-in-Rtcp-clause-new

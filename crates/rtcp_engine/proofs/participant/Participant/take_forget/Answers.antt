@@ -1,7 +1,7 @@
 use Rattle.std.proofs.Common.{refl, ap}
-use Rattle.rtcp_engine.specs.Acts.{forgotten}
-use Rattle.rtcp_engine.specs.States.{ParticipantValue}
-use Rattle.rtcp_engine.specs.Views.{phase_value}
+use Rattle.rtcp_engine.specs.answers.Acts.{forgotten}
+use Rattle.rtcp_engine.specs.state.States.{ParticipantValue}
+use Rattle.rtcp_engine.specs.state.Views.{phase_value}
 use Rattle.rtcp_engine.proofs.ActLemmas.{acts_present, acts_passing, acts_gone, outside_at}
 use Rattle.rtcp_engine.proofs.participant.Participant.take_forget.Goals as goal
 

@@ -1,5 +1,5 @@
 use Rattle.std.proofs.Common.{refl, ap, ◌∙◌}
-use Rattle.rtcp_engine.specs.States.{ParticipantValue}
+use Rattle.rtcp_engine.specs.state.States.{ParticipantValue}
 use Rattle.rtcp_engine.proofs.ActLemmas.{acts_present, outside}
 use Rattle.rtcp_engine.proofs.participant.Participant.take_in_session.Goals as goal
 

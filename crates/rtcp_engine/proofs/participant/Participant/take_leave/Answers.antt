@@ -1,6 +1,6 @@
 use Rattle.std.proofs.Common.{subst, refl, ap}
-use Rattle.rtcp_engine.specs.States.{HasOthers, ParticipantValue}
-use Rattle.rtcp_engine.specs.Views.{phase_value}
+use Rattle.rtcp_engine.specs.state.States.{HasOthers, ParticipantValue}
+use Rattle.rtcp_engine.specs.state.Views.{phase_value}
 use Rattle.rtcp_engine.proofs.ActLemmas.{acts_passing, acts_gone}
 use Rattle.rtcp_engine.proofs.participant.Participant.take_leave.Goals as goal
 

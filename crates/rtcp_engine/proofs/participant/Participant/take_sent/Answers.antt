@@ -1,5 +1,5 @@
 use Rattle.std.proofs.Common.{refl, ap}
-use Rattle.rtcp_engine.specs.Views.{phase_value}
+use Rattle.rtcp_engine.specs.state.Views.{phase_value}
 use Rattle.rtcp_engine.proofs.ActLemmas.{acts_present, acts_passing, acts_gone, outside}
 use Rattle.rtcp_engine.proofs.RolesChanged.{none_since}
 use Rattle.rtcp_engine.proofs.participant.Participant.take_sent.Goals as goal

@@ -1,7 +1,7 @@
 use Rattle.std.proofs.Common.{refl, ap}
-use Rattle.rtcp_engine.specs.Acts.{ticked}
-use Rattle.rtcp_engine.specs.States.{ParticipantValue}
-use Rattle.rtcp_engine.specs.Views.{phase_value}
+use Rattle.rtcp_engine.specs.answers.Acts.{ticked}
+use Rattle.rtcp_engine.specs.state.States.{ParticipantValue}
+use Rattle.rtcp_engine.specs.state.Views.{phase_value}
 use Rattle.rtcp_engine.proofs.ActLemmas.{acts_present, acts_gone, outside_at}
 use Rattle.rtcp_engine.proofs.participant.Participant.take_tick.Goals as goal
 

@@ -1,6 +1,6 @@
 use Rattle.std.proofs.Common.{◌∙◌, refl, ap, sym}
-use Rattle.rtcp_engine.specs.Acts.{moment_of, ticked}
-use Rattle.rtcp_engine.specs.States.{ParticipantValue}
+use Rattle.rtcp_engine.specs.answers.Acts.{moment_of, ticked}
+use Rattle.rtcp_engine.specs.state.States.{ParticipantValue}
 use Rattle.rtcp_engine.proofs.ActLemmas.{alone, call_refused, outside_at, plain_call, replied, takes}
 use Rattle.rtcp_engine.proofs.participant.Participant.tick_into.Goals as goal
 

@@ -1,10 +1,10 @@
 use Rattle.std.proofs.Common.{◌∙◌, Bool, Some, None, if◌then◌else◌, refl, ap, sym, subst}
-use Rattle.rtcp_engine.specs.Acts.{ticked}
-use Rattle.rtcp_engine.specs.Leaving.{backing_off, finished, after_wait}
-use Rattle.rtcp_engine.specs.Lives.{bye_out}
-use Rattle.rtcp_engine.specs.Reporting.{bye_octets}
-use Rattle.rtcp_engine.specs.Setups.{Setup}
-use Rattle.rtcp_engine.specs.States.{ParticipantValue, IsAt, leaving}
+use Rattle.rtcp_engine.specs.answers.Acts.{ticked}
+use Rattle.rtcp_engine.specs.answers.Leaving.{backing_off, finished, after_wait}
+use Rattle.rtcp_engine.specs.answers.Lives.{bye_out}
+use Rattle.rtcp_engine.specs.answers.Reporting.{bye_octets}
+use Rattle.rtcp_engine.specs.answers.Setups.{Setup}
+use Rattle.rtcp_engine.specs.state.States.{ParticipantValue, IsAt, leaving}
 use Rattle.rtcp_engine.proofs.ActLemmas.{acts_from_backoff, outside_at}
 use Rattle.rtcp_engine.proofs.LifeLemmas.{wait_keeps_count}
 use Rattle.rtcp_engine.proofs.participant.Participant.try_bye.Goals as goal
@@ -15,7 +15,7 @@ returns-then-not-expire_backoff-clause-new g c w2 =
     let setup = c.self.inside.presence.setup in
     let q : ParticipantValue = record {
       presence = c.expire_backoff.new.self;
-      phase = Rattle.rtcp_engine.specs.Views.phase_value c.self.inside.phase;
+      phase = Rattle.rtcp_engine.specs.state.Views.phase_value c.self.inside.phase;
       changes = c.self.inside.changes.list.items;
     } in
     outside_at (λ (p : ParticipantValue). ticked p.presence.latest c.args.w1 w2) c.self.view_is
@@ -36,7 +36,7 @@ returns-clause-new g c w2 =
     let setup = c.self.inside.presence.setup in
     let q : ParticipantValue = record {
       presence = c.expire_backoff.new.self;
-      phase = Rattle.rtcp_engine.specs.States.over;
+      phase = Rattle.rtcp_engine.specs.state.States.over;
       changes = c.self.inside.changes.list.items;
     } in
     outside_at (λ (p : ParticipantValue). ticked p.presence.latest c.args.w1 w2) c.self.view_is

@@ -1,6 +1,6 @@
 use Rattle.std.proofs.Common.{None, ap}
 use Rattle.rtcp_engine.specs.declared.step.Standing.{Standing}
-use Rattle.rtcp_engine.specs.Views.{written_step_value}
+use Rattle.rtcp_engine.specs.state.Views.{written_step_value}
 use Rattle.rtcp_engine.proofs.participant.Participant.written_step.Goals as goal
 
 pub returns-clause-exact : goal.returns-clause-exact

@@ -1,6 +1,6 @@
 use Rattle.std.proofs.Common.{ℕ, ◌∙◌, ap}
 use Rattle.rtcp_timer.specs.Loads.{interval_of}
-use Rattle.rtcp_engine.specs.Leaving.{leaving_load}
+use Rattle.rtcp_engine.specs.answers.Leaving.{leaving_load}
 use Rattle.rtcp_engine.proofs.presence.Presence.backoff_interval.Goals as goal
 
 pub returns-clause-exact : goal.returns-clause-exact

@@ -1,4 +1,4 @@
-use Rattle.rtcp_engine.specs.Ticks.{with_recount}
+use Rattle.rtcp_engine.specs.answers.Ticks.{with_recount}
 use Rattle.rtcp_engine.proofs.StepLemmas.{both_now}
 use Rattle.rtcp_engine.proofs.presence.Presence.check_members.Goals as goal
 

@@ -1,9 +1,9 @@
 use Rattle.std.proofs.Common.{◌≡◌, ℕ, ◌∙◌, sym, subst}
 use Rattle.rtcp_members.specs.Traces.{horizons_at}
 use Rattle.rtcp_members.specs.Tables.{TableValue, after_check}
-use Rattle.rtcp_engine.specs.OwnStreams.{Adds, check_passed}
-use Rattle.rtcp_engine.specs.States.{MovesOthers}
-use Rattle.rtcp_engine.specs.Ticks.{horizons_of, without_silent}
+use Rattle.rtcp_engine.specs.answers.OwnStreams.{Adds, check_passed}
+use Rattle.rtcp_engine.specs.state.States.{MovesOthers}
+use Rattle.rtcp_engine.specs.answers.Ticks.{horizons_of, without_silent}
 use Rattle.rtcp_engine.proofs.Soundness.{IsKept, check_kept, no_call, kept}
 use Rattle.rtcp_engine.proofs.StepLemmas.{at_latest, does_at, drops, inside_interval}
 use Rattle.rtcp_engine.proofs.RolesChanged.{moves_check}

@@ -2,7 +2,7 @@ use Rattle.std.proofs.Common.{◌≡◌, ◌+◌, ◌&&◌, ◌∙◌, nat_le, a
 use Rattle.std.proofs.lemmas.Grind.{common_steps}
 use Rattle.rtcp_clock.specs.Intervals.{drawn_interval}
 use Rattle.rtcp_timer.specs.Schedules.{Timing}
-use Rattle.rtcp_engine.specs.Leaving.{after_wait, is_bye_due}
+use Rattle.rtcp_engine.specs.answers.Leaving.{after_wait, is_bye_due}
 use Rattle.rtcp_engine.proofs.StepLemmas.{at_latest, bye_due_by, waiting_at, waits_on}
 use Rattle.rtcp_engine.proofs.presence.Presence.expire_backoff.Goals as goal
 

@@ -2,10 +2,10 @@ use Rattle.std.proofs.Common.{◌≡◌, length, ◌∙◌, ◌+◌, ◌≤◌, 
 use Rattle.rtcp_members.specs.Tables.{TableValue}
 use Rattle.rtcp_report.specs.Sizes.{reported_rows}
 use Rattle.rtcp_timer.specs.Averages.{moved_average}
-use Rattle.rtcp_engine.specs.Views.{setup_of}
-use Rattle.rtcp_engine.specs.States.{State}
-use Rattle.rtcp_engine.specs.Reporting.{report_octets, reporter_by}
-use Rattle.rtcp_engine.specs.Ticks.{with_report}
+use Rattle.rtcp_engine.specs.state.Views.{setup_of}
+use Rattle.rtcp_engine.specs.state.States.{State}
+use Rattle.rtcp_engine.specs.answers.Reporting.{report_octets, reporter_by}
+use Rattle.rtcp_engine.specs.answers.Ticks.{with_report}
 use Rattle.rtcp_engine.proofs.StepLemmas.{at_latest, does_at, makes, octets_of}
 use Rattle.rtcp_engine.proofs.Soundness.{IsKept, IsInStep, blocks_kept, kept}
 use Rattle.rtcp_engine.proofs.presence.Presence.make_report.Goals as goal

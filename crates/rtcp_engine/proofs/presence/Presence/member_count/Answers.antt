@@ -8,5 +8,5 @@ member_count-requires g c = omega (arith, c.self.invariant.room, c.self.invarian
 
 pub returns-clause-exact : goal.returns-clause-exact
 returns-clause-exact g c = of_view c.self.view_is
-    (λ setup outcome. Rattle.rtcp_engine.specs.Outcomes.member_count setup outcome)
+    (λ setup outcome. Rattle.rtcp_engine.specs.answers.Outcomes.member_count setup outcome)
     (λ outcome agrees. c.member_count.ensures.exact ∙ members_agree _ outcome agrees)

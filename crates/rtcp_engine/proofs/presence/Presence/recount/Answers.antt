@@ -1,6 +1,6 @@
 use Rattle.std.proofs.Common.{◌∙◌}
 use Rattle.rtcp_timer.specs.Schedules.{after, recounted}
-use Rattle.rtcp_engine.specs.Outcomes.{member_count}
+use Rattle.rtcp_engine.specs.answers.Outcomes.{member_count}
 use Rattle.rtcp_engine.proofs.StepLemmas.{schedules}
 use Rattle.rtcp_engine.proofs.presence.Presence.recount.Goals as goal
 

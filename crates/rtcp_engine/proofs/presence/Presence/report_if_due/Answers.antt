@@ -1,5 +1,5 @@
 use Rattle.std.proofs.Common.{◌∙◌, Some, sym}
-use Rattle.rtcp_engine.specs.Views.{out_in}
+use Rattle.rtcp_engine.specs.state.Views.{out_in}
 use Rattle.rtcp_engine.proofs.StepLemmas.{puts_off, reports_now, hands_out}
 use Rattle.rtcp_engine.proofs.presence.Presence.report_if_due.Goals as goal
 

@@ -1,4 +1,4 @@
-use Rattle.rtcp_engine.specs.Ticks.{drawn_anew}
+use Rattle.rtcp_engine.specs.answers.Ticks.{drawn_anew}
 use Rattle.rtcp_engine.proofs.StepLemmas.{both_now}
 use Rattle.rtcp_engine.proofs.presence.Presence.send_report.Goals as goal
 

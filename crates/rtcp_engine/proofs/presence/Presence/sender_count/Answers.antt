@@ -24,5 +24,5 @@ pub returns : goal.returns
 returns g c =
     let count = ap (λ (n : ℕ). n + c.one_if_sending.result) c.senders.ensures
     ∙ ap (λ (n : ℕ). senders_in (g.T.MemberTable.content c.self.inside.table) + n) c.one_if_sending.ensures.exact in
-    of_view c.self.view_is (λ setup outcome. Rattle.rtcp_engine.specs.Outcomes.sender_count setup outcome)
+    of_view c.self.view_is (λ setup outcome. Rattle.rtcp_engine.specs.answers.Outcomes.sender_count setup outcome)
     (λ outcome agrees. count ∙ senders_agree _ outcome agrees)

@@ -1,5 +1,5 @@
 use Rattle.std.proofs.Common.{not, ◌∙◌, ap}
-use Rattle.rtcp_engine.specs.OwnStreams.{OwnValue}
+use Rattle.rtcp_engine.specs.answers.OwnStreams.{OwnValue}
 use Rattle.rtcp_engine.proofs.StepLemmas.{seen}
 use Rattle.rtcp_engine.proofs.presence.Presence.sent_nothing.Goals as goal
 

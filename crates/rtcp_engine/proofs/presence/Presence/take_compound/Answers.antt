@@ -1,6 +1,6 @@
 use Rattle.std.proofs.Common.{ℕ, ◌∙◌, subst}
-use Rattle.rtcp_engine.specs.States.{Does}
-use Rattle.rtcp_engine.specs.Ticks.{with_recount}
+use Rattle.rtcp_engine.specs.state.States.{Does}
+use Rattle.rtcp_engine.specs.answers.Ticks.{with_recount}
 use Rattle.rtcp_engine.proofs.StepLemmas.{both}
 use Rattle.rtcp_engine.proofs.presence.Presence.take_compound.Goals as goal
 

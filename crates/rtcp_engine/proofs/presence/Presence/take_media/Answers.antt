@@ -1,8 +1,8 @@
 use Rattle.std.proofs.Common.{◌∙◌, ◌-◌, ◌<◌, ℕ, arith, sym, subst, ap}
 use Rattle.rtcp_members.specs.Roles.{facts_move}
 use Rattle.rtcp_members.specs.Tables.{TableValue, HasFew, after_facts, counted}
-use Rattle.rtcp_engine.specs.Arrivals.{facts_of_media, media_fact}
-use Rattle.rtcp_engine.specs.States.{State}
+use Rattle.rtcp_engine.specs.answers.Arrivals.{facts_of_media, media_fact}
+use Rattle.rtcp_engine.specs.state.States.{State}
 use Rattle.rtcp_engine.proofs.StepLemmas.{takes_media}
 use Rattle.rtcp_engine.proofs.RolesChanged.{moves_media}
 use Rattle.rtcp_engine.proofs.Soundness.{IsKept, media_kept, no_call, kept}

@@ -1,6 +1,6 @@
 use Rattle.std.proofs.Common.{◌∙◌, option_map}
-use Rattle.rtcp_engine.specs.Lives.{report_out}
-use Rattle.rtcp_engine.specs.Ticks.{after_check, checked, report_due}
+use Rattle.rtcp_engine.specs.answers.Lives.{report_out}
+use Rattle.rtcp_engine.specs.answers.Ticks.{after_check, checked, report_due}
 use Rattle.rtcp_engine.proofs.StepLemmas.{both_now}
 use Rattle.rtcp_engine.proofs.RolesChanged.{moves_tick}
 use Rattle.rtcp_engine.proofs.presence.Presence.tick.Goals as goal

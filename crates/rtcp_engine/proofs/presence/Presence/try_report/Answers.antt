@@ -2,7 +2,7 @@ use Rattle.std.proofs.Common.{◌≡◌, ◌+◌, ◌&&◌, ◌∙◌, nat_le, a
 use Rattle.std.proofs.lemmas.Grind.{common_steps}
 use Rattle.rtcp_clock.specs.Intervals.{drawn_interval}
 use Rattle.rtcp_timer.specs.Schedules.{Timing}
-use Rattle.rtcp_engine.specs.Ticks.{is_report_due, tried_at}
+use Rattle.rtcp_engine.specs.answers.Ticks.{is_report_due, tried_at}
 use Rattle.rtcp_engine.proofs.StepLemmas.{at_latest, does_at, due_by, tries}
 use Rattle.rtcp_engine.proofs.presence.Presence.try_report.Goals as goal
 

@@ -5,8 +5,8 @@ use Rattle.rtcp_report.specs.Reports.{Reporter, packets_with}
 use Rattle.rtcp_report.specs.Views.{items_of}
 use Rattle.rtcp_timer.specs.Schedules.{transmitted, schedule_at}
 use Rattle.rtcp_timer.specs.Loads.{interval_of}
-use Rattle.rtcp_engine.specs.Setups.{IsUsable}
-use Rattle.rtcp_engine.specs.Views.{setup_of}
+use Rattle.rtcp_engine.specs.answers.Setups.{IsUsable}
+use Rattle.rtcp_engine.specs.state.Views.{setup_of}
 use Rattle.rtcp_engine.proofs.Usable.{usable_of_unrefused}
 use Rattle.rtcp_engine.proofs.Beginning.{IsStart, first_load, start_is_sound, start_stands, first_average}
 use Rattle.rtcp_engine.proofs.presence.Presence.with_table.Given as given

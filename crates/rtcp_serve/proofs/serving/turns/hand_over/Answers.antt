@@ -1,6 +1,6 @@
 -- The compound of an answer is the call that comes next, if there is one.
 use Rattle.std.proofs.Common.{◌≡◌, true, false, option_map, refl, sym, ap, ◌∙◌, if◌then◌else◌}
-use Rattle.rtcp_engine.specs.Views.{answer_value, out_value}
+use Rattle.rtcp_engine.specs.state.Views.{answer_value, out_value}
 use Rattle.rtcp_serve.specs.declared.serving.Cause.TheVariants.{Limit}
 use Rattle.rtcp_serve.specs.Tallies.{is_limit}
 use Rattle.rtcp_serve.specs.Serving.{ended, sending, stage_to_send, stage_after_step}

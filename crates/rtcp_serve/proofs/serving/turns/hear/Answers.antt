@@ -1,6 +1,6 @@
 -- A datagram that came: the participant is told, and then the compound of its answer goes out, if it has one.
 use Rattle.std.proofs.Common.{refl, subst}
-use Rattle.rtcp_engine.specs.Views.{answer_value, event_value}
+use Rattle.rtcp_engine.specs.state.Views.{answer_value, event_value}
 use Rattle.rtcp_serve.specs.Serving.{act_in, after_port}
 use Rattle.rtcp_serve.specs.Sessions.{Reaches}
 use Rattle.rtcp_serve.proofs.LinkCalls.{datagram_room, datagram_told, either_way, is_act_in, walks_after, walks_to}

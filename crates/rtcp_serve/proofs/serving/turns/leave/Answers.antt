@@ -1,6 +1,6 @@
 -- The leave, and turns after it.
 use Rattle.std.proofs.Common.{◌*◌, refl, sym, ap, ◌∙◌, subst, if◌then◌else◌, arith}
-use Rattle.rtcp_engine.specs.Views.{answer_value}
+use Rattle.rtcp_engine.specs.state.Views.{answer_value}
 use Rattle.rtcp_serve.specs.declared.serving.Cause.TheVariants.{Done}
 use Rattle.rtcp_serve.specs.Endings.{AreHeeded}
 use Rattle.rtcp_serve.specs.Serving.{resting, ended}

@@ -1,6 +1,6 @@
 -- The clock, and then the compound of the tick, if it has one.
 use Rattle.std.proofs.Common.{◌+◌, refl, subst}
-use Rattle.rtcp_engine.specs.Views.{answer_value}
+use Rattle.rtcp_engine.specs.state.Views.{answer_value}
 use Rattle.rtcp_serve.specs.Serving.{resting}
 use Rattle.rtcp_serve.specs.Sessions.{Reaches}
 use Rattle.rtcp_serve.proofs.LinkCalls.{either_way, tick_told, walks_after, walks_to}

@@ -1,5 +1,5 @@
 -- After all sources those that are listed were looked at, and their notes are kept.
-use Rattle.rtcp_engine.specs.Histories.{life_at, setup_at}
+use Rattle.rtcp_engine.specs.answers.Histories.{life_at, setup_at}
 use Rattle.rtcp_show.specs.Flows.{elapsed_since, flow_in}
 use Rattle.rtcp_show.specs.Kept.{kept_of}
 use Rattle.rtcp_show.specs.Listings.{state_at}

@@ -1,7 +1,7 @@
 -- The sources are listed, and what changed is told.
 use Rattle.std.proofs.Common.{Bool, true, false, List, ℕ, map, refl}
-use Rattle.rtcp_engine.specs.Histories.{History, life_at, setup_at}
-use Rattle.rtcp_engine.specs.Lives.{WalksInLife}
+use Rattle.rtcp_engine.specs.answers.Histories.{History, life_at, setup_at}
+use Rattle.rtcp_engine.specs.answers.Lives.{WalksInLife}
 use Rattle.rtcp_listing.specs.Differences.{ListedValue, listed_of}
 use Rattle.rtcp_members.specs.ListViews.{state_value}
 use Rattle.rtcp_members.specs.Listings.{StateValue}

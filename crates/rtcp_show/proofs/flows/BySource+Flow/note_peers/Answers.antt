@@ -1,7 +1,7 @@
 -- Where an RTP packet came from, and then where a report did.
 use Rattle.std.proofs.Common.{[], unwrap_or}
 use Rattle.std.proofs.lemmas.Result.{on_ok_weaker}
-use Rattle.rtcp_engine.specs.Views.{event_value}
+use Rattle.rtcp_engine.specs.state.Views.{event_value}
 use Rattle.rtcp_show.specs.Flows.{flow_in, peer_of_event}
 use Rattle.rtcp_show.specs.Listings.{lists}
 use Rattle.rtcp_show.proofs.FlowLemmas.{heard_both}

@@ -1,6 +1,6 @@
 -- The round trips of a compound, and then its CNAMEs.
 use Rattle.std.proofs.lemmas.Result.{on_ok_weaker}
-use Rattle.rtcp_engine.specs.Histories.{setup_at}
+use Rattle.rtcp_engine.specs.answers.Histories.{setup_at}
 use Rattle.rtcp_show.specs.Listings.{lists}
 use Rattle.rtcp_show.specs.Notes.{noted_in}
 use Rattle.rtcp_show.proofs.NoteLemmas.{noted_both}

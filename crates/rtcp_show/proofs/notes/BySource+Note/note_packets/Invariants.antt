@@ -1,7 +1,7 @@
 use Rattle.std.proofs.Common.{◌≡◌, ℕ}
 use Rattle.std.specs.List.{flat_map}
-use Rattle.rtcp_engine.specs.Histories.{History}
-use Rattle.rtcp_engine.specs.States.{StandsAt}
+use Rattle.rtcp_engine.specs.answers.Histories.{History}
+use Rattle.rtcp_engine.specs.state.States.{StandsAt}
 use Rattle.rtcp_show.specs.Listings.{if_listed, lists}
 use Rattle.rtcp_show.specs.Notes.{cnames_of_packet, noted_in, with_cnames}
 use Rattle.rtcp_show.proofs.notes.BySource+Note.note_packets.Given as goal

@@ -1,6 +1,6 @@
 use Rattle.std.proofs.Common.{◌≡◌, ℕ}
-use Rattle.rtcp_engine.specs.Histories.{History}
-use Rattle.rtcp_engine.specs.States.{StandsAt}
+use Rattle.rtcp_engine.specs.answers.Histories.{History}
+use Rattle.rtcp_engine.specs.state.States.{StandsAt}
 use Rattle.rtcp_show.specs.Listings.{if_listed, lists}
 use Rattle.rtcp_show.specs.Notes.{noted_in, with_trips}
 use Rattle.rtcp_show.proofs.notes.BySource+Note.note_trips.Given as goal

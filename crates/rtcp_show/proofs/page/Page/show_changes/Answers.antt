@@ -1,8 +1,8 @@
 -- Where the sources are not listed anew, nothing is told.
 use Rattle.std.proofs.Common.{◌≡◌, ◌&&◌, ◌∙◌, [], Bool, List, ℕ, ap, false, not, refl, subst, sym}
 use Rattle.std.proofs.KnownBytes.{Appends-nil}
-use Rattle.rtcp_engine.specs.Histories.{History}
-use Rattle.rtcp_engine.specs.Views.{event_value}
+use Rattle.rtcp_engine.specs.answers.Histories.{History}
+use Rattle.rtcp_engine.specs.state.Views.{event_value}
 use Rattle.rtcp_listing.specs.Differences.{ListedValue}
 use Rattle.rtcp_show.specs.Changes.{ShowsChanges, is_forgetting}
 use Rattle.rtcp_show.proofs.page.Page.show_changes.Goals as goal

@@ -1,7 +1,7 @@
 use Rattle.std.proofs.Common.{◌≡◌, ◌++◌, ◌∙◌, ap, subst, List, ℕ}
 use Rattle.std.proofs.lemmas.Result.{on_ok_weaker}
 use Rattle.std.specs.Io.KnownBytes.{Appends}
-use Rattle.rtcp_engine.specs.Views.{answer_value, event_value}
+use Rattle.rtcp_engine.specs.state.Views.{answer_value, event_value}
 use Rattle.rtcp_show.specs.Lines.{ShowsBothBy}
 use Rattle.rtcp_show.specs.Wordings.{shown_in}
 use Rattle.rtcp_show.specs.Watchers.{held_on}

@@ -1,6 +1,6 @@
 -- The lines of the event, what it tells of sources, whose roles changed, and who is there.
 use Rattle.std.proofs.Common.{◌∙◌, refl, sym}
-use Rattle.rtcp_engine.specs.Views.{answer_value, event_value}
+use Rattle.rtcp_engine.specs.state.Views.{answer_value, event_value}
 use Rattle.rtcp_show.proofs.WatchLemmas.{all_ok, at_ok, watched}
 use Rattle.rtcp_show.proofs.printer.Printer.print.Goals as goal
 

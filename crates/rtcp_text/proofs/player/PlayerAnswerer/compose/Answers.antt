@@ -1,6 +1,6 @@
 -- The event of the line is one act, and the participant answers that.
-use Rattle.rtcp_engine.specs.Answers.{answer_of}
-use Rattle.rtcp_engine.specs.Views.{event_value}
+use Rattle.rtcp_engine.specs.answers.Answers.{answer_of}
+use Rattle.rtcp_engine.specs.state.Views.{event_value}
 use Rattle.rtcp_text.proofs.ReplayLemmas.{act_exists, answer_shown}
 use Rattle.rtcp_text.proofs.player.PlayerAnswerer.compose.Goals as goal
 

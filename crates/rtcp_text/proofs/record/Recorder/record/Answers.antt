@@ -1,7 +1,7 @@
 -- What is written of the line is a prefix of it, and a flush keeps that.
 use Rattle.std.proofs.Common.{◌≡◌, sym, ap, ◌∙◌, ◌++◌, ◌∷◌, []}
 use Rattle.std.proofs.KnownBytes.{Appends-kept}
-use Rattle.rtcp_engine.specs.Views.{event_value}
+use Rattle.rtcp_engine.specs.state.Views.{event_value}
 use Rattle.rtcp_text.specs.EventLines.{event_text}
 use Rattle.rtcp_text.specs.Records.{event_line}
 use Rattle.rtcp_text.proofs.record.Recorder.record.Goals as goal

@@ -7,9 +7,9 @@ use Rattle.rtcp_timer.specs.Schedules.{Timing}
 use Rattle.rtcp_wire.specs.Values.{ItemValue}
 use Rattle.rtcp_engine.specs.declared.changes.IdentifierChange.{IdentifierChange}
 use Rattle.rtcp_engine.specs.declared.pace.Pace.{Pace}
-use Rattle.rtcp_engine.specs.Setups.{Setup, ClockValue}
-use Rattle.rtcp_engine.specs.OwnStreams.{PacketValue, OwnValue}
-use Rattle.rtcp_engine.specs.States.{State, PhaseValue, taking_part, leaving, over, ParticipantValue}
+use Rattle.rtcp_engine.specs.answers.Setups.{Setup, ClockValue}
+use Rattle.rtcp_engine.specs.answers.OwnStreams.{PacketValue, OwnValue}
+use Rattle.rtcp_engine.specs.state.States.{State, PhaseValue, taking_part, leaving, over, ParticipantValue}
 
 abbrev pub item_code : Coded ItemValue
 item_code =

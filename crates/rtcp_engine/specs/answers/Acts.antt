@@ -7,7 +7,7 @@ use Rattle.rtcp_wire.specs.Values.{RtcpPacket}
 use Rattle.rtcp_wire.specs.Grammar.{IsAccepted}
 use Rattle.rtcp_wire.specs.Faults.{IsFirstFault}
 use Rattle.rtcp_wire.specs.RtpHeads.{RtpValue, IsRtpHead, IsRtpFault}
-use Rattle.rtcp_engine.specs.Setups.{SettingsValue}
+use Rattle.rtcp_engine.specs.answers.Setups.{SettingsValue}
 
 -- What a datagram says that came.
 pub data Datagram : Type 0 where

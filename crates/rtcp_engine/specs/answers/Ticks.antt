@@ -5,10 +5,10 @@ use Rattle.rtcp_clock.specs.Intervals.{drawn_interval}
 use Rattle.rtcp_members.specs.Traces.{Horizons, horizons_at, check_made, source_forgotten}
 use Rattle.rtcp_report.specs.Traced.{with_blocks}
 use Rattle.rtcp_timer.specs.Schedules.{transmitted, tried, recounted}
-use Rattle.rtcp_engine.specs.Setups.{Setup}
-use Rattle.rtcp_engine.specs.OwnStreams.{check_passed, report_sent}
-use Rattle.rtcp_engine.specs.Outcomes.{Outcome, member_count, interval_at, check_interval, timing_of}
-use Rattle.rtcp_engine.specs.Reporting.{reported_at, report_octets}
+use Rattle.rtcp_engine.specs.answers.Setups.{Setup}
+use Rattle.rtcp_engine.specs.answers.OwnStreams.{check_passed, report_sent}
+use Rattle.rtcp_engine.specs.answers.Outcomes.{Outcome, member_count, interval_at, check_interval, timing_of}
+use Rattle.rtcp_engine.specs.answers.Reporting.{reported_at, report_octets}
 
 -- The members are counted again, since some may have departed (6.3.4).
 abbrev pub with_recount : Setup → (t : ℕ) → Outcome → Outcome

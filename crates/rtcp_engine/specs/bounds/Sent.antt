@@ -1,14 +1,14 @@
 -- The compounds that a participant sends over its session. Lists are newest first.
 use Rattle.std.specs.Prelude.{ℕ, List, [], ◌∷◌, ◌++◌, filter, Bool, true, false, is_some, if◌then◌else◌, Option, Some, None, Ok, Err}
 use Rattle.rtcp_engine.specs.declared.step.OutKind.TheVariants.{Report as ReportKind, Bye as ByeKind}
-use Rattle.rtcp_engine.specs.Setups.{Setup}
-use Rattle.rtcp_engine.specs.Acts.{Act, ticked, moment_of}
-use Rattle.rtcp_engine.specs.Outcomes.{Outcome, Report, interval_at}
-use Rattle.rtcp_engine.specs.Ticks.{checked}
-use Rattle.rtcp_engine.specs.Histories.{History, brought_by, session_of}
-use Rattle.rtcp_engine.specs.Steps.{OutValue, AnswerValue}
-use Rattle.rtcp_engine.specs.Leaving.{Life, present, backing_off, finished, leaving_interval}
-use Rattle.rtcp_engine.specs.Changes.{Session, change_by}
+use Rattle.rtcp_engine.specs.answers.Setups.{Setup}
+use Rattle.rtcp_engine.specs.answers.Acts.{Act, ticked, moment_of}
+use Rattle.rtcp_engine.specs.answers.Outcomes.{Outcome, Report, interval_at}
+use Rattle.rtcp_engine.specs.answers.Ticks.{checked}
+use Rattle.rtcp_engine.specs.answers.Histories.{History, brought_by, session_of}
+use Rattle.rtcp_engine.specs.answers.Steps.{OutValue, AnswerValue}
+use Rattle.rtcp_engine.specs.answers.Leaving.{Life, present, backing_off, finished, leaving_interval}
+use Rattle.rtcp_engine.specs.answers.Changes.{Session, change_by}
 
 -- ---- A compound
 

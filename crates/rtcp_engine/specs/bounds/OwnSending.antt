@@ -1,6 +1,6 @@
 -- Whether the participant counts as a sender, in other words (RFC 3550, 6.3.8).
 use Rattle.std.specs.Prelude.{◌≡◌, ℕ, ◌≤◌, List, [], ◌∷◌, ◌++◌}
-use Rattle.rtcp_engine.specs.OwnStreams.{OwnStep, packet_sent, check_passed, report_sent, counts_anew}
+use Rattle.rtcp_engine.specs.answers.OwnStreams.{OwnStep, packet_sent, check_passed, report_sent, counts_anew}
 
 -- No packet, and no check with a horizon after this moment.
 abbrev pub OutlastsChecks : (moment : ℕ) → List OwnStep → Type 0

@@ -3,12 +3,12 @@ use Rattle.std.specs.Prelude.{ℕ, ◌-◌, ◌^◌, ◌&&◌, not, Bool, nat_lt
 use Rattle.std.specs.Option.{option_or}
 use Rattle.rtcp_engine.specs.declared.refusal.Refusal.{Refusal}
 use Rattle.rtcp_engine.specs.declared.refusal.Refusal.TheVariants.{Left, Backwards, TooFar, TooMany, Wire, Rtp, OwnSsrc, Settings}
-use Rattle.rtcp_engine.specs.Refused.{settings_error}
-use Rattle.rtcp_engine.specs.Acts.{Datagram, rtcp, rtp, Act, arrived, configured, moment_of}
-use Rattle.rtcp_engine.specs.Identities.{may_change}
-use Rattle.rtcp_engine.specs.Leaving.{Life, present, backing_off, finished}
-use Rattle.rtcp_engine.specs.Changes.{Session, changing_peers, is_about}
-use Rattle.rtcp_engine.specs.Histories.{History, last_moment, session_at}
+use Rattle.rtcp_engine.specs.answers.Refused.{settings_error}
+use Rattle.rtcp_engine.specs.answers.Acts.{Datagram, rtcp, rtp, Act, arrived, configured, moment_of}
+use Rattle.rtcp_engine.specs.answers.Identities.{may_change}
+use Rattle.rtcp_engine.specs.answers.Leaving.{Life, present, backing_off, finished}
+use Rattle.rtcp_engine.specs.answers.Changes.{Session, changing_peers, is_about}
+use Rattle.rtcp_engine.specs.answers.Histories.{History, last_moment, session_at}
 
 -- why any act at a moment is refused, by the last act's moment and how many calls were taken: the first of the reasons
 abbrev pub call_refusal : (moment latest calls : ℕ) → Option Refusal

@@ -1,10 +1,10 @@
 -- Histories that a participant can have.
 use Rattle.std.specs.Prelude.{◌≡◌, ℕ, ◌<◌, ◌^◌, List, [], ◌∷◌, length, None}
-use Rattle.rtcp_engine.specs.Setups.{Setup, IsUsable}
-use Rattle.rtcp_engine.specs.Acts.{Datagram, Act, arrived, rtp_sent, ticked, left, configured, forgotten}
-use Rattle.rtcp_engine.specs.Changes.{named_by}
-use Rattle.rtcp_engine.specs.Histories.{History}
-use Rattle.rtcp_engine.specs.Refusals.{refusal_after}
+use Rattle.rtcp_engine.specs.answers.Setups.{Setup, IsUsable}
+use Rattle.rtcp_engine.specs.answers.Acts.{Datagram, Act, arrived, rtp_sent, ticked, left, configured, forgotten}
+use Rattle.rtcp_engine.specs.answers.Changes.{named_by}
+use Rattle.rtcp_engine.specs.answers.Histories.{History}
+use Rattle.rtcp_engine.specs.answers.Refusals.{refusal_after}
 
 -- A datagram names few identifiers: one of 65,535 octets has room for some 16,000.
 abbrev pub NamesFew : Datagram → Type 0

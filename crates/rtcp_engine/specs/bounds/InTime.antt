@@ -3,16 +3,16 @@
 use Rattle.std.specs.Prelude.{ℕ, ◌+◌, ◌≤◌, Bool, false, IsTrue, is_some, nat_lt, max, List, [], ◌∷◌, if◌then◌else◌}
 use Rattle.rtcp_clock.specs.Intervals.{longest_draw}
 use Rattle.rtcp_timer.specs.Loads.{interval_of}
-use Rattle.rtcp_engine.specs.Setups.{Setup}
-use Rattle.rtcp_engine.specs.Acts.{Act, rtcp, arrived, ticked, left, forgotten, moment_of}
-use Rattle.rtcp_engine.specs.Outcomes.{Outcome, interval_at, member_count, nothing_yet}
-use Rattle.rtcp_engine.specs.Lives.{out_by}
-use Rattle.rtcp_engine.specs.Ticks.{checked, with_report, without_source}
-use Rattle.rtcp_engine.specs.Arrivals.{with_reading}
-use Rattle.rtcp_engine.specs.Histories.{History, brought_by, life_at, session_at, session_for, session_of, setup_at}
-use Rattle.rtcp_engine.specs.Leaving.{Backoff, Life, present, backing_off, finished, leaving_interval, leaving_load}
-use Rattle.rtcp_engine.specs.Sent.{Sent, reports_in, interval_by, sent_at}
-use Rattle.rtcp_engine.specs.Spacing.{newest_moment}
+use Rattle.rtcp_engine.specs.answers.Setups.{Setup}
+use Rattle.rtcp_engine.specs.answers.Acts.{Act, rtcp, arrived, ticked, left, forgotten, moment_of}
+use Rattle.rtcp_engine.specs.answers.Outcomes.{Outcome, interval_at, member_count, nothing_yet}
+use Rattle.rtcp_engine.specs.answers.Lives.{out_by}
+use Rattle.rtcp_engine.specs.answers.Ticks.{checked, with_report, without_source}
+use Rattle.rtcp_engine.specs.answers.Arrivals.{with_reading}
+use Rattle.rtcp_engine.specs.answers.Histories.{History, brought_by, life_at, session_at, session_for, session_of, setup_at}
+use Rattle.rtcp_engine.specs.answers.Leaving.{Backoff, Life, present, backing_off, finished, leaving_interval, leaving_load}
+use Rattle.rtcp_engine.specs.bounds.Sent.{Sent, reports_in, interval_by, sent_at}
+use Rattle.rtcp_engine.specs.bounds.Spacing.{newest_moment}
 
 -- ---- Falls
 

@@ -7,10 +7,10 @@ use Rattle.rtcp_timer.specs.declared.load.Load.{Load}
 use Rattle.rtcp_timer.specs.Averages.{average_of}
 use Rattle.rtcp_timer.specs.Loads.{interval_of}
 use Rattle.rtcp_timer.specs.Schedules.{Happening, transmitted, tried, Timing, schedule_at}
-use Rattle.rtcp_engine.specs.Setups.{Setup}
-use Rattle.rtcp_engine.specs.OwnStreams.{has_sent, counts_anew}
-use Rattle.rtcp_engine.specs.Reporting.{bye_octets}
-use Rattle.rtcp_engine.specs.Outcomes.{Outcome, member_count}
+use Rattle.rtcp_engine.specs.answers.Setups.{Setup}
+use Rattle.rtcp_engine.specs.answers.OwnStreams.{has_sent, counts_anew}
+use Rattle.rtcp_engine.specs.answers.Reporting.{bye_octets}
+use Rattle.rtcp_engine.specs.answers.Outcomes.{Outcome, member_count}
 
 -- ---- Backing off
 

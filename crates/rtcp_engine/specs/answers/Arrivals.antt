@@ -9,12 +9,12 @@ use Rattle.rtcp_wire.specs.Facts.{facts_of}
 use Rattle.rtcp_wire.specs.RtpHeads.{RtpValue}
 use Rattle.rtcp_members.specs.Traces.{with_facts}
 use Rattle.rtcp_members.specs.Entries.{counted_at}
-use Rattle.rtcp_engine.specs.Setups.{Setup, rate_among}
-use Rattle.rtcp_engine.specs.Acts.{Datagram, rtcp, rtp, Act, arrived, rtp_sent, ticked, left, configured, forgotten}
-use Rattle.rtcp_engine.specs.OwnStreams.{packet_sent, counts_anew, has_sent}
-use Rattle.rtcp_engine.specs.Reporting.{bye_octets}
-use Rattle.rtcp_engine.specs.Outcomes.{Outcome, with_pace}
-use Rattle.rtcp_engine.specs.Ticks.{with_recount, after_tick, without_source}
+use Rattle.rtcp_engine.specs.answers.Setups.{Setup, rate_among}
+use Rattle.rtcp_engine.specs.answers.Acts.{Datagram, rtcp, rtp, Act, arrived, rtp_sent, ticked, left, configured, forgotten}
+use Rattle.rtcp_engine.specs.answers.OwnStreams.{packet_sent, counts_anew, has_sent}
+use Rattle.rtcp_engine.specs.answers.Reporting.{bye_octets}
+use Rattle.rtcp_engine.specs.answers.Outcomes.{Outcome, with_pace}
+use Rattle.rtcp_engine.specs.answers.Ticks.{with_recount, after_tick, without_source}
 
 -- ---- Arrivals
 

@@ -17,12 +17,12 @@ use Rattle.rtcp_engine.specs.declared.arrival.Arrival.TheVariants.{Rtcp, Rtp}
 use Rattle.rtcp_engine.specs.declared.event.Event.{Event}
 use Rattle.rtcp_engine.specs.declared.event.Event.TheVariants.{ArriveRtcp, ArriveRtp, SentRtp, Tick, Leave, Configure, Forget}
 use Rattle.rtcp_report.specs.Reports.{Reporter}
-use Rattle.rtcp_engine.specs.Reporting.{reporter_by}
-use Rattle.rtcp_engine.specs.Setups.{Setup, SettingsValue, ClockValue}
-use Rattle.rtcp_engine.specs.Acts.{Datagram, rtcp, rtp, Act, EventValue, rtcp_arrived, rtp_arrived, packet_sent, time_passed, leave_asked, settings_given, forget_asked, IsActOfEvent}
-use Rattle.rtcp_engine.specs.Changes.{named_by}
-use Rattle.rtcp_engine.specs.Steps.{OutValue, StepValue, AnswerValue}
-use Rattle.rtcp_engine.specs.States.{PhaseValue, taking_part, leaving, over}
+use Rattle.rtcp_engine.specs.answers.Reporting.{reporter_by}
+use Rattle.rtcp_engine.specs.answers.Setups.{Setup, SettingsValue, ClockValue}
+use Rattle.rtcp_engine.specs.answers.Acts.{Datagram, rtcp, rtp, Act, EventValue, rtcp_arrived, rtp_arrived, packet_sent, time_passed, leave_asked, settings_given, forget_asked, IsActOfEvent}
+use Rattle.rtcp_engine.specs.answers.Changes.{named_by}
+use Rattle.rtcp_engine.specs.answers.Steps.{OutValue, StepValue, AnswerValue}
+use Rattle.rtcp_engine.specs.state.States.{PhaseValue, taking_part, leaving, over}
 
 abbrev pub phase_value : Phase → PhaseValue
 phase_value Present = taking_part

@@ -4,7 +4,7 @@ use Rattle.std.specs.List.{list_all}
 use Rattle.rtcp_wire.specs.Values.{ItemValue}
 use Rattle.rtcp_engine.specs.declared.config.ConfigError.{ConfigError}
 use Rattle.rtcp_engine.specs.declared.config.ConfigError.TheVariants.{Cname, Capacity, Limit, Bandwidth, Rate, Item}
-use Rattle.rtcp_engine.specs.Setups.{Setup, SettingsValue, is_within, is_extra_item, is_clock}
+use Rattle.rtcp_engine.specs.answers.Setups.{Setup, SettingsValue, is_within, is_extra_item, is_clock}
 
 -- whether these may be given beside the CNAME
 abbrev pub are_extras : List ItemValue → Bool

@@ -12,8 +12,8 @@ use Rattle.rtcp_timer.specs.Averages.{average_of}
 use Rattle.rtcp_timer.specs.Loads.{interval_of}
 use Rattle.rtcp_timer.specs.Schedules.{Happening, transmitted, Timing, schedule_at}
 use Rattle.rtcp_engine.specs.declared.pace.Pace.{Pace}
-use Rattle.rtcp_engine.specs.Setups.{Setup, SettingsValue, keeps_bandwidths}
-use Rattle.rtcp_engine.specs.OwnStreams.{OwnStep, we_sent}
+use Rattle.rtcp_engine.specs.answers.Setups.{Setup, SettingsValue, keeps_bandwidths}
+use Rattle.rtcp_engine.specs.answers.OwnStreams.{OwnStep, we_sent}
 
 -- a report that was sent, and the deterministic interval at that moment
 pub record Report : Type 0 where

@@ -1,7 +1,7 @@
 -- What a participant keeps of its own stream, as the definitions see it.
 use Rattle.std.specs.Prelude.{false}
 use Rattle.rtcp_engine.specs.declared.own.NewestPacket.{NewestPacket}
-use Rattle.rtcp_engine.specs.OwnStreams.{OwnValue, PacketValue}
+use Rattle.rtcp_engine.specs.answers.OwnStreams.{OwnValue, PacketValue}
 
 abbrev pub packet_value : NewestPacket → PacketValue
 packet_value packet = record { moment = packet.moment; timestamp = packet.timestamp }

@@ -1,13 +1,13 @@
 -- What the acts of a session come to, from its beginning on. A history is a list of acts, newest first.
 use Rattle.std.specs.Prelude.{ℕ, Bool, List, [], ◌∷◌, Option}
 use Rattle.std.specs.Option.{option_or}
-use Rattle.rtcp_engine.specs.Setups.{Setup, SettingsValue, settings_of, with_settings}
-use Rattle.rtcp_engine.specs.Acts.{Act, configured, moment_of}
-use Rattle.rtcp_engine.specs.Outcomes.{beginning}
-use Rattle.rtcp_engine.specs.Steps.{OutValue}
-use Rattle.rtcp_engine.specs.Leaving.{Life, present}
-use Rattle.rtcp_engine.specs.Lives.{lived, others_moved_by, out_by}
-use Rattle.rtcp_engine.specs.Changes.{Session, bye_of_change, change_by, changed_by}
+use Rattle.rtcp_engine.specs.answers.Setups.{Setup, SettingsValue, settings_of, with_settings}
+use Rattle.rtcp_engine.specs.answers.Acts.{Act, configured, moment_of}
+use Rattle.rtcp_engine.specs.answers.Outcomes.{beginning}
+use Rattle.rtcp_engine.specs.answers.Steps.{OutValue}
+use Rattle.rtcp_engine.specs.answers.Leaving.{Life, present}
+use Rattle.rtcp_engine.specs.answers.Lives.{lived, others_moved_by, out_by}
+use Rattle.rtcp_engine.specs.answers.Changes.{Session, bye_of_change, change_by, changed_by}
 
 -- A session so far.
 pub record History : Type 0 where

@@ -5,12 +5,12 @@ use Rattle.std.specs.List.{list_any}
 use Rattle.rtcp_wire.specs.Facts.{subject, is_gone, facts_of}
 use Rattle.rtcp_members.specs.Stays.{last_naming}
 use Rattle.rtcp_members.specs.Entries.{is_member, is_such}
-use Rattle.rtcp_engine.specs.Setups.{Setup}
-use Rattle.rtcp_engine.specs.Acts.{Act, Datagram, arrived, rtcp, rtp, ticked, forgotten}
-use Rattle.rtcp_engine.specs.Outcomes.{Outcome, check_interval}
-use Rattle.rtcp_engine.specs.Leaving.{present}
-use Rattle.rtcp_engine.specs.Lives.{entry_in_life}
-use Rattle.rtcp_engine.specs.Histories.{History, life_at, setup_at}
+use Rattle.rtcp_engine.specs.answers.Setups.{Setup}
+use Rattle.rtcp_engine.specs.answers.Acts.{Act, Datagram, arrived, rtcp, rtp, ticked, forgotten}
+use Rattle.rtcp_engine.specs.answers.Outcomes.{Outcome, check_interval}
+use Rattle.rtcp_engine.specs.answers.Leaving.{present}
+use Rattle.rtcp_engine.specs.answers.Lives.{entry_in_life}
+use Rattle.rtcp_engine.specs.answers.Histories.{History, life_at, setup_at}
 
 -- A source is a member by what a history has come to, of a participant that takes part.
 abbrev pub is_member_at : (ssrc : ℕ) → History → Bool

@@ -5,11 +5,11 @@ use Rattle.std.specs.Option.{option_or}
 use Rattle.rtcp_timer.specs.Averages.{IsBetween}
 use Rattle.rtcp_timer.specs.Departures.{last_departure}
 use Rattle.rtcp_timer.specs.Schedules.{Happening, Timing}
-use Rattle.rtcp_engine.specs.Setups.{is_within}
-use Rattle.rtcp_engine.specs.Acts.{Act, left}
-use Rattle.rtcp_engine.specs.Identities.{most_changes}
-use Rattle.rtcp_engine.specs.Histories.{History}
-use Rattle.rtcp_engine.specs.Sent.{Sent, is_report, reports_in, sent_at}
+use Rattle.rtcp_engine.specs.answers.Setups.{is_within}
+use Rattle.rtcp_engine.specs.answers.Acts.{Act, left}
+use Rattle.rtcp_engine.specs.answers.Identities.{most_changes}
+use Rattle.rtcp_engine.specs.answers.Histories.{History}
+use Rattle.rtcp_engine.specs.bounds.Sent.{Sent, is_report, reports_in, sent_at}
 
 -- From one moment to another at least half an interval passes, over 1.21828: the least that a draw can give
 -- (RFC 3550, 6.3.1).

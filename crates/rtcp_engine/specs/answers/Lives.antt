@@ -9,15 +9,15 @@ use Rattle.rtcp_members.specs.Roles.{moved_within}
 use Rattle.rtcp_members.specs.Listings.{StateValue, ListsAbove, IsWalk}
 use Rattle.rtcp_engine.specs.declared.step.Standing.{Standing}
 use Rattle.rtcp_engine.specs.declared.step.OutKind.TheVariants.{Report, Bye}
-use Rattle.rtcp_engine.specs.Setups.{Setup, SettingsValue}
-use Rattle.rtcp_engine.specs.Acts.{Act, rtcp, arrived, ticked, left}
-use Rattle.rtcp_engine.specs.OwnStreams.{has_sent}
-use Rattle.rtcp_engine.specs.Reporting.{bye_octets}
-use Rattle.rtcp_engine.specs.Outcomes.{Outcome, member_count, sender_count, timing_of, with_pace}
-use Rattle.rtcp_engine.specs.Arrivals.{after, with_change}
-use Rattle.rtcp_engine.specs.Steps.{OutValue, StepValue}
-use Rattle.rtcp_engine.specs.Ticks.{checked, report_due}
-use Rattle.rtcp_engine.specs.Leaving.{Backoff, Life, present, backing_off, finished, bye_at_once, after_byes, after_own_bye, counted_anew, after_waiting_tick, is_bye_due, left_at, leaving_count, leaving_timing}
+use Rattle.rtcp_engine.specs.answers.Setups.{Setup, SettingsValue}
+use Rattle.rtcp_engine.specs.answers.Acts.{Act, rtcp, arrived, ticked, left}
+use Rattle.rtcp_engine.specs.answers.OwnStreams.{has_sent}
+use Rattle.rtcp_engine.specs.answers.Reporting.{bye_octets}
+use Rattle.rtcp_engine.specs.answers.Outcomes.{Outcome, member_count, sender_count, timing_of, with_pace}
+use Rattle.rtcp_engine.specs.answers.Arrivals.{after, with_change}
+use Rattle.rtcp_engine.specs.answers.Steps.{OutValue, StepValue}
+use Rattle.rtcp_engine.specs.answers.Ticks.{checked, report_due}
+use Rattle.rtcp_engine.specs.answers.Leaving.{Backoff, Life, present, backing_off, finished, bye_at_once, after_byes, after_own_bye, counted_anew, after_waiting_tick, is_bye_due, left_at, leaving_count, leaving_timing}
 
 -- ---- Acts
 

@@ -4,14 +4,14 @@ use Rattle.rtcp_engine.specs.declared.refusal.Refusal.{Refusal}
 use Rattle.rtcp_engine.specs.declared.step.Standing.{Standing}
 use Rattle.rtcp_engine.specs.declared.step.WrittenStep.{WrittenStep}
 use Rattle.rtcp_engine.specs.declared.step.Step.{Step}
-use Rattle.rtcp_engine.specs.Acts.{Act, EventValue, IsActOfEvent}
-use Rattle.rtcp_engine.specs.Answers.{answer_of, followed_by}
-use Rattle.rtcp_engine.specs.Histories.{History, life_at, setup_at}
-use Rattle.rtcp_engine.specs.Lives.{standing_in_life}
-use Rattle.rtcp_engine.specs.Runs.{IsAnsweredInTime}
-use Rattle.rtcp_engine.specs.States.{KeepsCapacity, ParticipantValue, StandsAt}
-use Rattle.rtcp_engine.specs.Steps.{AnswerValue}
-use Rattle.rtcp_engine.specs.Views.{LeavesRest, answer_value, out_written, reply_value}
+use Rattle.rtcp_engine.specs.answers.Acts.{Act, EventValue, IsActOfEvent}
+use Rattle.rtcp_engine.specs.answers.Answers.{answer_of, followed_by}
+use Rattle.rtcp_engine.specs.answers.Histories.{History, life_at, setup_at}
+use Rattle.rtcp_engine.specs.answers.Lives.{standing_in_life}
+use Rattle.rtcp_engine.specs.bounds.Runs.{IsAnsweredInTime}
+use Rattle.rtcp_engine.specs.state.States.{KeepsCapacity, ParticipantValue, StandsAt}
+use Rattle.rtcp_engine.specs.answers.Steps.{AnswerValue}
+use Rattle.rtcp_engine.specs.state.Views.{LeavesRest, answer_value, out_written, reply_value}
 
 -- ---- An act
 

@@ -8,9 +8,9 @@ use Rattle.rtcp_members.specs.News.{pending_rows_at}
 use Rattle.rtcp_report.specs.Reports.{Reporter, packets_with, bye_of}
 use Rattle.rtcp_report.specs.Sizes.{fitting}
 use Rattle.rtcp_report.specs.Views.{items_of}
-use Rattle.rtcp_engine.specs.Setups.{Setup}
-use Rattle.rtcp_engine.specs.OwnStreams.{OwnValue, own_of, sent_of}
-use Rattle.rtcp_engine.specs.Outcomes.{Outcome}
+use Rattle.rtcp_engine.specs.answers.Setups.{Setup}
+use Rattle.rtcp_engine.specs.answers.OwnStreams.{OwnValue, own_of, sent_of}
+use Rattle.rtcp_engine.specs.answers.Outcomes.{Outcome}
 
 -- ---- Items
 

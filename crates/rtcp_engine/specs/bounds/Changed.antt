@@ -1,11 +1,11 @@
 -- What a change of identifier leaves as it was.
 use Rattle.std.specs.Prelude.{ℕ, ◌≡◌, Option, Some, None}
 use Rattle.rtcp_timer.specs.Schedules.{Timing}
-use Rattle.rtcp_engine.specs.Setups.{settings_of}
-use Rattle.rtcp_engine.specs.Outcomes.{timing_of}
-use Rattle.rtcp_engine.specs.Leaving.{Life, present, backing_off, finished, leaving_timing}
-use Rattle.rtcp_engine.specs.Lives.{entries_in_life, entry_in_life, members_in_life, senders_in_life}
-use Rattle.rtcp_engine.specs.Changes.{Session, is_in_table}
+use Rattle.rtcp_engine.specs.answers.Setups.{settings_of}
+use Rattle.rtcp_engine.specs.answers.Outcomes.{timing_of}
+use Rattle.rtcp_engine.specs.answers.Leaving.{Life, present, backing_off, finished, leaving_timing}
+use Rattle.rtcp_engine.specs.answers.Lives.{entries_in_life, entry_in_life, members_in_life, senders_in_life}
+use Rattle.rtcp_engine.specs.answers.Changes.{Session, is_in_table}
 
 -- the last and the next transmission (tp, tn), and the members then known, until the participant is gone
 abbrev pub timing_in_life : Life → Option Timing

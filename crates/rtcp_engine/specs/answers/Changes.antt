@@ -5,12 +5,12 @@ use Rattle.std.specs.List.{list_any}
 use Rattle.rtcp_wire.specs.Facts.{subject, facts_of}
 use Rattle.rtcp_members.specs.Entries.{entry_at}
 use Rattle.rtcp_engine.specs.declared.changes.IdentifierChange.{IdentifierChange}
-use Rattle.rtcp_engine.specs.Setups.{Setup}
-use Rattle.rtcp_engine.specs.Acts.{Datagram, rtcp, rtp, Act, arrived}
-use Rattle.rtcp_engine.specs.Identities.{first_free, is_among, most_changes, with_ssrc}
-use Rattle.rtcp_engine.specs.Steps.{OutValue}
-use Rattle.rtcp_engine.specs.Leaving.{Life, present, backing_off, finished}
-use Rattle.rtcp_engine.specs.Lives.{own_bye, with_new_ssrc}
+use Rattle.rtcp_engine.specs.answers.Setups.{Setup}
+use Rattle.rtcp_engine.specs.answers.Acts.{Datagram, rtcp, rtp, Act, arrived}
+use Rattle.rtcp_engine.specs.answers.Identities.{first_free, is_among, most_changes, with_ssrc}
+use Rattle.rtcp_engine.specs.answers.Steps.{OutValue}
+use Rattle.rtcp_engine.specs.answers.Leaving.{Life, present, backing_off, finished}
+use Rattle.rtcp_engine.specs.answers.Lives.{own_bye, with_new_ssrc}
 
 -- What a session has come to.
 pub record Session : Type 0 where

@@ -1,11 +1,11 @@
 -- What a participant answers to an act, after the acts that it took before.
 use Rattle.std.specs.Prelude.{List, [], ◌∷◌, Some, None, option_map}
-use Rattle.rtcp_engine.specs.Acts.{Act}
-use Rattle.rtcp_engine.specs.Changes.{change_by}
-use Rattle.rtcp_engine.specs.Histories.{History, brought_by, others_changed_by, session_at, with_act}
-use Rattle.rtcp_engine.specs.Lives.{step_into}
-use Rattle.rtcp_engine.specs.Refusals.{refusal_after}
-use Rattle.rtcp_engine.specs.Steps.{StepValue, AnswerValue, answer_unless}
+use Rattle.rtcp_engine.specs.answers.Acts.{Act}
+use Rattle.rtcp_engine.specs.answers.Changes.{change_by}
+use Rattle.rtcp_engine.specs.answers.Histories.{History, brought_by, others_changed_by, session_at, with_act}
+use Rattle.rtcp_engine.specs.answers.Lives.{step_into}
+use Rattle.rtcp_engine.specs.answers.Refusals.{refusal_after}
+use Rattle.rtcp_engine.specs.answers.Steps.{StepValue, AnswerValue, answer_unless}
 
 -- what is answered to an act that is taken
 abbrev pub step_by : History → Act → StepValue

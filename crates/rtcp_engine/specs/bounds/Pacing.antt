@@ -1,12 +1,12 @@
 -- A change of settings, and what a session has come to some time later.
 use Rattle.std.specs.Prelude.{ℕ, ◌≡◌, ◌≤◌, ◌<◌, max, List, [], ◌∷◌, if◌then◌else◌, Some, None}
-use Rattle.rtcp_engine.specs.Setups.{Setup, SettingsValue, keeps_bandwidths}
-use Rattle.rtcp_engine.specs.Refused.{settings_error}
-use Rattle.rtcp_engine.specs.Acts.{Act, configured}
-use Rattle.rtcp_engine.specs.Outcomes.{Outcome, end_at, newest_pace, pace_at}
-use Rattle.rtcp_engine.specs.Histories.{History, life_at, session_for, session_of, setup_at}
-use Rattle.rtcp_engine.specs.Leaving.{Life, present, backing_off, finished}
-use Rattle.rtcp_engine.specs.Taken.{IsHistory}
+use Rattle.rtcp_engine.specs.answers.Setups.{Setup, SettingsValue, keeps_bandwidths}
+use Rattle.rtcp_engine.specs.answers.Refused.{settings_error}
+use Rattle.rtcp_engine.specs.answers.Acts.{Act, configured}
+use Rattle.rtcp_engine.specs.answers.Outcomes.{Outcome, end_at, newest_pace, pace_at}
+use Rattle.rtcp_engine.specs.answers.Histories.{History, life_at, session_for, session_of, setup_at}
+use Rattle.rtcp_engine.specs.answers.Leaving.{Life, present, backing_off, finished}
+use Rattle.rtcp_engine.specs.state.Taken.{IsHistory}
 
 -- Settings are taken at a moment, of a participant that takes part. Later, at the moment `t`, they are the newest
 -- still, and the former pace still counts.

@@ -1,7 +1,7 @@
 -- The identifiers of a participant (RFC 3550, 8.2).
 use Rattle.std.specs.Prelude.{ℕ, suc, zero, ◌≡◌, ◌<◌, ◌+◌, ◌%◌, ◌^◌, ◌==◌, ◌&&◌, not, nat_lt, Bool, true, false, List, [], ◌∷◌, length, if◌then◌else◌}
 use Rattle.std.specs.List.{list_any}
-use Rattle.rtcp_engine.specs.Setups.{Setup}
+use Rattle.rtcp_engine.specs.answers.Setups.{Setup}
 
 abbrev pub with_ssrc : (ssrc : ℕ) → Setup → Setup
 with_ssrc ssrc setup = record setup { ssrc = ssrc }

@@ -8,20 +8,20 @@ use Rattle.rtcp_engine.specs.declared.changes.IdentifierChange.{IdentifierChange
 use Rattle.rtcp_engine.specs.declared.pace.Pace.{Pace}
 use Rattle.rtcp_engine.specs.declared.refusal.Refusal.{Refusal}
 use Rattle.rtcp_engine.specs.declared.refusal.Refusal.TheVariants.{Left}
-use Rattle.rtcp_engine.specs.Setups.{Setup, SettingsValue, IsUsable, with_settings}
-use Rattle.rtcp_engine.specs.Identities.{with_ssrc}
-use Rattle.rtcp_engine.specs.OwnStreams.{OwnValue, own_of}
-use Rattle.rtcp_engine.specs.OwnValues.{own_anew}
-use Rattle.rtcp_engine.specs.Outcomes.{Outcome, average_size, newest_pace, timing_of, with_pace, IsPace}
-use Rattle.rtcp_engine.specs.Reporting.{bye_octets, last_reported_in}
-use Rattle.rtcp_engine.specs.Changes.{Session}
-use Rattle.rtcp_engine.specs.Histories.{History, last_moment, session_at, setup_after}
-use Rattle.rtcp_engine.specs.Refusals.{call_refusal}
-use Rattle.rtcp_engine.specs.Leaving.{Backoff, Life, present, backing_off, finished, leaving_count, leaving_timing, leaving_average}
-use Rattle.rtcp_engine.specs.Lives.{has_others, lived, moved_since, others_moved_by, out_by}
-use Rattle.rtcp_engine.specs.Steps.{OutValue}
-use Rattle.rtcp_engine.specs.Acts.{Act}
-use Rattle.rtcp_engine.specs.Taken.{IsHistory}
+use Rattle.rtcp_engine.specs.answers.Setups.{Setup, SettingsValue, IsUsable, with_settings}
+use Rattle.rtcp_engine.specs.answers.Identities.{with_ssrc}
+use Rattle.rtcp_engine.specs.answers.OwnStreams.{OwnValue, own_of}
+use Rattle.rtcp_engine.specs.state.OwnValues.{own_anew}
+use Rattle.rtcp_engine.specs.answers.Outcomes.{Outcome, average_size, newest_pace, timing_of, with_pace, IsPace}
+use Rattle.rtcp_engine.specs.answers.Reporting.{bye_octets, last_reported_in}
+use Rattle.rtcp_engine.specs.answers.Changes.{Session}
+use Rattle.rtcp_engine.specs.answers.Histories.{History, last_moment, session_at, setup_after}
+use Rattle.rtcp_engine.specs.answers.Refusals.{call_refusal}
+use Rattle.rtcp_engine.specs.answers.Leaving.{Backoff, Life, present, backing_off, finished, leaving_count, leaving_timing, leaving_average}
+use Rattle.rtcp_engine.specs.answers.Lives.{has_others, lived, moved_since, others_moved_by, out_by}
+use Rattle.rtcp_engine.specs.answers.Steps.{OutValue}
+use Rattle.rtcp_engine.specs.answers.Acts.{Act}
+use Rattle.rtcp_engine.specs.state.Taken.{IsHistory}
 
 pub record State : Type 0 where
   -- under the present identifier

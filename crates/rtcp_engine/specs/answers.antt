@@ -1,0 +1,17 @@
+pub mod Setups
+pub mod Refused
+pub mod Acts
+pub mod Identities
+pub mod OwnStreams
+pub mod Outcomes
+pub mod Reporting
+pub mod Ticks
+pub mod Arrivals
+pub mod Steps
+pub mod Leaving
+pub mod Lives
+pub mod Changes
+pub mod Histories
+pub mod Refusals
+pub mod Untimely
+pub mod Answers

@@ -1,0 +1,7 @@
+pub mod Views
+pub mod Taken
+pub mod OwnValues
+pub mod States
+pub mod Sayings
+pub mod Promises
+pub mod Codes
