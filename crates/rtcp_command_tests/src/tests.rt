@@ -1,6 +1,6 @@
 //! Command lines, and runs over text from the order to the status.
 
-use rtcp_command::order::{order, refuse};
+use rtcp_command::arguments::{order, refuse};
 use rtcp_command::{Order, TextOrder};
 use std::alloc::Global;
 use std::process::Abort;

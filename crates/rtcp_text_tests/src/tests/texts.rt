@@ -1,7 +1,7 @@
 //! Texts of packets, faults and answers.
 
 use super::same;
-use rtcp_engine::{ConfigError, Event, OutKind, Refusal, Standing, Told, Written};
+use rtcp_engine::{ConfigError, Event, OutKind, Refusal, Standing, Written, WrittenStep};
 use rtcp_text::text::digits::{push_decimal, push_octets, push_signed};
 use rtcp_text::text::{
     push_accepted, push_event, push_fault, push_packet, push_refusal, push_reply, push_start,
@@ -250,7 +250,7 @@ fn push_taken(
 ) -> Result<(), Fail> {
     let mut octets = [0; MAX_COMPOUND];
     octets[..8].copy_from_slice(report.unwrap_or(&[0; 8]));
-    let told = Told {
+    let told = WrittenStep {
         others_changed: changed.is_none(),
         changed,
         out: report.is_some().then_some(Written {
