@@ -4,7 +4,7 @@ use Rattle.std.proofs.lemmas.Bool.{and_parts, false≢true}
 use Rattle.rtcp_engine.specs.answers.Acts.{Act, EventValue, IsActOfEvent, arrived, configured, forgotten, left, rtp_sent, ticked, rtcp_arrived, rtp_arrived, packet_sent, time_passed, leave_asked, settings_given, forget_asked}
 use Rattle.rtcp_engine.specs.answers.Answers.{step_by}
 use Rattle.rtcp_engine.specs.answers.Histories.{History, life_at, session_at, session_for, setup_after, with_act}
-use Rattle.rtcp_engine.specs.answers.Leaving.{Life, present, backing_off, finished, backoff_from, few_members, is_unheard}
+use Rattle.rtcp_engine.specs.answers.Leaving.{Life, present, backing_off, finished, backoff_from, few_members, sent_nothing}
 use Rattle.rtcp_engine.specs.answers.Lives.{lived, others_moved_by}
 use Rattle.rtcp_engine.specs.answers.Outcomes.{Outcome, member_count}
 use Rattle.rtcp_engine.specs.answers.Setups.{Setup}
@@ -58,9 +58,9 @@ listed_by_participants history event act is anew =
 -- ---- After a leave
 
 nobody_if :
-    (setup other : Setup) (unheard few : Bool) (outcome : Outcome) (waiting : Life) (ssrc : ℕ)
+    (setup other : Setup) (nothing_sent few : Bool) (outcome : Outcome) (waiting : Life) (ssrc : ℕ)
     → state_in_life other waiting ssrc ≡ None
-    → state_in_life other (if unheard then finished outcome else (if few then finished outcome else waiting)) ssrc
+    → state_in_life other (if nothing_sent then finished outcome else (if few then finished outcome else waiting)) ssrc
     ≡ None
 nobody_if setup other true few outcome waiting ssrc none = refl
 nobody_if setup other false true outcome waiting ssrc none = refl
@@ -69,7 +69,7 @@ nobody_if setup other false false outcome waiting ssrc none = none
 nobody_after :
     (setup other : Setup) (moment word ssrc : ℕ) (life : Life)
     → state_in_life other (lived setup (left moment word) life) ssrc ≡ None
-nobody_after setup other moment word ssrc (present outcome) = nobody_if setup other (is_unheard outcome)
+nobody_after setup other moment word ssrc (present outcome) = nobody_if setup other (sent_nothing outcome)
     (nat_le (member_count setup outcome) few_members) outcome
     (backing_off outcome (backoff_from setup moment word outcome)) ssrc refl
 nobody_after setup other moment word ssrc (backing_off outcome backoff) = refl
