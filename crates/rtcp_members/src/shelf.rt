@@ -127,11 +127,17 @@ impl<C: Blocks<Cell>, S: Blocks<Slot>> Shelf<C, S> {
     pub(crate) fn hinted(&self, ssrc: u32) -> Option<usize>
         ensures { IfSome result (IsRankOf ssrc self.now.items) }
     {
-        let rank = hinted(self.cells.as_slice(), ssrc);
+        let rank = self.hint(ssrc);
         if rank < self.used && self.ssrc_at(rank) == ssrc {
             return Some(rank);
         }
         None
+    }
+
+    /// The rank that the hint at a source says.
+    #[inline(always)]
+    pub(crate) fn hint(&self, ssrc: u32) -> usize {
+        hinted(self.cells.as_slice(), ssrc)
     }
 
     /// Makes the hint at a source say this rank.

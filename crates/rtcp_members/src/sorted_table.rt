@@ -209,6 +209,19 @@ impl<C: Blocks<Cell>, S: Blocks<Slot>> MemberTable for Sorted<C, S> {
         self.entries.report(at, t)
     }
 
+    // By the hint at the source of `after`, which most likely says where that stands.
+    #[inline]
+    fn source_above(&self, after: Option<u32>) -> Option<SourceState> {
+        let entries = &self.entries;
+        let rank = match after {
+            Some(ssrc) => entries.hint(ssrc),
+            None => 0,
+        };
+        state_at(entries, first_above(entries, rank, after))
+    }
+
+    // Inlined: where a walk goes on, neither a rank nor a state is passed by memory.
+    #[inline(always)]
     fn source_from(&self, after: Option<u32>, rank: &mut usize) -> Option<SourceState> {
         let entries = &self.entries;
         *rank = first_above(entries, *rank, after);
@@ -387,6 +400,7 @@ fn first_above<C: Blocks<Cell>, S: Blocks<Slot>>(
 }
 
 /// What is told of the source whose entry stands at `at`, if one does.
+#[inline(always)]
 fn state_at<C: Blocks<Cell>, S: Blocks<Slot>>(
     entries: &Shelf<C, S>,
     at: usize,
