@@ -10,7 +10,9 @@ pub fn scale_down(d: u64, m: u32, pm: u32) -> u64
     requires some { 1 ≤ pm }
     ensures { result ≡ scaled_down d m pm }
 {
-    ((d as u128) * (m as u128) / (pm as u128)) as u64
+    // By quotient and rest, so that no product of 128 bits is divided.
+    let (m, pm) = (m as u64, pm as u64);
+    d / pm * m + d % pm * m / pm
 }
 
 /// The drawn interval, in microseconds and rounded up: the deterministic interval `td`, below 2^49, times
@@ -20,8 +22,11 @@ pub fn draw(td: u64, w: u32) -> u64
     requires { td < 2 ^ 49 }
     ensures { result ≡ drawn_interval td w }
 {
-    let stretched = (td as u128) * ((1 << 31) + w as u128) * 100_000;
-    stretched.div_ceil((1 << 32) * 121_828) as u64
+    // Both sides of the fraction over 2^5, and then by quotient and rest, so that no product of 128 bits is divided.
+    let stretched = ((td * 3_125) as u128) * ((1 << 31) + w as u128);
+    let whole = (stretched >> 30) as u64;
+    let rest = (stretched % (1 << 30)) as u64;
+    2 * (whole / 30_457) + ((whole % 30_457 << 30) + rest).div_ceil(30_457 << 29)
 }
 
 /// The longest draw, in microseconds and rounded up: `3/2 · td / 1.21828`. No draw from the deterministic
@@ -30,5 +35,6 @@ pub fn longest(td: u64) -> u64
     requires { td < 2 ^ 49 }
     ensures { result ≡ longest_draw td }
 {
-    (300_000 * td as u128).div_ceil(2 * 121_828) as u64
+    // Both sides of the fraction over 2^3, and then by quotient and rest: the product may have more than 64 bits.
+    td / 30_457 * 37_500 + (td % 30_457 * 37_500).div_ceil(30_457)
 }

@@ -12,8 +12,10 @@ const SECOND: u64 = 1_000_000;
 pub fn ntp_of(base: u64, t: u64) -> u64
     ensures { result ≡ ntp_moment base t }
 {
-    let fraction = (t as u128) * (1 << 32) / SECOND as u128;
-    ((base as u128 + fraction) % (1 << 64)) as u64
+    // Seconds and the rest apart, since a product of 128 bits is dear to divide.
+    let seconds = (t / SECOND).wrapping_mul(1 << 32);
+    let fraction = (t % SECOND << 32) / SECOND;
+    base.wrapping_add(seconds).wrapping_add(fraction)
 }
 
 /// The units by which a media clock of `rate` units a second advances in `t` microseconds, modulo 2^32 as in
@@ -21,7 +23,6 @@ pub fn ntp_of(base: u64, t: u64) -> u64
 pub fn rtp_units(t: u64, rate: u32) -> u32
     ensures { result ≡ media_units t rate }
 {
-    // Seconds and the rest apart, since a product of 128 bits is dear to divide.
     let rate = rate as u64;
     let of_rest = t % SECOND * rate / SECOND;
     ((t / SECOND).wrapping_mul(rate).wrapping_add(of_rest) % (1 << 32)) as u32
@@ -32,12 +33,10 @@ pub fn rtp_units(t: u64, rate: u32) -> u32
 pub fn short_delay(us: u64) -> u32
     ensures { result ≡ short_seconds us }
 {
-    let delay = (us as u128) * 65536 / SECOND as u128;
-    if delay < 1 << 32 {
-        delay as u32
-    } else {
-        u32::MAX
+    if us >= SECOND << 16 {
+        return u32::MAX;
     }
+    ((us << 16) / SECOND) as u32
 }
 
 /// The round-trip time by a report block, in 1/65,536 of a second and modulo 2^32: `a` is the middle 32 bits
