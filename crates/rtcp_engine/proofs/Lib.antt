@@ -19,6 +19,7 @@ mod Changing
 mod NewIdentifiers
 mod Counting
 mod StepLemmas
+mod Quiet
 mod Following
 mod Keeping
 mod LifeLemmas

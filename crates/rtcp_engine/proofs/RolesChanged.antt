@@ -100,7 +100,7 @@ moves_media {s} {w} is t head moved moved_is =
 
 -- ---- Ticks
 
-check_since : (s : State) (outcome : Outcome) (horizons : Horizons) → Agrees s outcome
+pub check_since : (s : State) (outcome : Outcome) (horizons : Horizons) → Agrees s outcome
     → check_moves horizons s.table ≡ moved_within s.setup.capacity
     (length (check_made horizons ∷ outcome.trace) - length outcome.trace) (check_made horizons ∷ outcome.trace)
 check_since s outcome horizons a =

@@ -176,7 +176,7 @@ due s setup t first_word second_word outcome come passed h a = absurd cc
 
 -- ---- Checks
 
-checks_agree : (s : State) (outcome : Outcome) (horizons : Horizons) (own : OwnValue) →
+pub checks_agree : (s : State) (outcome : Outcome) (horizons : Horizons) (own : OwnValue) →
     Adds s.own own (check_passed horizons.idle) → Agrees s outcome
     → Agrees (record s { table = after_check horizons s.table; own = own }) (with_check horizons outcome)
 checks_agree s outcome horizons own adds a =

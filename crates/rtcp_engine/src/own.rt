@@ -1,6 +1,6 @@
 //! The participant's own RTP stream (RFC 3550, 6.3.8, 6.4.1).
 
-ghost use Rattle.std.specs.Prelude.{◌≡◌, [], is_some, option_map};
+ghost use Rattle.std.specs.Prelude.{◌≡◌, ◌≤◌, ℕ, [], IsTrue, is_some, option_map};
 ghost use Rattle.rtcp_report.specs.Views.{sent_value};
 ghost use Rattle.rtcp_engine.specs.answers.OwnStreams.{Adds, packet_sent, check_passed, report_sent, own_of, timestamp_at, sent_of};
 ghost use Rattle.rtcp_engine.specs.state.OwnValues.{own_anew, packet_value};
@@ -78,6 +78,13 @@ impl OwnStream {
         if self.sending.is_some_and(|moment| moment < idle) {
             self.sending = None;
         }
+    }
+
+    /// Whether a check with this horizon changes nothing, nor any with an earlier one.
+    pub(crate) fn lasts_through(&self, idle: u64) -> bool
+        ensures { IsTrue result → (earlier : ℕ) → earlier ≤ idle → Adds self.now self.now (check_passed earlier) }
+    {
+        !self.sending.is_some_and(|moment| moment < idle)
     }
 
     /// Records that a report was sent.

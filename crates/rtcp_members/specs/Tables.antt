@@ -11,7 +11,7 @@ use Rattle.rtcp_source.specs.Steps.{no_source, taken_by, after_packet, after_rep
 use Rattle.rtcp_members.specs.declared.table.Place.{Place}
 use Rattle.rtcp_members.specs.declared.table.Place.TheVariants.{Kept, Added, NoRoom, Ignored, Left}
 use Rattle.rtcp_wire.specs.Facts.{subject, is_gone}
-use Rattle.rtcp_members.specs.Traces.{Horizons, TraceStep, names}
+use Rattle.rtcp_members.specs.Traces.{Horizons, TraceStep, horizons_at, names}
 use Rattle.rtcp_members.specs.Stays.{is_removed}
 use Rattle.rtcp_members.specs.Entries.{EntryValue, still_sending, entry_at, is_member, is_sender, is_such}
 
@@ -140,6 +140,11 @@ updated step entries = map.from_entries (filter_map (updated_row step) (map.entr
 
 abbrev pub after_check : Horizons → TableValue → TableValue
 after_check horizons table = record table { entries = updated (entry_after_check horizons) table.entries }
+
+-- A check with these horizons leaves the table as it is, and so does one with earlier ones.
+abbrev pub LastsThrough : Horizons → TableValue → Type 0
+LastsThrough horizons table = (silent idle gone : ℕ) → silent ≤ horizons.silent → idle ≤ horizons.idle →
+    gone ≤ horizons.gone → after_check (horizons_at silent idle gone) table ≡ table
 
 -- ---- Sources that are gone
 

@@ -166,6 +166,11 @@ impl<C: Blocks<Cell>, S: Blocks<Slot>> MemberTable for Sorted<C, S> {
         self.sweep(silent_before, data_before, gone_before)
     }
 
+    #[inline(always)]
+    fn lasts_through(&self, silent_before: u64, data_before: u64, gone_before: u64) -> bool {
+        self.bounds.reach(silent_before, data_before, gone_before)
+    }
+
     fn forget(&mut self, ssrc: u32) -> bool {
         match self.entries.find(ssrc) {
             Ok(at) => forget_at(&mut self.entries, at, ssrc),

@@ -5,7 +5,7 @@ ghost use Rattle.std.specs.FinMap as map;
 ghost use Rattle.rtcp_wire.specs.Facts.{subject, is_media};
 ghost use Rattle.rtcp_members.specs.Traces.{horizons_at};
 ghost use Rattle.rtcp_members.specs.Entries.{is_such};
-ghost use Rattle.rtcp_members.specs.Tables.{TableValue, IsFew, no_members, placed, counted, after_fact, after_check, after_forgetting, is_unmarked, dropped_entries, dropped_senders, members_in, senders_in};
+ghost use Rattle.rtcp_members.specs.Tables.{TableValue, IsFew, LastsThrough, no_members, placed, counted, after_fact, after_check, after_forgetting, is_unmarked, dropped_entries, dropped_senders, members_in, senders_in};
 ghost use Rattle.rtcp_wire.specs.Views.{block_value};
 ghost use Rattle.rtcp_wire.specs.Writing.{IsWritableBlock};
 ghost use Rattle.rtcp_members.specs.Pending.{pending, first_ssrc, is_due_at, block_at, after_block};
@@ -105,6 +105,16 @@ pub trait MemberTable {
             ≡ dropped_senders (horizons_at silent_before data_before gone_before) (content self.old) }
         ensures content { content self.new
             ≡ after_check (horizons_at silent_before data_before gone_before) (content self.old) };
+
+    /// Whether the table knows, without a look at its entries, that a check with these horizons changes nothing, nor
+    /// any with earlier ones. `false` says nothing.
+    fn lasts_through(&self, silent_before: u64, data_before: u64, gone_before: u64) -> bool
+        ensures { IsTrue result →
+            LastsThrough (horizons_at silent_before data_before gone_before) (content self.now) }
+    {
+        let _ = (silent_before, data_before, gone_before);
+        false
+    }
 
     /// Drops a source that the host knows to be gone, as a check drops one that is silent. One that sent a BYE is
     /// held as before, so that late packets do not bring it back. Returns whether the table had an entry of the source

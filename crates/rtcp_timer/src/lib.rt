@@ -21,5 +21,5 @@ mod load;
 mod schedule;
 
 pub use average::Average;
-pub use load::{Load, interval};
+pub use load::{Load, interval, minimum};
 pub use schedule::{Schedule, Verdict};

@@ -1,7 +1,7 @@
 //! The deterministic interval (RFC 3550, 6.3.1).
 
 ghost use Rattle.std.specs.Prelude.{◌≡◌, ◌≤◌, ◌<◌, ◌*◌, ◌^◌};
-ghost use Rattle.rtcp_timer.specs.Loads.{sharers_of, bandwidth_of, count_of, interval_at_share, interval_of};
+ghost use Rattle.rtcp_timer.specs.Loads.{sharers_of, bandwidth_of, count_of, interval_at_share, interval_of, minimum_of};
 
 use crate::average::PARTS;
 
@@ -47,12 +47,16 @@ pub fn interval(load: &Load) -> u64
     ensures exact { result ≡ interval_of load.now }
     ensures bounded { result < 2 ^ 49 }
 {
-    let minimum = if load.initial {
-        INITIAL_MINIMUM
-    } else {
-        MINIMUM
-    };
-    minimum.max(share_interval(load))
+    minimum(load.initial).max(share_interval(load))
+}
+
+/// The least interval, in microseconds: half as long as long as the participant has sent no report, `initial` (RFC
+/// 3550, 6.2).
+#[inline(always)]
+pub fn minimum(initial: bool) -> u64
+    ensures { result ≡ minimum_of initial }
+{
+    if initial { INITIAL_MINIMUM } else { MINIMUM }
 }
 
 /// The interval for the participant's part of the bandwidth, whatever the minimum.

@@ -1,8 +1,9 @@
 -- What a participant keeps of its history: a table and a few numbers, and its phase.
-use Rattle.std.specs.Prelude.{ℕ, ◌+◌, ◌-◌, ◌≡◌, ◌≤◌, ◌<◌, ◌^◌, Bool, List, [], length, if◌then◌else◌, Option, Some, None, IfSome}
+use Rattle.std.specs.Prelude.{ℕ, ◌+◌, ◌-◌, ◌*◌, ◌≡◌, ◌==◌, ◌≤◌, ◌<◌, ◌^◌, Bool, List, [], length, if◌then◌else◌, Option, Some, None, IfSome}
 use Rattle.std.specs.FinMap as map
-use Rattle.rtcp_members.specs.Tables.{TableValue, HasFew, StandsAt as IsTableAt}
+use Rattle.rtcp_members.specs.Tables.{TableValue, HasFew, StandsAt as IsTableAt, after_check}
 use Rattle.rtcp_timer.specs.Averages.{moved_average}
+use Rattle.rtcp_timer.specs.Loads.{minimum_of}
 use Rattle.rtcp_timer.specs.Schedules.{Timing}
 use Rattle.rtcp_engine.specs.declared.changes.IdentifierChange.{IdentifierChange}
 use Rattle.rtcp_engine.specs.declared.pace.Pace.{Pace}
@@ -10,7 +11,7 @@ use Rattle.rtcp_engine.specs.declared.refusal.Refusal.{Refusal}
 use Rattle.rtcp_engine.specs.declared.refusal.Refusal.TheVariants.{Left}
 use Rattle.rtcp_engine.specs.answers.Setups.{Setup, SettingsValue, IsUsable, with_settings}
 use Rattle.rtcp_engine.specs.answers.Identities.{with_ssrc}
-use Rattle.rtcp_engine.specs.answers.OwnStreams.{OwnValue, own_of}
+use Rattle.rtcp_engine.specs.answers.OwnStreams.{Adds, OwnValue, check_passed, own_of}
 use Rattle.rtcp_engine.specs.state.OwnValues.{own_anew}
 use Rattle.rtcp_engine.specs.answers.Outcomes.{Outcome, average_size, newest_pace, timing_of, with_pace, IsPace}
 use Rattle.rtcp_engine.specs.answers.Reporting.{bye_octets, last_reported_in}
@@ -20,6 +21,7 @@ use Rattle.rtcp_engine.specs.answers.Refusals.{call_refusal}
 use Rattle.rtcp_engine.specs.answers.Leaving.{Backoff, Life, present, backing_off, finished, leaving_count, leaving_timing, leaving_average}
 use Rattle.rtcp_engine.specs.answers.Lives.{has_others, lived, moved_since, others_moved_by, out_by}
 use Rattle.rtcp_engine.specs.answers.Steps.{OutValue}
+use Rattle.rtcp_engine.specs.answers.Ticks.{horizons_of}
 use Rattle.rtcp_engine.specs.answers.Acts.{Act}
 use Rattle.rtcp_engine.specs.state.Taken.{IsHistory}
 
@@ -107,6 +109,14 @@ MovesOthers old others_changed step =
 -- It says whether some other source is a member.
 abbrev pub HasOthers : State → (others : Bool) → Type 0
 HasOthers state others = (outcome : Outcome) → Agrees state outcome → others ≡ has_others state.setup outcome
+
+-- Whatever interval a check at the moment of the latest call goes by, if it is no less than the minimum, the check
+-- changes nothing.
+pub record IsQuiet (state : State) : Type 0 where
+  pub table : (interval : ℕ) → minimum_of (state.reports == 0) ≤ interval →
+      after_check (horizons_of state.latest interval) state.table ≡ state.table
+  pub own : (interval : ℕ) → minimum_of (state.reports == 0) ≤ interval →
+      Adds state.own state.own (check_passed (state.latest - 2 * interval))
 
 -- The numbers of one that backs off.
 pub record Waits (state : State) (outcome : Outcome) (backoff : Backoff) : Type 0 where

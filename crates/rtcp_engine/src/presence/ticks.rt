@@ -1,16 +1,17 @@
 //! What a participant does as time passes (RFC 3550, 6.3.4 to 6.3.6).
 
-ghost use Rattle.std.specs.Prelude.{◌≡◌, ◌≤◌, ◌<◌, ◌-◌, ◌^◌, ◌*◌, length, Option, Some, option_map};
+ghost use Rattle.std.specs.Prelude.{◌≡◌, ◌≤◌, ◌<◌, ◌-◌, ◌^◌, ◌*◌, length, Option, Some, IsTrue, option_map};
 ghost use Rattle.rtcp_wire.specs.Writing.{written_all};
+ghost use Rattle.rtcp_members.specs.Traces.{horizons_at};
 ghost use Rattle.rtcp_members.specs.Pending.{after_blocks, last_reported as last_of};
 ghost use Rattle.rtcp_report.specs.Sizes.{reported_rows, report_of};
 ghost use Rattle.rtcp_engine.specs.answers.Setups.{IsUsable};
 ghost use Rattle.rtcp_engine.specs.answers.Lives.{report_out};
 ghost use Rattle.rtcp_engine.specs.state.Views.{LeavesRest, out_in, reporter_of, setup_of};
-ghost use Rattle.rtcp_engine.specs.state.States.{Agrees, Does, MovesOthers};
+ghost use Rattle.rtcp_engine.specs.state.States.{Agrees, Does, IsQuiet, KeepsCapacity, MovesOthers};
 ghost use Rattle.rtcp_engine.specs.answers.Outcomes.{Outcome, check_interval, check_load, receiver_load};
 ghost use Rattle.rtcp_engine.specs.answers.Reporting.{report_octets};
-ghost use Rattle.rtcp_engine.specs.answers.Ticks.{with_recount, without_silent, checked, is_report_due, report_due, with_report, drawn_anew, reported, tried_at, after_check, after_tick};
+ghost use Rattle.rtcp_engine.specs.answers.Ticks.{horizons_of, with_recount, without_silent, checked, is_report_due, report_due, with_report, drawn_anew, reported, tried_at, after_check, after_tick};
 
 use super::Presence;
 use crate::config::Config;
@@ -22,11 +23,26 @@ use crate::table::check;
 use arrayvec::ArrayVec;
 use rtcp_members::MemberTable;
 use rtcp_report::{Sender, write_report};
-use rtcp_timer::{Load, Verdict, interval};
+use rtcp_timer::{Load, Verdict, interval, minimum};
 use rtcp_wire::MAX_COMPOUND;
 
 /// How long a source that left is held, in microseconds (RFC 3550, 6.3.7 has no number).
 const GOODBYE_TIME: u64 = 5_000_000;
+
+/// The horizons of a check at the moment `now`, by this interval: for sources, for their packets, and for those that
+/// left (RFC 3550, 6.3.5, 6.3.7).
+#[inline(always)]
+fn horizons(now: u64, interval: u64) -> (u64, u64, u64)
+    requires moment { now ≤ 2 ^ 50 }
+    requires interval { interval < 2 ^ 49 }
+    ensures { horizons_at result.0 result.1 result.2 ≡ horizons_of now interval }
+{
+    (
+        now.saturating_sub(5 * interval),
+        now.saturating_sub(2 * interval),
+        (now + 1).saturating_sub(GOODBYE_TIME),
+    )
+}
 
 impl<T: MemberTable> Presence<T> {
     /// Drops those who are silent for too long at the moment of the latest call, and writes a report if one is due,
@@ -65,16 +81,33 @@ impl<T: MemberTable> Presence<T> {
         ensures moved { MovesOthers self.old result (λ setup. without_silent setup self.old.latest) }
         ensures reports { self.new.reports ≡ self.old.reports }
     {
+        if self.is_quiet() {
+            return false;
+        }
+        self.drop_by_interval()
+    }
+
+    /// Whether no check at the moment of the latest call changes anything, by whichever interval it goes.
+    // The interval is at least the minimum, so that it need not be computed where the horizons by that reach nobody.
+    #[inline(always)]
+    fn is_quiet(&self) -> bool
+        ensures quiet { IsTrue result → IsQuiet self.now }
+        ensures within { KeepsCapacity self.now }
+    {
+        let least = minimum(self.reports == 0);
+        let (silent, idle, gone) = horizons(self.latest, least);
+        self.own.lasts_through(idle) && self.table.lasts_through(silent, idle, gone)
+    }
+
+    /// Drops them by the interval that checks go by.
+    fn drop_by_interval(&mut self) -> bool
+        ensures new { Does self.old self.new (λ setup. without_silent setup self.old.latest) }
+        ensures moved { MovesOthers self.old result (λ setup. without_silent setup self.old.latest) }
+        ensures reports { self.new.reports ≡ self.old.reports }
+    {
         let now = self.latest;
-        let td = self.check_interval();
-        let idle = now.saturating_sub(2 * td);
-        let moved = check(
-            &mut self.table,
-            now,
-            now.saturating_sub(5 * td),
-            idle,
-            (now + 1).saturating_sub(GOODBYE_TIME),
-        );
+        let (silent, idle, gone) = horizons(now, self.check_interval());
+        let moved = check(&mut self.table, now, silent, idle, gone);
         self.own.check(idle);
         moved
     }

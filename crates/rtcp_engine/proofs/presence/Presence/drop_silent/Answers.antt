@@ -1,44 +1,10 @@
-use Rattle.std.proofs.Common.{◌≡◌, ℕ, ◌∙◌, sym, subst}
-use Rattle.rtcp_members.specs.Traces.{horizons_at}
-use Rattle.rtcp_members.specs.Tables.{TableValue, after_check}
-use Rattle.rtcp_engine.specs.answers.OwnStreams.{Adds, check_passed}
-use Rattle.rtcp_engine.specs.state.States.{MovesOthers}
-use Rattle.rtcp_engine.specs.answers.Ticks.{horizons_of, without_silent}
-use Rattle.rtcp_engine.proofs.Soundness.{IsKept, check_kept, no_call, kept}
-use Rattle.rtcp_engine.proofs.StepLemmas.{at_latest, does_at, drops, inside_interval}
-use Rattle.rtcp_engine.proofs.RolesChanged.{moves_check}
-use Rattle.rtcp_members.specs.Roles.{check_moves}
+-- A check that surely changes nothing is not made.
+use Rattle.rtcp_engine.proofs.Quiet.{quiet_does, quiet_moves}
 use Rattle.rtcp_engine.proofs.presence.Presence.drop_silent.Goals as goal
 
-pub invariant_of-self : goal.invariant_of-self
-invariant_of-self g c =
-    let inside = c.self.inside in
-    let content = g.T.MemberTable.content in
-    let horizons = horizons_at c.saturating_sub.result c.saturating_sub-idle.result c.saturating_sub-2.result in
-    let is_kept = subst (λ (table : TableValue). IsKept (content inside.table) table inside.calls)
-    (sym c.check-moved.ensures.content) (check_kept c.self.invariant horizons) in
-    kept c.self.invariant (content c.check-moved.new.table) inside.schedule inside.average c.check.new.self
-    inside.cursor inside.reports inside.latest inside.calls is_kept (no_call c.self.invariant)
+pub returns-then-is_quiet-clause-new : goal.returns-then-is_quiet-clause-new
+returns-then-is_quiet-clause-new g c =
+    quiet_does c.args.self.now (c.is_quiet.ensures.quiet c.if-is_quiet.true) c.is_quiet.ensures.within
 
-pub returns-clause-new : goal.returns-clause-new
-returns-clause-new g c =
-    let inside = c.self.inside in
-    let table : g.T.MemberTable.content c.check-moved.new.table ≡ after_check
-    (horizons_of inside.latest c.check_interval-td.result) (g.T.MemberTable.content inside.table) =
-    c.check-moved.ensures.content ∙ (λ i. after_check
-    (horizons_at (c.saturating_sub.ensures i) (c.saturating_sub-idle.ensures i) (c.saturating_sub-2.ensures i))
-    (g.T.MemberTable.content inside.table)) in
-    does_at c.self.view_is (λ t setup. without_silent setup t)
-    (drops c.self.view_is (g.T.MemberTable.content c.check-moved.new.table) c.check.new.self inside.latest
-    c.check_interval-td.result (inside_interval c.self.view_is c.check_interval-td.ensures.exact)
-    table (subst (λ (idle : ℕ). Adds inside.own c.check.new.self (check_passed idle)) c.saturating_sub-idle.ensures
-    c.check.ensures) (invariant_of-self g c).room)
-
-pub returns-clause-moved : goal.returns-clause-moved
-returns-clause-moved g c =
-    at_latest c.self.view_is (λ t. MovesOthers c.args.self.now c.check-moved.result (λ setup. without_silent setup t))
-    (moves_check c.self.view_is c.self.inside.latest c.check_interval-td.result c.check-moved.result
-    (inside_interval c.self.view_is c.check_interval-td.ensures.exact)
-    (c.check-moved.ensures.moved ∙ (λ i. check_moves
-    (horizons_at (c.saturating_sub.ensures i) (c.saturating_sub-idle.ensures i) (c.saturating_sub-2.ensures i))
-    (g.T.MemberTable.content c.self.inside.table))))
+pub returns-then-is_quiet-clause-moved : goal.returns-then-is_quiet-clause-moved
+returns-then-is_quiet-clause-moved g c = quiet_moves c.args.self.now (c.is_quiet.ensures.quiet c.if-is_quiet.true)
