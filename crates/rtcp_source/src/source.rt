@@ -25,33 +25,33 @@ use std::marker::Model;
 /// A contract compares a source with the state computed from its whole history, the list of all that it was
 /// given, newest first. Where the two are the same, the source stands at that list (`StandsAt`).
 // What may be missing stands beside a flag, and not in an `Option`, and the numbers of the last run stand among the
-// others, and not in a `Run`, so that the entry of a source takes two cache lines.
+// others, and not in a `Run`, so that the entry of a source is small. Those that each RTP packet reads come first.
 #[derive(Drop)]
 pub struct Source {
     packets: u64,
     greatest: u64,
     /// How many packets were counted in the last run, 0 where none was started.
     received: u64,
-    expected_before: u64,
     received_before: u64,
     jitter: u64,
     octets: u64,
-    ntp: u64,
-    reported_at: u64,
     transit: u32,
     rate: u32,
-    rtp: u32,
-    highest: u32,
     /// The number of the first packet of the last run.
     first: u16,
     stray: u16,
-    fraction: u8,
     /// Whether there was a stray since the last run started, or at all if none was.
     has_stray: bool,
     /// Whether a sender report came: `ntp` and `rtp` are its timestamps, `reported_at` the moment of the last one.
     has_report: bool,
     /// Whether a block was made: `fraction` and `highest` are those of the last one.
     has_block: bool,
+    fraction: u8,
+    expected_before: u64,
+    ntp: u64,
+    reported_at: u64,
+    rtp: u32,
+    highest: u32,
 }
 
 impl Model for Source {
@@ -86,22 +86,22 @@ impl Source {
             packets: 0,
             greatest: 0,
             received: 0,
-            expected_before: 0,
             received_before: 0,
             jitter: 0,
             octets: 0,
-            ntp: 0,
-            reported_at: 0,
             transit: 0,
             rate: 0,
-            rtp: 0,
-            highest: 0,
             first: 0,
             stray: 0,
-            fraction: 0,
             has_stray: false,
             has_report: false,
             has_block: false,
+            fraction: 0,
+            expected_before: 0,
+            ntp: 0,
+            reported_at: 0,
+            rtp: 0,
+            highest: 0,
         }
     }
 
