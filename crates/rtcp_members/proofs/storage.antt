@@ -1,5 +1,6 @@
 pub mod Rows
 pub mod Heaps
 pub mod Ranked
+pub mod Behind
 pub mod Found
 pub mod Halving

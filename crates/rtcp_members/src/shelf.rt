@@ -379,9 +379,7 @@ fn move_behind(slots: &mut [Slot], used: usize, at: usize)
     requires in_use { used ≤ length slots.old }
     ensures { IsMovedBehind slots.old slots.new used at }
 {
-    'ranks: for rank in at..used - 1 {
-        exchange(slots, rank, rank + 1);
-    }
+    slots[at..used].rotate_left(1);
 }
 
 /// Drops the entries that do not outlast a check. Returns how many stay, with their counts and bounds.

@@ -1,12 +1,12 @@
 -- An entry that leaves a list, wherever it stands.
-use Rattle.std.proofs.Common.{◌≡◌, ◌<◌, ◌≤◌, ◌+◌, ◌-◌, ◌++◌, ℕ, zero, suc, Bool, true, false, T, cond, if◌then◌else◌, List, [], ◌∷◌, length, take, drop, set, Option, Some, None, not, slice_get, slice_index_or, is_some, is_none, nat_cmp, is_lt, arith, refl, sym, ap, subst, ◌∙◌}
+use Rattle.std.proofs.Common.{◌≡◌, ◌<◌, ◌≤◌, ◌+◌, ◌-◌, ◌++◌, ℕ, zero, suc, Bool, true, false, T, cond, if◌then◌else◌, List, [], ◌∷◌, length, take, drop, set, Option, Some, None, not, slice_get, slice_index_or, is_some, is_none, nat_cmp, is_lt, arith, refl, sym, ap, ◌∙◌}
 use Rattle.std.specs.List.{remove}
 use Rattle.std.specs.Ordering.{eq_by_cmp}
 use Rattle.std.specs.Cmp.{nat_cmp_total}
 use Rattle.std.specs.FinMap as finite
 use Rattle.std.specs.FinMap.{nat_cmp-IsAntisymmetric}
 use Rattle.std.specs.FinMap.Entries.{below_all, is_sorted}
-use Rattle.std.proofs.lemmas.List.{append-nil, drop_all, drop-set-lt, take-set-le}
+use Rattle.std.proofs.lemmas.List.{drop-set-lt, take-set-le}
 use Rattle.std.proofs.lemmas.List.Edits.{length-remove}
 use Rattle.std.proofs.lemmas.List.Elements.{All-append, All-take, All-drop}
 use Rattle.std.proofs.lemmas.List.Sums.{sum_by-remove}
@@ -176,29 +176,6 @@ none_forgotten ssrc table none =
       ap (λ b. if b then record table { entries = finite.remove table.entries ssrc } else table) not_there,
     )
 
--- ---- One rank after the other
-
-exchanged_later : {X : Type 0} (xs : List X) (rank : ℕ) (d : X) → suc rank < length xs
-    → remove (set (set xs rank (slice_index_or xs (suc rank) d)) (suc rank) (slice_index_or xs rank d)) (suc rank)
-    ≡ remove xs rank
-exchanged_later [] rank d within = absurd (omega arith)
-exchanged_later (x ∷ []) rank d within = absurd (omega arith)
-exchanged_later (x ∷ y ∷ xs) zero d within = refl
-exchanged_later (x ∷ y ∷ xs) (suc rank) d within =
-    ap (λ ys. x ∷ ys) (exchanged_later (y ∷ xs) rank d (omega arith))
-
 -- What is written in its place first does not stay.
 pub leaves_written : (xs : List Entry) (at : ℕ) (e : Entry) → remove (set xs at e) at ≡ remove xs at
 leaves_written xs at e = λ i. take-set-le at xs at e (omega arith) i ++ drop-set-lt (suc at) xs at e (omega arith) i
-
--- It is exchanged with the next, and then leaves: so what is left is the same.
-pub leaves_later : {X : Type 0} (xs : List X) (rank next : ℕ) (d : X) → next ≡ suc rank → next < length xs
-    → remove (set (set xs rank (slice_index_or xs next d)) next (slice_index_or xs rank d)) next ≡ remove xs rank
-leaves_later xs rank next d is within =
-    subst (λ n. n < length xs → remove (set (set xs rank (slice_index_or xs n d)) n (slice_index_or xs rank d)) n
-    ≡ remove xs rank) (sym is) (exchanged_later xs rank d) within
-
-pub last_leaves : {X : Type 0} (xs : List X) (used : ℕ) → length xs ≡ used → 0 < used →
-    remove xs (used - 1) ≡ take (used - 1) xs
-last_leaves xs used is some =
-    ap (λ ys. take (used - 1) xs ++ ys) (drop_all (suc (used - 1)) xs (omega arith)) ∙ append-nil (take (used - 1) xs)
