@@ -67,6 +67,10 @@ impl Counts {
         requires { IsAmong entry.now self.old }
         ensures { IsOneMore entry.now self.new self.old }
     {
+        // one that left counts nowhere
+        if entry.left {
+            return;
+        }
         self.members -= u16::from(entry.is_member());
         self.senders -= u16::from(entry.is_sender());
         self.due -= u16::from(entry.is_due());
