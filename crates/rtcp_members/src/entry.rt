@@ -28,17 +28,17 @@ pub struct Entry {
     /// Whether it gave its CNAME, or a packet of it was counted.
     pub(crate) valid: bool,
     /// Whether it sent a BYE. This flag and the next stand beside the others, and not in an `Option` of their
-    /// moments, so that an entry takes two cache lines.
+    /// moments, so that an entry is small.
     pub(crate) left: bool,
     /// Whether a packet of it was counted before the mark, and no check since had a later horizon for packets.
     pub(crate) sends: bool,
-    /// When it sent a BYE, if it did, in microseconds.
-    pub(crate) mark: u64,
     /// Its last sighting, in microseconds.
     pub(crate) sighting: u64,
     /// The moment of its last counted packet before the mark, if it sends, in microseconds.
     pub(crate) sending: u64,
     pub(crate) source: Source,
+    /// When it sent a BYE, if it did, in microseconds. It stands last, as no RTP packet reads it.
+    pub(crate) mark: u64,
 }
 
 impl Default for Entry {
@@ -58,10 +58,10 @@ impl Entry {
             valid: false,
             left: false,
             sends: false,
-            mark: 0,
             sighting: 0,
             sending: 0,
             source: Source::new(),
+            mark: 0,
         }
     }
 
