@@ -56,13 +56,6 @@ impl Bounds {
         silent <= self.silent && idle <= self.idle && gone <= self.gone
     }
 
-    /// Whether some entry was last sighted before this moment, or may have been.
-    // The one test of a walk over entries: all three at each entry take half as long again.
-    #[inline(always)]
-    pub(crate) fn is_silent(&self, before: u64) -> bool {
-        self.silent < before
-    }
-
     /// Lowers them to an entry.
     pub(crate) fn cover(&mut self, entry: &Entry)
         ensures no_later { IsNoLater self.new self.old }

@@ -15,11 +15,11 @@ use Rattle.rtcp_members.proofs.shelf.Shelf.bounds_if_left.Goals as goal
 pub cells-preserved : goal.cells-preserved
 cells-preserved g c =
     let cells : List Cell = c.as_slice-cells.result.now in
-    let cell : Cell = c.cell-item.result in
+    let cell : Cell = c.index-cells-at.result in
     let bounds = c.cover.new.self in
-    let at = c.cells.cell-index in
+    let at = c.cells.at in
     let early : at < length cells = omega (arith, c.cells-test.true) in
-    let read : cell ≡ slice_index_or cells at cell = c.cell-item.is in
+    let read : cell ≡ slice_index_or cells at cell = c.index-cells-at.is in
     let its : cell.entry ≡ slice_index_or (entries_in cells) at no_entry = ap (λ (x : Cell). x.entry)
     (get_or_read cells at cell early read no_cell) ∙ sym (get_or-map (λ
     (x : Cell). x.entry) cells at no_cell no_entry early) in
@@ -32,15 +32,15 @@ returns g c =
     let lent : List Cell = c.as_slice-cells.result.now in
     let cells : List Cell = g.C.Blocks.items c.self.inside.cells in
     let slots : List Slot = g.S.Blocks.items c.self.inside.slots in
-    let past : length (entries_in lent) ≤ c.cells.cell-index =
+    let past : length (entries_in lent) ≤ c.cells.at =
     omega (arith, c.cells-test.false, length-map lent (λ (x : Cell). x.entry)) in
     let all : AllStandBy c.cells.bounds (entries_in lent) = subst (AllStandBy c.cells.bounds)
-    (take_all c.cells.cell-index (entries_in lent) past) c.cells.invariant in
+    (take_all c.cells.at (entries_in lent) past) c.cells.invariant in
     record {
       stand = subst (AllStandBy c.cells.bounds) (ap (λ (v : ShelfValue). v.items) c.self.view_is)
           (all_picked c.cells.bounds (entries_in cells) (take c.self.inside.used slots)
           (All-take (λ (slot : Slot). slot.place < length (entries_in cells)) c.self.inside.used slots
           c.self.invariant.kept.index.heap.places.within)
           (subst (λ xs. AllStandBy c.cells.bounds (entries_in xs)) c.as_slice-cells.ensures.items all));
-      within = c.reach.ensures c.if-not-reach.false;
+      within = c.reach-2.ensures c.if-not-reach-2.false;
     }

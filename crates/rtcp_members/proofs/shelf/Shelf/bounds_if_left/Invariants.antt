@@ -5,4 +5,4 @@ use Rattle.rtcp_members.specs.storage.Standing.{AllStandBy}
 use Rattle.rtcp_members.proofs.shelf.Shelf.bounds_if_left.Given as goal
 
 abbrev pub invariant-cells : goal.invariant-cells
-invariant-cells g l = AllStandBy l.bounds (take l.cell-index (entries_in l.cells))
+invariant-cells g l = AllStandBy l.bounds (take l.at (entries_in l.cells))
