@@ -60,7 +60,7 @@ fn apply_csrcs<T: MemberTable>(table: &mut T, head: &RtpHead<'_>, own: u32, t: u
     let mut moved = false;
     'csrcs: for csrc in head.csrcs() {
         if csrc != own {
-            let by_this = apply_said(table, Fact::Heard(csrc), t);
+            let by_this = apply_heard(table, csrc, t);
             moved |= by_this;
         }
     }
@@ -92,6 +92,16 @@ pub(crate) fn forget<T: MemberTable>(table: &mut T, ssrc: u32) -> bool
     let before = RoleCounts::of(table);
     table.forget(ssrc);
     RoleCounts::of(table) != before
+}
+
+/// Applies that a source was heard.
+// Out of line, and with the fact made here, so that a packet without contributing sources makes none ready.
+#[inline(never)]
+fn apply_heard<T: MemberTable>(table: &mut T, ssrc: u32, t: u64) -> bool
+    ensures content { T.content table.new ≡ after_facts (Fact.Heard ssrc ∷ []) t (T.content table.old) }
+    ensures moved { result ≡ facts_move (Fact.Heard ssrc ∷ []) t (T.content table.old) }
+{
+    table.apply_fact(Fact::Heard(ssrc), t).moved
 }
 
 /// Applies a fact of any kind. As code it stands here once, where `MemberTable::apply_fact` is made for each place.
