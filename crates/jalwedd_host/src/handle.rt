@@ -78,13 +78,13 @@ impl Handle {
             *step = HostStep::blank();
             return Err(EMPTY);
         };
-        match session.moment_of(now) {
-            Some(moment) => Ok((session, moment)),
-            None => {
-                let refusal = session.early_refusal();
-                Err(self.put_back_untold(session, of_refusal(&refusal), step))
-            }
+        // Compared, and not subtracted with a check: that makes ready a moment for a call that has none.
+        if now < session.start {
+            let refusal = session.early_refusal();
+            return Err(self.put_back_untold(session, of_refusal(&refusal), step));
         }
+        let moment = now - session.start;
+        Ok((session, moment))
     }
 
     /// Answers a call that came with more than it takes, whatever it tells.

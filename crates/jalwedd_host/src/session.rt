@@ -21,13 +21,6 @@ pub struct HostSession {
 }
 
 impl HostSession {
-    /// The moment at which the host's clock shows `now`: none before the start.
-    pub fn moment_of(&self, now: u64) -> Option<u64>
-        ensures { MatchOption result (now < self.now.start) (λ moment. now ≡ self.now.start + moment) }
-    {
-        now.checked_sub(self.start)
-    }
-
     /// Why a call before the start is refused: as one that comes before the latest, unless the participant has left.
     pub(crate) fn early_refusal(&self) -> Refusal
         ensures { (start : ℕ) (history : History) → Leads self.now start history →
