@@ -45,8 +45,10 @@ pub(crate) fn apply_media<T: MemberTable>(
     if !effect.applied.counted {
         return effect.moved;
     }
-    let others = apply_csrcs(table, head, own, t);
-    effect.moved | others
+    if apply_csrcs(table, head, own, t) {
+        return true;
+    }
+    effect.moved
 }
 
 /// Applies the contributing sources of a packet but for the participant itself, `own`, and returns whether that changed
