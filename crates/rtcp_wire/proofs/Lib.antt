@@ -18,6 +18,10 @@ mod Passing
 mod BodyOrFault
 mod PacketOrFault
 mod Walking
+-- What the tests see of the sources, and compounds about one source.
+mod Summing
+mod Reporters
+mod SoleSources
 -- The iterators: what each step gives, facts, and blocks about a source.
 mod WalkSteps
 mod ItemSteps

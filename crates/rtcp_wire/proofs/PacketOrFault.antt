@@ -1,5 +1,5 @@
 -- Where a packet should begin, one does, or one of the tests is the first that finds a fault.
-use Rattle.std.proofs.Common.{◌≡◌, ◌≢◌, ℕ, suc, ◌+◌, ◌-◌, ◌*◌, ◌%◌, ◌<◌, ◌≤◌, ◌⊎◌, Bool, true, false, cond, List, length, get_or, drop, Result, Ok, Err, MatchResult, refl, sym, ◌∙◌, arith, inl, inr, lit<}
+use Rattle.std.proofs.Common.{◌≡◌, ◌≢◌, ℕ, suc, ◌+◌, ◌-◌, ◌*◌, ◌%◌, ◌<◌, ◌≤◌, ◌⊎◌, Bool, true, false, cond, List, length, get_or, drop, Result, Ok, Err, IfOk, MatchResult, refl, sym, subst, ◌∙◌, arith, inl, inr, lit<}
 use Rattle.std.proofs.lemmas.Bool.{cases_lt, cases_eq, cases_Bool}
 use Rattle.std.proofs.lemmas.List.{take-append-drop, length-drop, length-take-le}
 use Rattle.byteorder.specs.Endian.{big_number}
@@ -9,6 +9,8 @@ use Rattle.rtcp_wire.specs.Grammar.{version_of, is_padded, count_of, type_of, si
 use Rattle.rtcp_wire.specs.Faults.{FindsInBody, Finds, number_of, IsFirstFound, MayStand}
 use Rattle.rtcp_wire.specs.Parts.{TakesPrefix, IsWhole, IsUnpadded}
 use Rattle.rtcp_wire.specs.Validity.{IsSomeBody, IsSomePacket}
+use Rattle.rtcp_wire.specs.Values.{RtcpPacket}
+use Rattle.rtcp_wire.specs.Walks.{body_says, packet_in}
 use Rattle.rtcp_wire.proofs.Spellings.{own, is_own}
 use Rattle.rtcp_wire.proofs.Stops.{body_at, padding_at, begins_at, reason_in, reason_has_number}
 use Rattle.rtcp_wire.proofs.BodyFaults.{body_or_item, body_or_reason, item_or_reason}
@@ -209,7 +211,8 @@ module _ (first : Bool) (b body : List ℕ) (kind count : ℕ) (h : HasBody firs
   body_found r found = absurd found
 
   -- What is found in a body is found of the packet.
-  pub packet_passed : (tested : Result Unit FaultReason) → MatchResult tested (λ _. IsSomeBody kind count body)
+  pub packet_passed : {A : Type 0} (tested : Result A FaultReason) →
+      MatchResult tested (λ _. IsSomeBody kind count body)
       (λ reason. FindsInBody reason kind count body)
       → MatchResult tested (λ _. TakesPrefix b (drop (size_of b) b) (λ s. IsSomePacket s × MayStand first s))
       (λ reason. IsFirstFound reason first b)
@@ -230,6 +233,14 @@ module _ (first : Bool) (b body : List ℕ) (kind count : ℕ) (h : HasBody firs
   packet_passed (Err reason) found =
       body_found reason (rw (← h.kind_is, ← h.count_is, ← (h.unpadded.0 ∙ sym (is_own b h.good.size).parts.body)) found)
 
+  -- So is what is said of it.
+  pub packet_summed : {A : Type 0} (P : A → RtcpPacket → Type 0) (tested : Result A FaultReason) →
+      IfOk tested (λ said. P said (body_says kind count body)) → IfOk tested (λ said. P said (packet_in b))
+  packet_summed P tested =
+      subst (λ (packet : RtcpPacket). IfOk tested (λ said. P said packet))
+      (λ i. body_says (h.kind_is i) (h.count_is i)
+      ((h.unpadded.0 ∙ sym (is_own b h.good.size).parts.body) i))
+
 -- ---- The packet
 
 -- A packet was taken, which may stand here.
@@ -247,11 +258,12 @@ packet_from first b =
             record { good = good; unpadded = (refl, padding); kind_is = refl; count_is = refl } in
             elim (body_from (type_of b) (count_of b) (body_of (own b))
             (body_is_words (own b) (is_own b good.size).size padding)) [
-              | inl some ↦ inl (packet_passed first b (body_of (own b)) (type_of b) (count_of b) has (Ok tt) some)
+              | inl some ↦ inl (packet_passed first b (body_of (own b)) (type_of b) (count_of b) has {A = Unit {0}}
+                  (Ok tt) some)
               | inr fault ↦ inr (
                 fault.0,
                 packet_passed first b (body_of (own b)) (type_of b) (count_of b) has
-                    (Err fault.0) fault.1,
+                    {A = Unit {0}} (Err fault.0) fault.1,
               )
             ])
       ]

@@ -196,7 +196,7 @@ packet_read packet a r h =
     (λ i. body_says (parts.header.kind i) (parts.header.count i) (parts.body i))
     ∙ body_read packet (type_of a) (count_of a) (body_of a) h.body
 
-first_packet : (packet : RtcpPacket) (a r : List ℕ) → IsSpelling packet a →
+pub first_packet : (packet : RtcpPacket) (a r : List ℕ) → IsSpelling packet a →
     packets_after 0 (a ++ r) ≡ packet ∷ packets_after 0 r
 first_packet packet [] r h = absurd (omega (arith, spelling_length packet [] h))
 first_packet packet (o ∷ a) r h =

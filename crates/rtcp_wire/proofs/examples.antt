@@ -2,6 +2,7 @@ mod Rows
 mod RowsOfTypes
 mod RtpRows
 mod FactRows
+mod SoleRows
 mod AboutRows
 mod WalkRows
 mod ContentRows

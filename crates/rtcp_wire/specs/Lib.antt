@@ -13,3 +13,5 @@ pub mod Placed
 pub mod Writing
 pub mod WriterViews
 pub mod Walks
+pub mod Summaries
+pub mod Sole

@@ -1,18 +1,23 @@
 //! Compounds: the packets of a datagram (RFC 3550, 6.1 and appendix A.2).
 
-ghost use Rattle.std.specs.Prelude.{◌≡◌, List, IfOk, IsOkAnd, Err};
+ghost use Rattle.std.specs.Prelude.{◌≡◌, List, IfNone, IfOk, IfSome, IsOkAnd, Err};
 ghost use Rattle.rtcp_wire.specs.Values.{RtcpPacket};
 ghost use Rattle.rtcp_wire.specs.Grammar.{IsAccepted};
 ghost use Rattle.rtcp_wire.specs.Faults.{IsFirstFault};
+ghost use Rattle.rtcp_wire.specs.Facts.{facts_of};
+ghost use Rattle.rtcp_wire.specs.Sole.{IsSole};
 ghost use Rattle.rtcp_wire.specs.Walks.{packets_in};
 ghost use Rattle.rtcp_wire.specs.About.{blocks_about};
 ghost use Rattle.rtcp_wire.specs.declared.fault.WireFault.{WireFault as Fault};
+ghost use Rattle.rtcp_wire.specs.declared.sole.SoleSource.{SoleSource as Source};
 
 mod about;
 mod packets;
 
 use crate::fault::WireFault;
-use crate::validity::check_datagram;
+use crate::packet::PacketView;
+use crate::sole::SoleSource;
+use crate::validity::{Summary, check_datagram};
 pub use about::About;
 pub use packets::Packets;
 use std::marker::Model;
@@ -26,19 +31,23 @@ pub const MAX_DATAGRAM: usize = 65_535;
 #[derive(Debug, Drop)]
 pub struct Compound<'a> {
     octets: &'a [u8],
+    /// What the tests saw of its sources, against the one of its first report.
+    summary: Summary,
 }
 
 impl<'a> Model for Compound<'a> {
-    ghost use Rattle.std.specs.Prelude.{List};
+    ghost use Rattle.std.specs.Prelude.{List, true};
     ghost use Rattle.rtcp_wire.specs.Values.{RtcpPacket};
     ghost use Rattle.rtcp_wire.specs.Grammar.{IsAccepted};
+    ghost use Rattle.rtcp_wire.specs.Summaries.{SumsUp, sender_of};
     ghost use Rattle.rtcp_wire.specs.Walks.{packets_in};
 
     ghost Value = { List RtcpPacket };
 
     ghost view = { λ compound. packets_in compound.octets.now };
 
-    ghost invariant = { λ compound. IsAccepted compound.octets.now (packets_in compound.octets.now) };
+    ghost invariant = { λ compound. IsAccepted compound.octets.now (packets_in compound.octets.now)
+        × SumsUp (sender_of compound.octets.now) true compound.summary (packets_in compound.octets.now) };
 }
 
 impl<'a> Compound<'a> {
@@ -59,7 +68,10 @@ impl<'a> Compound<'a> {
         ensures finds { (fault : Fault) → IsFirstFault datagram.now fault → result ≡ Err fault }
     {
         match check_datagram(datagram) {
-            Ok(()) => Ok(Compound { octets: datagram }),
+            Ok(summary) => Ok(Compound {
+                octets: datagram,
+                summary,
+            }),
             Err(fault) => Err(fault),
         }
     }
@@ -69,6 +81,33 @@ impl<'a> Compound<'a> {
         ensures { result ≡ self.now }
     {
         Packets::new(self.octets)
+    }
+
+    /// The source that the compound is about, if it is about one (RFC 3550, 6.4 to 6.7). Then all that it says of
+    /// sources is what [`SoleSource`] holds: the law `sole_sources_say_it_all` of rtcp_members.
+    // Inlined, so that what is not used of it is not read.
+    #[inline(always)]
+    pub fn sole(&self) -> Option<SoleSource>
+        ensures sole { IfSome result (λ source. IsSole source (facts_of self.now)) }
+        ensures several { IfNone result ((source : Source) → IsSole source (facts_of self.now) → ⊥) }
+    {
+        if !self.summary.is_sole {
+            return None;
+        }
+        let is_named = self.summary.is_named;
+        match self.packets().next()? {
+            PacketView::Sr(report) => Some(SoleSource {
+                ssrc: report.ssrc,
+                timestamps: Some((report.ntp, report.rtp)),
+                is_named,
+            }),
+            PacketView::Rr(report) => Some(SoleSource {
+                ssrc: report.ssrc,
+                timestamps: None,
+                is_named,
+            }),
+            _ => None,
+        }
     }
 
     /// What the reports say of the source `ssrc`: each block that names it, with the SSRC of its packet's

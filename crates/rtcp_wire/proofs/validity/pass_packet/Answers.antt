@@ -1,7 +1,8 @@
 use Rattle.std.proofs.Common.{◌∙◌, ap, take, drop, subst}
 use Rattle.rtcp_wire.specs.Grammar.{size_of, type_of, count_of}
 use Rattle.rtcp_wire.specs.Parts.{IsWhole, IsUnpadded}
-use Rattle.rtcp_wire.proofs.PacketOrFault.{HasBody, packet_passed}
+use Rattle.rtcp_wire.specs.Summaries.{Sums}
+use Rattle.rtcp_wire.proofs.PacketOrFault.{HasBody, packet_passed, packet_summed}
 use Rattle.rtcp_wire.proofs.validity.pass_packet.Goals as goal
 
 pub returns : goal.returns
@@ -19,5 +20,9 @@ returns c =
       kind_is = fields.1 ∙ ap type_of c.rest.ensures;
       count_is = fields.0 ∙ ap count_of c.rest.ensures;
     } in
-    rw left (packet_passed c.args.is_first octets body header.kind header.count has c.check_body.result
-    c.check_body.ensures)
+    record {
+      valid = rw left (packet_passed c.args.is_first octets body header.kind header.count has c.check_body.result
+          c.check_body.ensures.valid);
+      sums = packet_summed c.args.is_first octets body header.kind header.count has
+          (Sums c.args.ssrc c.args.is_first) c.check_body.result c.check_body.ensures.sums;
+    }
