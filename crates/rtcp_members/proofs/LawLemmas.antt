@@ -5,7 +5,9 @@ use Rattle.std.proofs.Common.{◌≡◌, ◌&&◌, ◌≤◌, ap, sym, refl, rul
 use Rattle.std.specs.FinMap as finite
 use Rattle.rtcp_wire.specs.declared.fact.Fact.{Fact}
 use Rattle.rtcp_wire.specs.declared.fact.Fact.TheVariants.{Heard, Named, Told}
+use Rattle.rtcp_wire.specs.declared.sole.SoleSource.{SoleSource}
 use Rattle.rtcp_wire.specs.Facts.{is_media}
+use Rattle.rtcp_wire.specs.Sole.{facts_of_sole, IsSole}
 use Rattle.rtcp_members.specs.Traces.{TraceStep, source_forgotten, with_facts}
 use Rattle.rtcp_members.specs.Entries.{EntryValue, members_at, senders_at, is_such, is_member, is_sender, entry_at}
 use Rattle.rtcp_members.specs.Pending.{EntryRow, is_due_at, pending, after_blocks}
@@ -13,6 +15,7 @@ use Rattle.rtcp_members.specs.Roles.{IsSameRole, facts_move}
 use Rattle.rtcp_members.proofs.moving.RoleCounts.{nobody_passes}
 use Rattle.rtcp_members.specs.Tables.{TableValue, StandsAt, KeepsBounds, HasFew, after_facts, members_in, senders_in}
 use Rattle.rtcp_members.proofs.stays.AtOnce.{once_said, once_moved}
+use Rattle.rtcp_members.proofs.stays.OneSource.{sole_says}
 use Rattle.rtcp_members.proofs.standing.Blocking.{blocks_keep_capacity}
 use Rattle.rtcp_members.proofs.standing.Capacity.{facts_keep_bounds, blocks_keep_bounds, facts_keep_capacity}
 use Rattle.rtcp_members.proofs.standing.Following.{facts_follow, count_agrees}
@@ -154,3 +157,11 @@ pub heard_by_what_it_says-told_moves : (ssrc ntp rtp t : ℕ) (table : TableValu
     facts_move (Heard ssrc ∷ Told ssrc ntp rtp ∷ []) t table ≡ facts_move (Told ssrc ntp rtp ∷ []) t table
 heard_by_what_it_says-told_moves ssrc ntp rtp t table = once_moved (Told ssrc ntp rtp) ssrc t table refl refl
     (λ e. refl)
+
+pub sole_sources_say_it_all-content : (source : SoleSource) (facts : List Fact) (t : ℕ) (table : TableValue) →
+    IsSole source facts → after_facts facts t table ≡ after_facts (facts_of_sole source) t table
+sole_sources_say_it_all-content source facts t table h = (sole_says source facts t table h).content
+
+pub sole_sources_say_it_all-moves : (source : SoleSource) (facts : List Fact) (t : ℕ) (table : TableValue) →
+    IsSole source facts → facts_move facts t table ≡ facts_move (facts_of_sole source) t table
+sole_sources_say_it_all-moves source facts t table h = (sole_says source facts t table h).moves

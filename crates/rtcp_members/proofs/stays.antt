@@ -6,4 +6,5 @@ pub mod StayLaws
 pub mod SenderLaws
 pub mod OneClock
 pub mod AtOnce
+pub mod OneSource
 pub mod Crowding

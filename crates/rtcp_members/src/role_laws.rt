@@ -3,6 +3,8 @@
 ghost use Rattle.std.specs.Prelude.{◌≡◌, ℕ, false, List, [], ◌∷◌, None, drop, length};
 ghost use Rattle.rtcp_wire.specs.declared.fact.Fact.{Fact};
 ghost use Rattle.rtcp_wire.specs.declared.fact.Fact.TheVariants.{Heard, Named, Told};
+ghost use Rattle.rtcp_wire.specs.declared.sole.SoleSource.{SoleSource};
+ghost use Rattle.rtcp_wire.specs.Sole.{facts_of_sole, IsSole};
 ghost use Rattle.rtcp_members.specs.Traces.{Horizons, TraceStep, block_made_of, check_made, source_forgotten, with_facts};
 ghost use Rattle.rtcp_members.specs.Entries.{entry_at, members_at};
 ghost use Rattle.rtcp_members.specs.Tables.{TableValue, StandsAt, after_facts};
@@ -53,4 +55,14 @@ pub fn heard_by_what_it_says()
     ensures told_moves { (ssrc ntp rtp moment : ℕ) (table : TableValue) →
         facts_move (Heard ssrc ∷ Told ssrc ntp rtp ∷ []) moment table
         ≡ facts_move (Told ssrc ntp rtp ∷ []) moment table }
+{}
+
+/// Where all that a compound says of sources is about one (`Compound::sole` of rtcp_wire), it says as much as one or
+/// two facts: what the source told of its clock and that it gave its CNAME, or else that it was heard. They make the
+/// same of each table, and change who is a member or who sends where the compound does.
+pub fn sole_sources_say_it_all()
+    ensures content { (source : SoleSource) (facts : List Fact) (moment : ℕ) (table : TableValue) →
+        IsSole source facts → after_facts facts moment table ≡ after_facts (facts_of_sole source) moment table }
+    ensures moves { (source : SoleSource) (facts : List Fact) (moment : ℕ) (table : TableValue) →
+        IsSole source facts → facts_move facts moment table ≡ facts_move (facts_of_sole source) moment table }
 {}

@@ -106,6 +106,23 @@ module _ (fact : Fact) (ssrc t : ℕ) (own : subject fact ≡ ssrc) (stays : is_
       ∙ ap (λ found. became fact t table ssrc found (has_room table)) is
       ∙ (λ i. if changes (if stays i then Ignored else (if room i then Added else NoRoom)) then next else table)
 
+  -- A fact of a source that said goodbye is ignored, and so is one that finds no room.
+  marked_fact : (table : TableValue) (e : EntryValue) → finite.get table.entries ssrc ≡ Some e →
+      is_some e.mark ≡ true → after_fact fact t table ≡ table
+  marked_fact table e is marked =
+      let next = with_entry table ssrc (entry_after fact t e) in
+      (λ i. became fact t table (own i) (finite.get table.entries (own i)) (has_room table))
+      ∙ ap (λ found. became fact t table ssrc found (has_room table)) is
+      ∙ ap (λ b. if changes (if b then Ignored else (if is_gone fact then Left else Kept)) then next else table) marked
+
+  full_fact : (table : TableValue) → finite.get table.entries ssrc ≡ None → has_room table ≡ false →
+      after_fact fact t table ≡ table
+  full_fact table is room =
+      let next = with_entry table ssrc (entry_after fact t new_entry) in
+      (λ i. became fact t table (own i) (finite.get table.entries (own i)) (has_room table))
+      ∙ ap (λ found. became fact t table ssrc found (has_room table)) is
+      ∙ (λ i. if changes (if stays i then Ignored else (if room i then Added else NoRoom)) then next else table)
+
   module _ (table : TableValue) (over : (e : EntryValue) → entry_after fact t (record e { sighting = t })
       ≡ entry_after fact t e) where
     twice : (e : EntryValue) → is_some e.mark ≡ false →
@@ -135,6 +152,41 @@ module _ (fact : Fact) (ssrc t : ℕ) (own : subject fact ≡ ssrc) (stays : is_
               ] refl
         ] refl
 
+-- A fact that adds nothing to what another of its source says at the same moment.
+module _ (first next : Fact) (ssrc t : ℕ) (own : subject first ≡ ssrc) (stays : is_gone first ≡ false)
+    (own_next : subject next ≡ ssrc) (stays_next : is_gone next ≡ false)
+    (over : (e : EntryValue) → entry_after next t (entry_after first t e) ≡ entry_after first t e)
+    (unmarks : (e : EntryValue) → (entry_after first t e).mark ≡ e.mark) (table : TableValue) where
+  once_more : (e : EntryValue) → is_some e.mark ≡ false → after_fact first t table ≡ with_entry table ssrc
+      (entry_after first t e) → after_fact next t (after_fact first t table) ≡ after_fact first t table
+  once_more e unmarked is =
+      let said : EntryValue = entry_after first t e in
+      ap (after_fact next t) is
+      ∙ found_fact next ssrc t own_next stays_next (with_entry table ssrc said) said
+      (inserted table.entries ssrc said) (ap is_some (unmarks e) ∙ unmarked)
+      ∙ ap (λ (m : EntryMap). record table { entries = m })
+      (inserted_twice table.entries ssrc said (entry_after next t said)
+      ∙ ap (finite.insert table.entries ssrc) (over e)) ∙ sym is
+
+  pub adds_nothing : after_fact next t (after_fact first t table) ≡ after_fact first t table
+  adds_nothing = elim (finite.get table.entries ssrc) as (λ found. finite.get table.entries ssrc ≡ found →
+      after_fact next t (after_fact first t table) ≡ after_fact first t table) [
+        | Some e ↦ λ is. elim (is_some e.mark) as (λ b. is_some e.mark ≡ b →
+            after_fact next t (after_fact first t table) ≡ after_fact first t table) [
+              | true ↦ λ marked. ap (after_fact next t) (marked_fact first ssrc t own stays table e is marked)
+                  ∙ marked_fact next ssrc t own_next stays_next table e is marked
+                  ∙ sym (marked_fact first ssrc t own stays table e is marked)
+              | false ↦ λ unmarked. once_more e unmarked (found_fact first ssrc t own stays table e is unmarked)
+            ] refl
+        | None ↦ λ is. elim (has_room table) as (λ b. has_room table ≡ b →
+            after_fact next t (after_fact first t table) ≡ after_fact first t table) [
+              | true ↦ λ room. once_more new_entry refl (new_fact first ssrc t own stays table is room)
+              | false ↦ λ room. ap (after_fact next t) (full_fact first ssrc t own stays table is room)
+                  ∙ full_fact next ssrc t own_next stays_next table is room
+                  ∙ sym (full_fact first ssrc t own stays table is room)
+            ] refl
+      ] refl
+
 -- Who is heard is no more and no less than before.
 module _ (ssrc t : ℕ) (table : TableValue) (test : EntryValue → Bool) (same : (e : EntryValue) →
     test (record e { sighting = t }) ≡ test e) (none : test new_entry ≡ false) where
@@ -158,10 +210,10 @@ module _ (ssrc t : ℕ) (table : TableValue) (test : EntryValue → Bool) (same 
             ]
       ] refl
 
-abbrev differ : ℕ → ℕ → ℕ → ℕ → Bool
+abbrev pub differ : ℕ → ℕ → ℕ → ℕ → Bool
 differ members senders next_members next_senders = not ((next_members == members) && (next_senders == senders))
 
-differ_not : (members senders : ℕ) → differ members senders members senders ≡ false
+pub differ_not : (members senders : ℕ) → differ members senders members senders ≡ false
 differ_not members senders = (λ i. not (eq-eqb members members refl i && eq-eqb senders senders refl i))
 
 module _ (fact : Fact) (ssrc t : ℕ) (table : TableValue) (own : subject fact ≡ ssrc) (stays : is_gone fact ≡ false)
