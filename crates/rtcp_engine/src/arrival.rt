@@ -5,7 +5,7 @@ ghost use Rattle.rtcp_engine.specs.answers.Identities.{is_among};
 ghost use Rattle.rtcp_engine.specs.answers.Changes.{is_about, named_by};
 ghost use Rattle.rtcp_engine.specs.state.Views.{datagram_of};
 
-use crate::sayings::speak_of;
+use crate::sayings::tells_of;
 use rtcp_wire::{Compound, RtpHead, facts};
 
 /// What a datagram says that came.
@@ -25,7 +25,7 @@ impl Arrival<'_> {
         ensures { result ≡ is_about ssrc (datagram_of self.now) }
     {
         match self {
-            Arrival::Rtcp(compound, _) => speak_of(compound.packets(), ssrc),
+            Arrival::Rtcp(compound, _) => tells_of(compound, ssrc),
             Arrival::Rtp(head) => head.ssrc() == ssrc,
         }
     }

@@ -1,22 +1,62 @@
-//! What the packets of a compound say, packet after packet. Each loop reads its part once and keeps nothing
-//! between its turns: it costs less than an iterator over all facts, which begins anew at each of them.
+//! What a compound says. Where it is about one source it is not read again: its reading has seen whose it is. Else it
+//! is read packet after packet. Each loop reads its part once and keeps nothing between its turns: it costs less than
+//! an iterator over all facts, which begins anew at each of them.
 
 ghost use Rattle.std.specs.Prelude.{◌≡◌, ◌==◌, ◌∷◌, [], false};
 ghost use Rattle.std.specs.List.{list_any};
 ghost use Rattle.rtcp_wire.specs.Facts.{facts_of, facts_of_chunk, facts_of_packet, is_media, subject};
+ghost use Rattle.rtcp_wire.specs.Sole.{facts_of_sole};
 ghost use Rattle.rtcp_wire.specs.Views.{packet_value};
+ghost use Rattle.rtcp_wire.specs.declared.fact.Fact.TheVariants.{Named, Told};
 ghost use Rattle.rtcp_members.specs.Roles.{facts_move};
 ghost use Rattle.rtcp_members.specs.Tables.{after_facts};
 ghost use Rattle.rtcp_engine.specs.state.Sayings.{facts_of_chunks, facts_of_byes};
 
 use crate::table::apply_said;
 use rtcp_members::MemberTable;
-use rtcp_wire::{Chunk, Chunks, Fact, Ids, PacketView, Packets};
+use rtcp_wire::{Chunk, Chunks, Compound, Fact, Ids, PacketView, Packets, SoleSource};
 
 // ---- What is said, applied to a table at one moment
 
+/// Applies what this compound says, and returns whether that changed who is a member or who sends.
+pub(crate) fn apply_compound<T: MemberTable>(table: &mut T, compound: &Compound<'_>, t: u64) -> bool
+    ensures content { T.content table.new ≡ after_facts (facts_of compound.now) t (T.content table.old) }
+    ensures moved { result ≡ facts_move (facts_of compound.now) t (T.content table.old) }
+{
+    match compound.sole() {
+        Some(source) => apply_sole(table, source, t),
+        None => apply_packets(table, compound.packets(), t),
+    }
+}
+
+/// Applies what a compound says that is about this source alone.
+fn apply_sole<T: MemberTable>(table: &mut T, source: SoleSource, t: u64) -> bool
+    ensures content { T.content table.new ≡ after_facts (facts_of_sole source) t (T.content table.old) }
+    ensures moved { result ≡ facts_move (facts_of_sole source) t (T.content table.old) }
+{
+    match (source.timestamps, source.is_named) {
+        (Some((ntp, rtp)), true) => apply_introduction(table, source.ssrc, ntp, rtp, t),
+        (Some((ntp, rtp)), false) => apply_one(table, Fact::Told(source.ssrc, ntp, rtp), t),
+        (None, true) => apply_one(table, Fact::Named(source.ssrc), t),
+        (None, false) => apply_one(table, Fact::Heard(source.ssrc), t),
+    }
+}
+
+/// Applies a sender report and a CNAME of one source. Each kind of fact is known here, and the second finds the entry
+/// of the first at once.
+#[inline(never)]
+fn apply_introduction<T: MemberTable>(table: &mut T, ssrc: u32, ntp: u64, rtp: u32, t: u64) -> bool
+    ensures content { T.content table.new
+        ≡ after_facts (Told ssrc ntp rtp ∷ Named ssrc ∷ []) t (T.content table.old) }
+    ensures moved { result ≡ facts_move (Told ssrc ntp rtp ∷ Named ssrc ∷ []) t (T.content table.old) }
+{
+    let by_clock = table.apply_fact(Fact::Told(ssrc, ntp, rtp), t).moved;
+    let by_name = table.apply_fact(Fact::Named(ssrc), t).moved;
+    by_clock | by_name
+}
+
 /// Applies what these packets say, and returns whether that changed who is a member or who sends.
-pub(crate) fn apply_packets<T: MemberTable>(table: &mut T, packets: Packets<'_>, t: u64) -> bool
+fn apply_packets<T: MemberTable>(table: &mut T, packets: Packets<'_>, t: u64) -> bool
     ensures content { T.content table.new ≡ after_facts (facts_of packets.entry) t (T.content table.old) }
     ensures moved { result ≡ facts_move (facts_of packets.entry) t (T.content table.old) }
 {
@@ -98,8 +138,20 @@ fn apply_one<T: MemberTable>(table: &mut T, fact: Fact, t: u64) -> bool
 
 // ---- Whether something is said of a source
 
+/// Whether this compound says something of this source.
+// Inlined, as in `Arrival::is_of`.
+#[inline(always)]
+pub(crate) fn tells_of(compound: &Compound<'_>, ssrc: u32) -> bool
+    ensures { result ≡ list_any (λ fact. subject fact == ssrc) (facts_of compound.now) }
+{
+    match compound.sole() {
+        Some(source) => source.ssrc == ssrc,
+        None => speak_of(compound.packets(), ssrc),
+    }
+}
+
 /// Whether these packets say something of this source.
-pub(crate) fn speak_of(packets: Packets<'_>, ssrc: u32) -> bool
+fn speak_of(packets: Packets<'_>, ssrc: u32) -> bool
     ensures { result ≡ list_any (λ fact. subject fact == ssrc) (facts_of packets.entry) }
 {
     'packets: for packet in packets {

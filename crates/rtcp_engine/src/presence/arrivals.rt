@@ -8,7 +8,7 @@ ghost use Rattle.rtcp_engine.specs.state.Views.{datagram_of, size_of};
 
 use super::Presence;
 use crate::arrival::Arrival;
-use crate::sayings::apply_packets;
+use crate::sayings::apply_compound;
 use crate::table::apply_media;
 use rtcp_members::MemberTable;
 use rtcp_wire::{Compound, RtpHead};
@@ -69,7 +69,7 @@ impl<T: MemberTable> Presence<T> {
         ensures new { Does self.old self.new (λ setup. with_facts_of now size compound.now) }
         ensures moved { MovesOthers self.old result (λ setup. with_facts_of now size compound.now) }
     {
-        let moved = apply_packets(&mut self.table, compound.packets(), now);
+        let moved = apply_compound(&mut self.table, compound, now);
         self.average.add(size as u32);
         moved
     }
