@@ -40,6 +40,7 @@ mod RtpRanges
 mod RtpPlaces
 -- What is written, and that what was read can be written.
 mod Appending
+pub mod Putting
 mod Written
 mod WrittenPackets
 mod Reports

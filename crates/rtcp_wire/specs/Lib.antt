@@ -12,6 +12,7 @@ pub mod Contents
 pub mod Placed
 pub mod Writing
 pub mod WriterViews
+pub mod Puts
 pub mod Walks
 pub mod Summaries
 pub mod Sole

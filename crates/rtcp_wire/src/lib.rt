@@ -36,7 +36,7 @@ mod fault;
 mod header;
 mod ids;
 pub mod laws;
-mod layout;
+pub mod layout;
 mod other;
 mod packet;
 mod reader;
@@ -64,4 +64,7 @@ pub use rtp::{RtpFault, RtpHead};
 pub use sdes::{CNAME, Chunk, Chunks, Items, SourceDescription};
 pub use sole::SoleSource;
 pub use sr::SenderReport;
-pub use writer::{ChunkRef, Full, ItemRef, MAX_COMPOUND, PacketRef, write_compound};
+pub use writer::{
+    ChunkRef, Full, ItemRef, MAX_COMPOUND, PacketRef, put_block, put_header, put_item, put_long,
+    put_word, write_compound,
+};

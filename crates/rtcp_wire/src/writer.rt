@@ -14,11 +14,13 @@ mod append;
 mod descriptions;
 mod goodbyes;
 mod packets;
+mod puts;
 mod refs;
 mod reports;
 mod size;
 mod writable;
 
+pub use puts::{put_block, put_header, put_item, put_long, put_word};
 pub use refs::{ChunkRef, ItemRef, PacketRef};
 
 /// How many octets a buffer for compounds holds: what an Ethernet frame carries after the headers of IPv4 and
