@@ -2,7 +2,10 @@ mod TakenInTurn
 mod ReportSizes
 mod ReportPackets
 mod Prefixes
+mod PutReports
+mod PutDescriptions
 mod WholeReports
+mod PutByes
 mod Following
 mod Fitting
 mod examples

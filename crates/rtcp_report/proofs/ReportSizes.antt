@@ -1,5 +1,5 @@
 -- The octets of a report are as many as its size says.
-use Rattle.std.proofs.Common.{◌≡◌, ℕ, zero, suc, ◌+◌, ◌-◌, ◌*◌, ◌/◌, ◌%◌, ◌≤◌, List, [], ◌∷◌, ◌++◌, length, take, drop, sum_by, Option, Some, None, arith, refl, sym, ap, subst, ◌∙◌}
+use Rattle.std.proofs.Common.{◌≡◌, ℕ, zero, suc, ◌+◌, ◌-◌, ◌*◌, ◌/◌, ◌%◌, ◌≤◌, List, [], ◌∷◌, ◌++◌, length, take, drop, sum_by, Option, Some, None, arith, refl, ap, ◌∙◌}
 use Rattle.std.proofs.lemmas.List.{length-append, length-replicate, length-take, length-drop}
 use Rattle.std.proofs.lemmas.List.Sums.{sum_by-cons}
 use Rattle.std.proofs.lemmas.List.Concat.{flat_map-append}
@@ -12,7 +12,7 @@ use Rattle.rtcp_report.specs.Sizes.{first_report_size, item_size, description_si
 
 -- ---- Descriptions
 
-items_length : (items : List ItemValue) → length (flat_map written_item items) ≡ sum_by item_size items
+pub items_length : (items : List ItemValue) → length (flat_map written_item items) ≡ sum_by item_size items
 items_length [] = refl
 items_length (item ∷ items) =
     omega (
@@ -113,8 +113,3 @@ packets_length reporter blocks =
       reports_length reporter.ssrc reporter.sent blocks,
       description_length reporter,
     )
-
-pub fits_by_size : (reporter : Reporter) (blocks : List ReportBlock) (count : ℕ) → length blocks ≡ count →
-    report_size reporter count ≤ 1472 → length (written_all (packets_with reporter blocks)) ≤ 1472
-fits_by_size reporter blocks count is fits = subst (λ (n : ℕ). n ≤ 1472)
-    (sym (packets_length reporter blocks ∙ ap (report_size reporter) is)) fits

@@ -1,23 +1,45 @@
 -- What is written of the sources that a report has blocks of.
-use Rattle.std.specs.Prelude.{ℕ, ◌≡◌, ◌≤◌, List, Option, length, take}
-use Rattle.rtcp_wire.specs.Values.{ReportBlock}
+use Rattle.std.specs.Prelude.{ℕ, ◌≡◌, ◌+◌, ◌*◌, ◌≤◌, List, ◌++◌, All, Option, Some, None, length}
+use Rattle.rtcp_wire.specs.Values.{ReportBlock, RtcpPacket}
 use Rattle.rtcp_wire.specs.Grammar.{IsAccepted}
-use Rattle.rtcp_wire.specs.Writing.{written_all}
+use Rattle.rtcp_wire.specs.Puts.{IsPut}
+use Rattle.rtcp_wire.specs.Writing.{written_word, written_sender, written_header, written_all, IsWritable, IsWritableBlock, IsInRange, IsBlockInRange}
 use Rattle.rtcp_members.specs.Tables.{TableValue}
-use Rattle.rtcp_members.specs.Pending.{pending, blocks_of, after_blocks, last_reported}
-use Rattle.rtcp_report.specs.Reports.{Reporter, packets_with}
+use Rattle.rtcp_members.specs.Pending.{EntryRow, blocks_of, after_blocks, last_reported}
+use Rattle.rtcp_report.specs.Reports.{SentValue, Reporter, further_count, further_reports, reports_with}
 use Rattle.rtcp_report.specs.Sizes.{report_of, report_size, reported_rows}
 
--- The octets of a report with these blocks, those of the first `most` pending sources or of all of them, with the
--- table and the cursor after them.
-pub record IsWritten (given : Reporter) (most t : ℕ) (last : Option ℕ) (table : TableValue)
-    (blocks : List ReportBlock) (octets : List ℕ) (after : TableValue) (cursor : Option ℕ) : Type 0 where
-  pub blocks_are : blocks ≡ blocks_of t (take most (pending last table))
-  pub count : length blocks ≡ length (take most (pending last table))
-  pub octets_are : octets ≡ written_all (packets_with given blocks)
-  pub reads_back : IsAccepted octets (packets_with given blocks)
-  pub content : after ≡ after_blocks (take most (pending last table)) table
-  pub cursor_is : cursor ≡ last_reported last (take most (pending last table))
+-- What stands before the blocks of a report (RFC 3550, 6.4.1, 6.4.2).
+abbrev pub written_head : (ssrc : ℕ) → Option SentValue → (count : ℕ) → List ℕ
+written_head ssrc None count = written_header count 201 (4 + 24 * count) ++ written_word ssrc
+written_head ssrc (Some sent) count =
+    written_header count 200 (24 + 24 * count)
+    ++ written_sender
+    (record { ssrc = ssrc; ntp = sent.ntp; rtp = sent.rtp; packets = sent.packets; octets = sent.octets })
+
+-- The table and the cursor are left as after a block of each row. The blocks can be written.
+pub record IsTakenFrom (t : ℕ) (rows : List EntryRow) (last : Option ℕ) (table : TableValue) (cursor : Option ℕ)
+    (after : TableValue) : Type 0 where
+  pub count : length (blocks_of t rows) ≡ length rows
+  pub writable : All IsWritableBlock (blocks_of t rows)
+  pub in_range : All IsBlockInRange (blocks_of t rows)
+  pub content : after ≡ after_blocks rows table
+  pub cursor_is : cursor ≡ last_reported last rows
+
+-- Packets written at their place.
+pub record PutsPackets (packets : List RtcpPacket) (old new : List ℕ) (at end : ℕ) : Type 0 where
+  pub put : IsPut old new at (written_all packets) end
+  pub writable : All IsWritable packets
+  pub in_range : All IsInRange packets
+
+-- the reports with these blocks
+abbrev pub PutsReports : (ssrc : ℕ) → Option SentValue → List ReportBlock → (old new : List ℕ) → (end : ℕ) → Type 0
+PutsReports ssrc sent blocks old new end = PutsPackets (reports_with ssrc sent blocks) old new 0 end
+
+-- a report with these blocks, at most 31, after one of 31, if there are any
+abbrev pub PutsFurther : (ssrc : ℕ) → List ReportBlock → (old new : List ℕ) → (at end : ℕ) → Type 0
+PutsFurther ssrc blocks old new at end =
+    PutsPackets (further_reports ssrc (further_count (31 + length blocks)) blocks) old new at end
 
 -- The octets of a report: those of the first pending sources that fit its limit, or of all of them. The table and the
 -- cursor are left as after the blocks of these.

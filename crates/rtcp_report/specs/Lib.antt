@@ -3,4 +3,3 @@ pub mod Sizes
 pub mod Traced
 pub mod Views
 pub mod Gathered
-pub mod Described

@@ -1,18 +1,18 @@
 //! What a participant sends as it leaves (RFC 3550, 6.3.7, 6.6).
 
-ghost use Rattle.std.specs.Prelude.{◌≡◌, ◌+◌, ◌≤◌, ℕ, All, [], ◌∷◌, length, map};
+ghost use Rattle.std.specs.Prelude.{◌≡◌, ◌+◌, ◌≤◌, ◌<◌, ◌^◌, ℕ, length, take, drop};
 ghost use Rattle.rtcp_wire.specs.Grammar.{IsAccepted};
-ghost use Rattle.rtcp_wire.specs.Values.{rr};
-ghost use Rattle.rtcp_wire.specs.Writing.{written, written_all, IsWritable, IsWritableItem};
-ghost use Rattle.rtcp_wire.specs.WriterViews.{item_ref_of, packet_ref_of};
-ghost use Rattle.rtcp_report.specs.Reports.{bye_of, bye_packet, bye_with, receiver_named};
-ghost use Rattle.rtcp_report.specs.Sizes.{description_size, report_size};
+ghost use Rattle.rtcp_wire.specs.Puts.{IsPut};
+ghost use Rattle.rtcp_wire.specs.Writing.{written, written_all};
+ghost use Rattle.rtcp_report.specs.Reports.{bye_of, bye_packet, receiver_named};
+ghost use Rattle.rtcp_report.specs.Sizes.{report_size};
 
-use crate::compound::first_size;
-use crate::description::Description;
-use crate::writing::compound_of;
+use crate::compound::{copy, first_size};
+use crate::description::put_description;
+use crate::reports::put_receiver_head;
 use arrayvec::ArrayVec;
-use rtcp_wire::{ChunkRef, ItemRef, MAX_COMPOUND, PacketRef};
+use rtcp_wire::layout::{GOODBYE, ID_SIZE};
+use rtcp_wire::{MAX_COMPOUND, put_header, put_word};
 
 /// The octets of a BYE of one source, without a reason.
 const GOODBYE_SIZE: u32 = 8;
@@ -41,8 +41,24 @@ pub fn write_bye(ssrc: u32, cname: &[u8], octets: &mut ArrayVec<u8, MAX_COMPOUND
     ensures small { length octets.new.items ≤ 284 }
     ensures reads_back { IsAccepted octets.new.items (bye_of ssrc cname.now) }
 {
-    let description = Description::new(cname, None);
-    write_bye_with(ssrc, description.items(), octets);
+    let mut room = [0; MAX_COMPOUND];
+    let size = write_bye_into(ssrc, cname, &mut room);
+    copy(&room[..size], octets);
+}
+
+/// Writes the compound of [`bye`] to the start of the caller's octets, and returns how many it has: those after it
+/// are left as they were.
+pub fn write_bye_into(ssrc: u32, cname: &[u8], octets: &mut [u8; MAX_COMPOUND]) -> usize
+    requires { length cname.now ≤ 255 }
+    ensures octets { take result octets.new ≡ written_all (bye_of ssrc cname.now) }
+    ensures size { result ≡ report_size (receiver_named ssrc cname.now) 0 + 8 }
+    ensures small { result ≤ 284 }
+    ensures reads_back { IsAccepted (take result octets.new) (bye_of ssrc cname.now) }
+    ensures rest { drop result octets.new ≡ drop result octets.old }
+{
+    let mut end = put_receiver_head(octets, 0, ssrc, 0);
+    end = put_description(octets, end, ssrc, cname, None);
+    put_goodbye(octets, end, ssrc)
 }
 
 /// The octets of that compound, whatever the SSRC.
@@ -54,38 +70,11 @@ pub fn bye_size(cname: &[u8]) -> u32
     first_size(cname) + GOODBYE_SIZE
 }
 
-/// Writes the compound with a description of these items.
-fn write_bye_with(ssrc: u32, items: &[ItemRef<'_>], octets: &mut ArrayVec<u8, MAX_COMPOUND>)
-    requires writable { All IsWritableItem (map item_ref_of items.now) }
-    requires short { description_size (map item_ref_of items.now) ≤ 268 }
-    ensures octets { octets.new.items ≡ written_all (bye_with ssrc (map item_ref_of items.now)) }
-    ensures reads_back { IsAccepted octets.new.items (bye_with ssrc (map item_ref_of items.now)) }
+/// Writes a BYE of one source at its place. Returns where it ends.
+fn put_goodbye(octets: &mut [u8; MAX_COMPOUND], at: usize, ssrc: u32) -> usize
+    requires { at + 8 ≤ 1472 }
+    ensures { IsPut octets.old octets.new at (written (bye_packet ssrc)) result }
 {
-    let chunks = [ChunkRef {
-        id: ssrc,
-        items: &*items,
-    }];
-    packets_around(ssrc, PacketRef::Sdes { chunks: &chunks }, octets);
-}
-
-/// Writes the compound with this description.
-fn packets_around(ssrc: u32, description: PacketRef<'_>, octets: &mut ArrayVec<u8, MAX_COMPOUND>)
-    requires writable { IsWritable (packet_ref_of description) }
-    requires fits { length (written (packet_ref_of description)) ≤ 268 }
-    ensures octets { octets.new.items ≡ written_all
-        (rr ssrc [] [] ∷ packet_ref_of description.entry ∷ bye_packet ssrc ∷ []) }
-    ensures reads_back { IsAccepted octets.new.items
-        (rr ssrc [] [] ∷ packet_ref_of description.entry ∷ bye_packet ssrc ∷ []) }
-{
-    let ids = [ssrc];
-    let report = PacketRef::Rr {
-        ssrc,
-        blocks: &[],
-        extension: &[],
-    };
-    let bye_packet = PacketRef::Bye {
-        ids: &ids,
-        reason: None,
-    };
-    compound_of(&[report, description, bye_packet], octets);
+    let end = put_header(octets, at, 1, GOODBYE, ID_SIZE);
+    put_word(octets, end, ssrc)
 }

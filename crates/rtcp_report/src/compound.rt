@@ -1,33 +1,19 @@
 //! Compound reports (RFC 3550, 6.1, 6.4, 6.5).
 
-ghost use Rattle.std.specs.Prelude.{◌≡◌, ◌+◌, ◌<◌, ◌≤◌, ℕ, List, [], All, None, length, map};
+ghost use Rattle.std.specs.Prelude.{◌≡◌, ◌+◌, ◌*◌, ◌<◌, ◌≤◌, ℕ, [], None, length, take, drop, option_map};
 ghost use Rattle.std.specs.Option.{ForSome};
-ghost use Rattle.rtcp_wire.specs.Grammar.{IsAccepted};
-ghost use Rattle.rtcp_wire.specs.Values.{ReportBlock};
 ghost use Rattle.rtcp_wire.specs.Writing.{written_all, IsWritableItem};
-ghost use Rattle.rtcp_wire.specs.WriterViews.{item_ref_of};
-ghost use Rattle.rtcp_members.specs.Pending.{after_blocks, first_ssrc, last_reported, pending};
-ghost use Rattle.rtcp_report.specs.Gathered.{IsReport, IsWritten};
-ghost use Rattle.rtcp_report.specs.Reports.{Reporter, packets_with};
-ghost use Rattle.rtcp_report.specs.Sizes.{report_size};
-ghost use Rattle.rtcp_report.specs.Views.{items_of, extra_of, reporter_with, reporter_of};
+ghost use Rattle.rtcp_report.specs.Gathered.{IsReport};
+ghost use Rattle.rtcp_report.specs.Reports.{Reporter, further_count, packets_with};
+ghost use Rattle.rtcp_report.specs.Sizes.{first_report_size};
+ghost use Rattle.rtcp_report.specs.Views.{items_of, extra_of, reporter_of, sent_value};
 
-use crate::description::{Description, description_size};
-use crate::gathering::{Turn, gather};
+use crate::description::{description_size, put_description};
+use crate::reports::{BLOCK_SIZE, BLOCKS_OF_PACKET, RECEIVER_SIZE, SENDER_SIZE, put_reports};
 use crate::sender::{Item, Sender};
-use crate::writing::{BLOCKS_OF_PACKET, write};
 use arrayvec::ArrayVec;
 use rtcp_members::MemberTable;
-use rtcp_wire::{ItemRef, MAX_COMPOUND};
-
-/// The octets of a receiver report without blocks.
-const RECEIVER_SIZE: usize = 8;
-
-/// The octets of a sender report without blocks.
-const SENDER_SIZE: usize = 28;
-
-/// The octets of a block.
-const BLOCK_SIZE: usize = 24;
+use rtcp_wire::MAX_COMPOUND;
 
 /// The compound report of a participant at the moment `t`, in microseconds: at most `limit` octets, which is
 /// from 576 to 1,472.
@@ -79,54 +65,45 @@ pub fn write_report<T: MemberTable>(
     ensures { IsReport (reporter_of sender.now extra.entry) limit t cursor.old (T.content table.old)
         octets.new.items (T.content table.new) cursor.new }
 {
-    let description = Description::new(sender.cname, extra);
-    let items = description.items();
-    let most = most_blocks(sender, items, limit);
-    // Where no block fits, the table is not searched.
-    let first = if most == 0 {
-        None
-    } else {
-        table.next_with_news(*cursor)
-    };
-    if first.is_none() {
-        write(sender, items, &[], octets);
-        return;
-    }
-    write_with_blocks(
-        sender,
-        table,
-        t,
-        cursor,
-        items,
-        Turn { first, most },
-        octets,
-    );
+    let mut room = [0; MAX_COMPOUND];
+    let size = write_report_into(sender, table, t, limit, cursor, extra, &mut room);
+    copy(&room[..size], octets);
 }
 
-/// Writes a report with the blocks of the pending sources, or of as many as there is room for, in place of
-/// what stood in `octets`.
-// Kept out of line, as a report without blocks needs no room for them.
-#[inline(never)]
-fn write_with_blocks<T: MemberTable>(
+/// Writes the compound of [`report`] to the start of the caller's octets, and returns how many it has: those after
+/// it are left as they were. What it takes from the table, and where it leaves the cursor, is as there.
+pub fn write_report_into<T: MemberTable>(
     sender: &Sender<'_>,
     table: &mut T,
     t: u64,
+    limit: u32,
     cursor: &mut Option<u32>,
-    items: &[ItemRef<'_>],
-    turn: Turn,
-    octets: &mut ArrayVec<u8, MAX_COMPOUND>,
-)
-    requires first { turn.first ≡ first_ssrc (pending cursor.old (T.content table.old)) }
-    requires few { turn.most ≤ 60 }
-    requires writable { All IsWritableItem (map item_ref_of items.now) }
-    requires fits { report_size (reporter_with sender.now (map item_ref_of items.now)) turn.most ≤ 1472 }
-    ensures { (blocks : List ReportBlock) × IsWritten
-        (reporter_with sender.now (map item_ref_of items.now)) turn.most t cursor.old (T.content table.old)
-        blocks octets.new.items (T.content table.new) cursor.new }
+    extra: Option<&Item>,
+    octets: &mut [u8; MAX_COMPOUND],
+) -> usize
+    requires least { 576 ≤ limit }
+    requires most { limit ≤ 1472 }
+    requires cname { length sender.now.cname.now ≤ 255 }
+    requires extra { ForSome (extra_of extra) IsWritableItem }
+    ensures report { IsReport (reporter_of sender.now extra.entry) limit t cursor.old (T.content table.old)
+        (take result octets.new) (T.content table.new) cursor.new }
+    ensures small { result ≤ 1472 }
+    ensures rest { drop result octets.new ≡ drop result octets.old }
 {
-    let mut blocks = ArrayVec::new();
-    gather(table, t, cursor, turn, &mut blocks);
-    write(sender, items, blocks.as_slice(), octets);
+    let described = description_size(sender.cname, extra);
+    let most = most_blocks(sender, limit as usize - described);
+    let end = put_reports(sender, table, t, cursor, most, octets);
+    put_description(octets, end, sender.ssrc, sender.cname, extra)
+}
+
+/// Puts a compound in place of what stood in `octets`.
+pub(crate) fn copy(compound: &[u8], octets: &mut ArrayVec<u8, MAX_COMPOUND>)
+    requires { length compound.now ≤ 1472 }
+    ensures { octets.new.items ≡ compound.now }
+{
+    octets.clear();
+    let fits = octets.try_extend_from_slice(compound).is_ok();
+    prove!(fits);
 }
 
 /// The octets of the first compound that a participant with this CNAME, of at most 255 octets, expects to
@@ -138,26 +115,26 @@ pub fn first_size(cname: &[u8]) -> u32
         result ≡ length (written_all (packets_with reporter [])) }
     ensures small { result ≤ 276 }
 {
-    let description = Description::new(cname, None);
-    (RECEIVER_SIZE + description_size(description.items())) as u32
+    (RECEIVER_SIZE + description_size(cname, None)) as u32
 }
 
-/// How many blocks fit the limit: each packet after the first one has a header and an SSRC of its own.
-fn most_blocks(sender: &Sender<'_>, items: &[ItemRef<'_>], limit: u32) -> usize
-    requires writable { All IsWritableItem (map item_ref_of items.now) }
-    requires least { report_size (reporter_with sender.now (map item_ref_of items.now)) 0 ≤ limit }
-    requires most { limit ≤ 1472 }
+/// How many blocks fit so many octets: each packet after the first one has a header and an SSRC of its own.
+fn most_blocks(sender: &Sender<'_>, room: usize) -> usize
+    requires least { first_report_size (option_map sent_value sender.now.sr) ≤ room }
+    requires most { room ≤ 1472 }
     ensures few { result ≤ 60 }
-    ensures fits { report_size (reporter_with sender.now (map item_ref_of items.now)) result ≤ limit }
-    ensures greatest { limit
-        < report_size (reporter_with sender.now (map item_ref_of items.now)) (result + 1) }
+    ensures fits { first_report_size (option_map sent_value sender.now.sr) + 24 * result
+        + 8 * further_count result ≤ room }
+    ensures greatest { room
+        < first_report_size (option_map sent_value sender.now.sr) + 24 * (result + 1)
+        + 8 * further_count (result + 1) }
 {
     let first = if sender.sr.is_some() {
         SENDER_SIZE
     } else {
         RECEIVER_SIZE
     };
-    let room = limit as usize - first - description_size(items);
+    let room = room - first;
     if room / BLOCK_SIZE <= BLOCKS_OF_PACKET {
         room / BLOCK_SIZE
     } else {

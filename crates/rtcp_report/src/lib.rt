@@ -16,11 +16,10 @@
 mod byes;
 mod compound;
 mod description;
-mod gathering;
 pub mod laws;
+mod reports;
 mod sender;
-mod writing;
 
-pub use byes::{bye, bye_size, write_bye};
-pub use compound::{first_size, report, write_report};
+pub use byes::{bye, bye_size, write_bye, write_bye_into};
+pub use compound::{first_size, report, write_report, write_report_into};
 pub use sender::{Item, Sender, SrPart};
