@@ -1,7 +1,7 @@
 //! What a participant answers.
 
-ghost use Rattle.std.specs.Prelude.{◌≡◌, ◌≤◌, Some, length, option_map};
-ghost use Rattle.rtcp_engine.specs.state.Views.{LeavesRest, answer_value, out_in, out_written, out_value, reply_value, size_written};
+ghost use Rattle.std.specs.Prelude.{◌≡◌, ◌≤◌, option_map};
+ghost use Rattle.rtcp_engine.specs.state.Views.{answer_value, out_in, out_written, out_value, reply_value, size_written};
 
 use crate::refusal::Refusal;
 use arrayvec::ArrayVec;
@@ -63,25 +63,6 @@ pub struct Written {
     pub kind: OutKind,
     /// How many octets it has: at most the limit of the configuration.
     pub size: usize,
-}
-
-impl Written {
-    /// Writes a compound to the start of the octets.
-    pub(crate) fn into_octets(
-        kind: OutKind,
-        compound: &[u8],
-        octets: &mut [u8; MAX_COMPOUND],
-    ) -> Written
-        requires { length compound.now ≤ 1472 }
-        ensures out { out_in octets.new (Some result) ≡ Some (record { kind = kind; octets = compound.now }) }
-        ensures leaves { LeavesRest octets.old octets.new (Some result) }
-    {
-        octets[..compound.len()].copy_from_slice(compound);
-        Written {
-            kind,
-            size: compound.len(),
-        }
-    }
 }
 
 /// Who is there, and when to ask again.

@@ -10,9 +10,8 @@ ghost use Rattle.rtcp_engine.specs.state.Views.{LeavesRest, out_in};
 
 use super::Presence;
 use crate::step::{OutKind, Written};
-use arrayvec::ArrayVec;
 use rtcp_members::MemberTable;
-use rtcp_report::{bye_size, write_bye};
+use rtcp_report::{bye_size, write_bye_into};
 use rtcp_timer::{Average, Load, Verdict, interval};
 use rtcp_wire::MAX_COMPOUND;
 
@@ -31,9 +30,10 @@ impl<T: MemberTable> Presence<T> {
         ensures leaves { LeavesRest octets.old octets.new (Some result) }
         ensures small { result.size ≤ 284 }
     {
-        let mut compound = ArrayVec::new();
-        write_bye(self.config.ssrc, &self.config.cname, &mut compound);
-        Written::into_octets(OutKind::Bye, compound.as_slice(), octets)
+        Written {
+            kind: OutKind::Bye,
+            size: write_bye_into(self.config.ssrc, &self.config.cname, octets),
+        }
     }
 
     /// Begins to back off at the moment of the latest call, with a random word for the draw.

@@ -1,6 +1,6 @@
 //! What a participant does as time passes (RFC 3550, 6.3.4 to 6.3.6).
 
-ghost use Rattle.std.specs.Prelude.{◌≡◌, ◌≤◌, ◌<◌, ◌-◌, ◌^◌, ◌*◌, length, Option, Some, IsTrue, option_map};
+ghost use Rattle.std.specs.Prelude.{◌≡◌, ◌≤◌, ◌<◌, ◌-◌, ◌^◌, ◌*◌, Option, Some, IsTrue, option_map, take, drop};
 ghost use Rattle.rtcp_wire.specs.Writing.{written_all};
 ghost use Rattle.rtcp_members.specs.Traces.{horizons_at};
 ghost use Rattle.rtcp_members.specs.Pending.{after_blocks, last_reported as last_of};
@@ -20,9 +20,8 @@ use crate::own::OwnStream;
 use crate::pace::slowed;
 use crate::step::{Brought, OutKind, Written};
 use crate::table::check;
-use arrayvec::ArrayVec;
 use rtcp_members::MemberTable;
-use rtcp_report::{Sender, write_report};
+use rtcp_report::{Sender, write_report_into};
 use rtcp_timer::{Load, Verdict, interval, minimum};
 use rtcp_wire::MAX_COMPOUND;
 
@@ -203,10 +202,12 @@ impl<T: MemberTable> Presence<T> {
         ensures new { Does self.old self.new (λ setup. reported setup self.old.latest w2) }
         ensures leaves { LeavesRest octets.old octets.new (Some result) }
     {
-        let mut compound = ArrayVec::new();
-        self.make_report(&mut compound);
+        let size = self.make_report(octets);
         self.draw_next(w2);
-        Written::into_octets(OutKind::Report, compound.as_slice(), octets)
+        Written {
+            kind: OutKind::Report,
+            size,
+        }
     }
 
     /// Draws the next interval.
@@ -218,12 +219,14 @@ impl<T: MemberTable> Presence<T> {
         self.schedule.sent(self.latest, td, w2, members);
     }
 
-    /// Writes the report: the next one goes on after its last source.
-    fn make_report(&mut self, octets: &mut ArrayVec<u8, MAX_COMPOUND>)
+    /// Writes the report, and returns how many octets it has: the next one goes on after its last source.
+    fn make_report(&mut self, octets: &mut [u8; MAX_COMPOUND]) -> usize
         requires reports { self.old.reports < self.old.calls }
         ensures report { (outcome : Outcome) → Agrees self.old outcome →
-            octets.new.items ≡ report_octets self.old.setup self.old.latest outcome }
+            take result octets.new ≡ report_octets self.old.setup self.old.latest outcome }
         ensures new { Does self.old self.new (λ setup. with_report setup self.old.latest) }
+        ensures small { result ≤ 1472 }
+        ensures rest { drop result octets.new ≡ drop result octets.old }
     {
         let number = self.reports + 1;
         let report = NumberedReport {
@@ -232,10 +235,11 @@ impl<T: MemberTable> Presence<T> {
             number,
             moment: self.latest,
         };
-        write_numbered(&report, &mut self.table, &mut self.cursor, octets);
+        let size = write_numbered(&report, &mut self.table, &mut self.cursor, octets);
         self.reports = number;
-        self.average.add(octets.len() as u32);
+        self.average.add(size as u32);
         self.own.reported();
+        size
     }
 }
 
@@ -249,18 +253,19 @@ struct NumberedReport<'a> {
     moment: u64,
 }
 
-/// Writes a report. The cursor is left at its last source.
+/// Writes a report, and returns how many octets it has. The cursor is left at its last source.
 fn write_numbered<T: MemberTable>(
     report: &NumberedReport<'_>,
     table: &mut T,
     cursor: &mut Option<u32>,
-    octets: &mut ArrayVec<u8, MAX_COMPOUND>,
-)
+    octets: &mut [u8; MAX_COMPOUND],
+) -> usize
     requires usable { IsUsable (setup_of report.now.config.now) }
     requires some { 0 < report.now.number }
-    ensures octets { octets.new.items ≡ written_all (report_of (reporter_of report.now)
+    ensures octets { take result octets.new ≡ written_all (report_of (reporter_of report.now)
         report.now.config.now.limit report.now.moment cursor.old (T.content table.old)) }
-    ensures within { length octets.new.items ≤ 1472 }
+    ensures small { result ≤ 1472 }
+    ensures rest { drop result octets.new ≡ drop result octets.old }
     ensures content { T.content table.new ≡ after_blocks (reported_rows (reporter_of report.now)
         report.now.config.now.limit cursor.old (T.content table.old)) (T.content table.old) }
     ensures cursor { cursor.new ≡ last_of cursor.old (reported_rows (reporter_of report.now)
@@ -276,5 +281,5 @@ fn write_numbered<T: MemberTable>(
     };
     let extra = extra_item(&config.extras, report.number);
     let (now, limit) = (report.moment, config.limit);
-    write_report(&sender, table, now, limit, cursor, extra, octets);
+    write_report_into(&sender, table, now, limit, cursor, extra, octets)
 }
