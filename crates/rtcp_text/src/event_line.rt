@@ -98,8 +98,7 @@ pub fn read_event<'a>(line: &[u8], buffers: &'a mut EventBuffers) -> Result<Even
         LineKind::Ticked => Ok(read_tick(fields)?),
         LineKind::Left => Ok(read_leave(fields)?),
         LineKind::Configured => {
-            let (now, settings) = read_configuring(fields)?;
-            buffers.settings = settings;
+            let now = read_configuring(fields, &mut buffers.settings)?;
             Ok(Event::Configure {
                 now,
                 settings: &buffers.settings,
@@ -253,10 +252,13 @@ fn read_leave(mut fields: Fields<'_>) -> Result<Event<'static>, LineFault>
     })
 }
 
-/// The moment and the settings of a line that gives settings.
-fn read_configuring(mut fields: Fields<'_>) -> Result<(u64, Settings), LineFault>
-    ensures given { IfOk result (λ given.
-        configuring (fields_left fields.entry.rest) ≡ Ok (settings_given given.0 (settings_value given.1))) }
+/// The moment of a line that gives settings, which go into `settings`.
+// Out of line: no other line makes room for settings.
+#[cold]
+#[inline(never)]
+fn read_configuring(mut fields: Fields<'_>, settings: &mut Settings) -> Result<u64, LineFault>
+    ensures given { IfOk result (λ now. configuring (fields_left fields.entry.rest)
+        ≡ Ok (settings_given now (settings_value settings.new))) }
     ensures fault { IfErr result (λ fault. configuring (fields_left fields.entry.rest) ≡ Err fault) }
 {
     let (Some(moment), Some(senders), Some(others), Some(clocks), Some(items), None) = (
@@ -270,13 +272,13 @@ fn read_configuring(mut fields: Fields<'_>) -> Result<(u64, Settings), LineFault
         return Err(LineFault::Words);
     };
     let now = read_moment(moment)?;
-    let settings = Settings {
+    *settings = Settings {
         sender_bw: read_short_decimal(senders).ok_or(LineFault::Number)?,
         receiver_bw: read_short_decimal(others).ok_or(LineFault::Number)?,
         clocks: read_clocks(clocks).ok_or(LineFault::Number)?,
         extras: read_items(items).ok_or(LineFault::Hex)?,
     };
-    Ok((now, settings))
+    Ok(now)
 }
 
 /// The event of a source that is gone.
