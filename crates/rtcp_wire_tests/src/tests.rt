@@ -9,6 +9,7 @@ mod damage;
 mod facts;
 mod rtp;
 mod samples;
+mod sole;
 mod types;
 mod writing;
 
