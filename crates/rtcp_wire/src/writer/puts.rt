@@ -1,7 +1,7 @@
 //! Parts of packets, written in their places among the caller's octets. A packet is written from its end: the body
 //! first, then the header, which says how long the body is. Each function returns where its part ends.
 
-ghost use Rattle.std.specs.Prelude.{◌≡◌, ◌+◌, ◌≤◌, ◌<◌, ◌^◌, length};
+ghost use Rattle.std.specs.Prelude.{◌≡◌, ◌+◌, ◌≤◌, ◌<◌, ◌^◌, ◌∷◌, [], length};
 ghost use Rattle.byteorder.specs.Endian.{big_bytes};
 ghost use Rattle.rtcp_wire.specs.Puts.{IsPut};
 ghost use Rattle.rtcp_wire.specs.Views.{block_value};
@@ -62,13 +62,18 @@ pub fn put_item(octets: &mut [u8; MAX_COMPOUND], at: usize, kind: u8, text: &[u8
 }
 
 /// Writes a number of 32 bits, an identifier or another.
+// Octet by octet, which the compiler joins: a copy asks first whether the two slices overlap.
 #[inline(always)]
 pub fn put_word(octets: &mut [u8; MAX_COMPOUND], at: usize, number: u32) -> usize
     requires { at + 4 ≤ 1472 }
     ensures put { IsPut octets.old octets.new at (written_word number) result }
     ensures in_range { number < 2 ^ 32 }
 {
-    put_octets(octets, at, &number.to_be_bytes())
+    let word = number.to_be_bytes();
+    let mut end = put_octet(octets, at, word[0]);
+    end = put_octet(octets, end, word[1]);
+    end = put_octet(octets, end, word[2]);
+    put_octet(octets, end, word[3])
 }
 
 /// Writes a number of 64 bits.
@@ -79,6 +84,15 @@ pub fn put_long(octets: &mut [u8; MAX_COMPOUND], at: usize, number: u64) -> usiz
     ensures in_range { number < 2 ^ 64 }
 {
     put_octets(octets, at, &number.to_be_bytes())
+}
+
+#[inline(always)]
+fn put_octet(octets: &mut [u8; MAX_COMPOUND], at: usize, octet: u8) -> usize
+    requires { at < 1472 }
+    ensures { IsPut octets.old octets.new at (octet ∷ []) result }
+{
+    octets[at] = octet;
+    at + 1
 }
 
 #[inline(always)]
