@@ -37,14 +37,15 @@ fn apply_sole<T: MemberTable>(table: &mut T, source: SoleSource, t: u64) -> bool
     match (source.timestamps, source.is_named) {
         (Some((ntp, rtp)), true) => apply_introduction(table, source.ssrc, ntp, rtp, t),
         (Some((ntp, rtp)), false) => apply_one(table, Fact::Told(source.ssrc, ntp, rtp), t),
-        (None, true) => apply_one(table, Fact::Named(source.ssrc), t),
+        (None, true) => apply_name(table, source.ssrc, t),
         (None, false) => apply_one(table, Fact::Heard(source.ssrc), t),
     }
 }
 
-/// Applies a sender report and a CNAME of one source. Each kind of fact is known here, and the second finds the entry
-/// of the first at once.
-#[inline(never)]
+/// Applies a sender report and a CNAME of one source.
+// Inlined, as `apply_name`: each kind of fact is known here, and none is written to memory. The second fact finds the
+// entry of the first by its hint.
+#[inline(always)]
 fn apply_introduction<T: MemberTable>(table: &mut T, ssrc: u32, ntp: u64, rtp: u32, t: u64) -> bool
     ensures content { T.content table.new
         ≡ after_facts (Told ssrc ntp rtp ∷ Named ssrc ∷ []) t (T.content table.old) }
@@ -53,6 +54,15 @@ fn apply_introduction<T: MemberTable>(table: &mut T, ssrc: u32, ntp: u64, rtp: u
     let by_clock = table.apply_fact(Fact::Told(ssrc, ntp, rtp), t).moved;
     let by_name = table.apply_fact(Fact::Named(ssrc), t).moved;
     by_clock | by_name
+}
+
+/// Applies the CNAME of a source.
+#[inline(always)]
+fn apply_name<T: MemberTable>(table: &mut T, ssrc: u32, t: u64) -> bool
+    ensures content { T.content table.new ≡ after_facts (Named ssrc ∷ []) t (T.content table.old) }
+    ensures moved { result ≡ facts_move (Named ssrc ∷ []) t (T.content table.old) }
+{
+    table.apply_fact(Fact::Named(ssrc), t).moved
 }
 
 /// Applies what these packets say, and returns whether that changed who is a member or who sends.
