@@ -113,14 +113,16 @@ int main(void)
     static const struct {
         const char *name;
         void (*call)(void);
-    } calls[] = {{"new", begin}, {"arrive", arrive}, {"sent_rtp", send_packet}, {"tick", tick},
-                 {"configure", configure}, {"forget", forget}, {"change", collide}, {"leave", leave}};
+        size_t limit;
+    } calls[] = {{"new", begin, 8192}, {"arrive", arrive, 1024}, {"sent_rtp", send_packet, 1024},
+                 {"tick", tick, 1024}, {"configure", configure, 8192}, {"forget", forget, 1024},
+                 {"change", collide, 1024}, {"leave", leave, 1024}};
     const size_t none = taken(nothing);
     int is_more = 0;
     for (size_t at = 0; at < sizeof calls / sizeof *calls; at++) {
         const size_t octets_taken = taken(calls[at].call) - none;
         printf("stack of %s: %zu octets\n", calls[at].name, octets_taken);
-        is_more |= octets_taken > 8192;
+        is_more |= octets_taken > calls[at].limit;
     }
     return is_more || jalwedd_free(&session) != JALWEDD_TAKEN;
 }
