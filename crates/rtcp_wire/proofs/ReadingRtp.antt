@@ -2,8 +2,9 @@
 use Rattle.std.proofs.Common.{◌≡◌, ◌↔◌, ℕ, ◌*◌, ◌<◌, ◌≤◌, Bool, true, false, List, length, take, drop, sym, ap, subst, ◌∙◌, arith}
 use Rattle.std.proofs.lemmas.List.{drop-drop, length-drop, length-take-le}
 use Rattle.byteorder.specs.Endian.{big_number}
-use Rattle.rtcp_wire.specs.declared.rtp.fault.RtpFault.TheVariants.{Extension, Padding}
-use Rattle.rtcp_wire.specs.RtpHeads.{RtpValue, rtp_version_of, has_padding, has_extension, csrc_count_of, marker_of, payload_type_of, IsReserved, extension_size, IsRtpHead, lists_size, after_csrcs, without_extension, after_extension, csrcs_in, IsRtpFault, IsPadded, without_padding}
+use Rattle.rtcp_wire.specs.declared.rtp.fault.RtpFault.{RtpFault}
+use Rattle.rtcp_wire.specs.declared.rtp.fault.RtpFault.TheVariants.{Short, Version, PayloadType, Extension, Padding}
+use Rattle.rtcp_wire.specs.RtpHeads.{RtpValue, rtp_version_of, has_padding, has_extension, csrc_count_of, marker_of, payload_type_of, IsReserved, extension_size, IsRtpHead, lists_size, after_csrcs, without_extension, after_extension, csrcs_in, IsRtpFault, IsPadded, without_padding, HoldsPayload, FindsAround}
 use Rattle.rtcp_wire.proofs.RtpLists.{words_joined}
 use Rattle.rtcp_wire.proofs.RtpHeading.{values_equal, head_in, head_made}
 use Rattle.rtcp_wire.proofs.RtpFaults.{is_extension, is_padding, not_padded}
@@ -61,58 +62,58 @@ pub record IsBeforeExtension (octets rest : List ℕ) (extended : Bool) : Type 0
   pub following : rest ≡ after_csrcs octets
 
 -- no room for the extension
-pub extension_exit : (octets rest : List ℕ) (extended : Bool) → IsBeforeExtension octets rest extended →
+extension_exit : (octets rest : List ℕ) (extended : Bool) → IsBeforeExtension octets rest extended →
     extended ≡ true → length rest < extension_size rest → IsRtpFault octets Extension
 extension_exit octets rest extended h set few =
     is_extension octets h.room h.version h.not_reserved
     (sym h.bit ∙ set, subst (λ (t : List ℕ). length t < extension_size t) h.following few)
 
--- The extension was passed too, and this is left.
-pub record IsBeforePadding (octets rest : List ℕ) (padded : Bool) : Type 0 where
-  pub room : lists_size octets ≤ length octets
-  pub version : rtp_version_of octets ≡ 2
-  pub not_reserved : IsReserved (payload_type_of octets) → ⊥
-  pub extension : has_extension octets ≡ true → extension_size (after_csrcs octets) ≤ length (after_csrcs octets)
-  pub bit : padded ≡ has_padding octets
-  pub following : rest ≡ after_extension octets
+-- The extension has room, where there is one.
+extension_fits : (octets rest : List ℕ) (extended : Bool) → IsBeforeExtension octets rest extended →
+    (extended ≡ true → extension_size rest ≤ length rest) → has_extension octets ≡ true →
+    extension_size (after_csrcs octets) ≤ length (after_csrcs octets)
+extension_fits octets rest extended h room set =
+    subst (λ (t : List ℕ). extension_size t ≤ length t) h.following (room (h.bit ∙ set))
 
-pub extension_passed : (octets rest left : List ℕ) (extended padded : Bool) → IsBeforeExtension octets rest extended →
-    padded ≡ has_padding octets → left ≡ without_extension extended rest →
-    (extended ≡ true → extension_size rest ≤ length rest)
-    → IsBeforePadding octets left padded
-extension_passed octets rest left extended padded h bit is room = record {
-  room = h.room;
-  version = h.version;
-  not_reserved = h.not_reserved;
-  extension = λ set. subst (λ (t : List ℕ). extension_size t ≤ length t) h.following (room (h.bit ∙ set));
-  bit = bit;
-  following = is ∙ ap (λ (x : Bool). without_extension x rest) h.bit
-      ∙ ap (λ (t : List ℕ). without_extension (has_extension octets) t) h.following;
-}
+-- what follows it
+extension_passed : (octets rest : List ℕ) (extended : Bool) → IsBeforeExtension octets rest extended →
+    without_extension extended rest ≡ after_extension octets
+extension_passed octets rest extended h =
+    ap (λ (x : Bool). without_extension x rest) h.bit
+    ∙ ap (λ (t : List ℕ). without_extension (has_extension octets) t) h.following
 
--- no padding that is counted right
-pub padding_exit : (octets rest : List ℕ) (padded : Bool) → IsBeforePadding octets rest padded → padded ≡ true →
-    (IsPadded rest → ⊥) → IsRtpFault octets Padding
-padding_exit octets rest padded h set bad =
-    is_padding octets h.room h.version h.not_reserved h.extension
-    (sym h.bit ∙ set, not_padded (after_extension octets) (subst (λ (t : List ℕ). IsPadded t → ⊥) h.following bad))
+-- What is wrong with the extension or the padding is the packet's fault.
+pub around_exit : (octets rest : List ℕ) (extended padded : Bool) (fault : RtpFault) →
+    IsBeforeExtension octets rest extended → padded ≡ has_padding octets → FindsAround fault extended padded rest →
+    IsRtpFault octets fault
+around_exit octets rest extended padded Short h bit found = absurd found
+around_exit octets rest extended padded Version h bit found = absurd found
+around_exit octets rest extended padded PayloadType h bit found = absurd found
+around_exit octets rest extended padded Extension h bit found = extension_exit octets rest extended h found.0 found.1
+around_exit octets rest extended padded Padding h bit found =
+    is_padding octets h.room h.version h.not_reserved (extension_fits octets rest extended h found.0) (
+      sym bit ∙ found.1,
+      not_padded (after_extension octets)
+          (subst (λ (t : List ℕ). IsPadded t → ⊥) (extension_passed octets rest extended h) found.2),
+    )
 
--- the packet, where its padding was passed
-pub head_read : (octets rest : List ℕ) (padded : Bool) (head : RtpValue) → IsBeforePadding octets rest padded →
-    (padded ≡ true → IsPadded rest)
+-- the packet, where its payload was found
+pub head_read : (octets rest : List ℕ) (extended padded : Bool) (head : RtpValue) →
+    IsBeforeExtension octets rest extended → padded ≡ has_padding octets →
+    HoldsPayload extended padded rest head.payload
     → head.payload_type ≡ payload_type_of octets → head.marker ≡ marker_of octets →
     head.sequence ≡ big_number 2 (drop 2 octets) → head.timestamp ≡ big_number 4 (drop 4 octets) →
     head.ssrc ≡ big_number 4 (drop 8 octets)
-    → head.csrcs ≡ csrcs_in (take (4 * csrc_count_of octets) (drop 12 octets)) →
-    head.payload ≡ without_padding padded rest → IsRtpHead octets head
-head_read octets rest padded head h counted kind marker sequence timestamp ssrc sources is =
+    → head.csrcs ≡ csrcs_in (take (4 * csrc_count_of octets) (drop 12 octets)) → IsRtpHead octets head
+head_read octets rest extended padded head h bit holds kind marker sequence timestamp ssrc sources =
+    let left : without_extension extended rest ≡ after_extension octets = extension_passed octets rest extended h in
     head_made octets head (record {
       room = h.room;
       version = h.version;
       not_reserved = h.not_reserved;
-      extension = h.extension;
-      padding = λ set. subst IsPadded h.following (counted (h.bit ∙ set));
+      extension = extension_fits octets rest extended h holds.extension;
+      padding = λ set. subst IsPadded left (holds.padding (bit ∙ set));
       says = values_equal head (head_in octets) kind marker sequence timestamp ssrc sources
-          (is ∙ ap (λ (x : Bool). without_padding x rest) h.bit
-          ∙ ap (λ (t : List ℕ). without_padding (has_padding octets) t) h.following);
+          (holds.is ∙ ap (λ (x : Bool). without_padding x (without_extension extended rest)) bit
+          ∙ ap (λ (t : List ℕ). without_padding (has_padding octets) t) left);
     })

@@ -149,3 +149,17 @@ IsPadded octets = (last_of octets ≢ 0) × (last_of octets ≤ length octets)
 abbrev pub without_padding : Bool → List ℕ → List ℕ
 without_padding true octets = take (length octets - last_of octets) octets
 without_padding false octets = octets
+
+-- Where their bits are set, an extension begins the octets and padding ends them: this is what stands between.
+pub record HoldsPayload (extended padded : Bool) (octets payload : List ℕ) : Type 0 where
+  pub is : payload ≡ without_padding padded (without_extension extended octets)
+  pub extension : extended ≡ true → extension_size octets ≤ length octets
+  pub padding : padded ≡ true → IsPadded (without_extension extended octets)
+
+-- or this is wrong with them
+abbrev pub FindsAround : RtpFault → (extended padded : Bool) → List ℕ → Type 0
+FindsAround Extension extended padded octets = (extended ≡ true) × (length octets < extension_size octets)
+FindsAround Padding extended padded octets =
+    (extended ≡ true → extension_size octets ≤ length octets) × (padded ≡ true)
+    × (IsPadded (without_extension extended octets) → ⊥)
+FindsAround _ extended padded octets = ⊥

@@ -2,7 +2,7 @@
 
 ghost use Rattle.std.specs.Prelude.{◌≡◌, ◌↔◌, ◌+◌, ◌<◌, ◌≤◌, if◌then◌else◌, length, IfOk, IsOkAnd, Err, MatchResult, true};
 ghost use Rattle.rtcp_wire.specs.Placed.{StandsIn};
-ghost use Rattle.rtcp_wire.specs.RtpHeads.{RtpValue, IsReserved, IsRtpHead, IsRtpFault, extension_size, without_extension, IsPadded, without_padding, has_padding, last_of};
+ghost use Rattle.rtcp_wire.specs.RtpHeads.{RtpValue, IsReserved, IsRtpHead, IsRtpFault, extension_size, without_extension, IsPadded, without_padding, has_padding, last_of, HoldsPayload, FindsAround};
 ghost use Rattle.rtcp_wire.specs.declared.rtp.fault.RtpFault.{RtpFault as Fault};
 
 use crate::ids::Ids;
@@ -94,8 +94,7 @@ impl<'a> RtpHead<'a> {
             return Err(RtpFault::PayloadType);
         }
         let csrcs = reader.take(csrcs_size);
-        let rest = unextended(reader.rest(), fixed.has_extension)?;
-        let payload = unpadded(rest, fixed.has_padding)?;
+        let payload = payload_in(reader.rest(), fixed.has_extension, fixed.has_padding)?;
         Ok(RtpHead {
             marker: fixed.marker,
             payload_type: fixed.payload_type,
@@ -187,6 +186,20 @@ fn is_reserved(payload_type: u8) -> bool
     ensures { (result ≡ true) ↔ IsReserved payload_type }
 {
     payload_type >= FIRST_RESERVED && payload_type <= LAST_RESERVED
+}
+
+/// What stands between the header extension and the padding (RFC 3550, 5.3.1 and 5.1). Most packets have neither, which
+/// is one test.
+fn payload_in(octets: &[u8], has_extension: bool, has_padding: bool) -> Result<&[u8], RtpFault>
+    ensures { MatchResult result
+        (λ payload. HoldsPayload has_extension has_padding octets.now payload.now)
+        (λ fault. FindsAround fault has_extension has_padding octets.now) }
+{
+    if !(has_extension | has_padding) {
+        return Ok(octets);
+    }
+    let rest = unextended(octets, has_extension)?;
+    unpadded(rest, has_padding)
 }
 
 /// What follows the header extension (RFC 3550, 5.3.1), where there is one.

@@ -2,12 +2,13 @@ use Rattle.std.proofs.Common.{◌≡◌, ◌*◌, ◌<◌, ◌≤◌, ◌∙◌,
 use Rattle.std.proofs.lemmas.Result.{err_from_is_err_and}
 use Rattle.std.proofs.lemmas.List.{length-drop}
 use Rattle.byteorder.specs.Endian.{big_number}
-use Rattle.rtcp_wire.specs.declared.rtp.fault.RtpFault.TheVariants.{Short, Version, PayloadType, Extension, Padding}
-use Rattle.rtcp_wire.specs.RtpHeads.{RtpValue, rtp_version_of, has_padding, has_extension, csrc_count_of, marker_of, payload_type_of, IsReserved, IsRtpHead, IsRtpFault, csrcs_in, lists_size}
+use Rattle.rtcp_wire.specs.declared.rtp.fault.RtpFault.{RtpFault}
+use Rattle.rtcp_wire.specs.declared.rtp.fault.RtpFault.TheVariants.{Short, Version, PayloadType}
+use Rattle.rtcp_wire.specs.RtpHeads.{RtpValue, rtp_version_of, has_padding, has_extension, csrc_count_of, marker_of, payload_type_of, IsReserved, IsRtpHead, IsRtpFault, csrcs_in, lists_size, FindsAround}
 use Rattle.rtcp_wire.proofs.RtpFaults.{same_fault, one_head, one_fault, never_both, is_short, is_version, is_payload_type}
-use Rattle.rtcp_wire.proofs.ReadingRtp.{HasRoom, has_room, after_list, list_taken, few_csrcs, free_type, IsBeforeExtension, extension_exit, IsBeforePadding, extension_passed, padding_exit, head_read}
+use Rattle.rtcp_wire.proofs.ReadingRtp.{HasRoom, has_room, after_list, list_taken, few_csrcs, free_type, IsBeforeExtension, around_exit, head_read}
 use Rattle.rtcp_wire.proofs.rtp.head.RtpHead.read.Goals as goal
-use Rattle.rtcp_wire.proofs.rtp.head.RtpHead.read.Goals.{After-left, After-rest, In_ok-rest}
+use Rattle.rtcp_wire.proofs.rtp.head.RtpHead.read.Goals.{After-left, After-rest}
 
 -- ---- How far the reader has come
 
@@ -38,16 +39,6 @@ before_extension c room =
       following = c.rest.ensures ∙ c.take-csrcs.ensures.rest ∙ after_list octets c.take_fixed-fixed.new.reader
           (4 * c.from-csrcs_size.result) room;
     }
-
--- And so was the extension.
-before_padding : (c : In_ok-rest) →
-    IsBeforeExtension c.args.octets.now c.rest.result.now c.take_fixed-fixed.result.has_extension
-    → IsBeforePadding c.args.octets.now c.in_ok-rest.rest.now c.take_fixed-fixed.result.has_padding
-before_padding c before =
-    extension_passed c.args.octets.now c.rest.result.now c.in_ok-rest.rest.now c.take_fixed-fixed.result.has_extension
-    c.take_fixed-fixed.result.has_padding before
-    (c.take_fixed-fixed.ensures.has_padding ∙ ap has_padding c.new-reader.ensures) c.in_ok-rest.ensures.0
-    c.in_ok-rest.ensures.1
 
 -- ---- Fewer octets than are counted
 
@@ -95,56 +86,35 @@ returns-then-is_reserved-clause-finds c =
     ∙ c.if-fixed-ne-VERSION.false) reserved in
     λ fault found. ap Err (one_fault octets PayloadType fault first found)
 
--- ---- No room for the extension
+-- ---- What is wrong with the extension or the padding
 
-no_extension : (c : goal.After-from_residual) → IsRtpFault c.args.octets.now Extension
-no_extension c =
+found_around : (c : goal.After-from_residual) →
+    (fault : RtpFault) × (c.from_residual.result ≡ Err fault) × IsRtpFault c.args.octets.now fault
+found_around c =
     let octets = c.args.octets.now in
-    let room = begun (goal.at.returns-in_err-rest-clause-refused c).After-left c.if-left-csrcs_size.false in
-    let before = before_extension (goal.at.returns-in_err-rest-clause-refused c).After-rest room in
-    extension_exit octets c.rest.result.now c.take_fixed-fixed.result.has_extension before c.in_err-rest.ensures.1
-    c.in_err-rest.ensures.2
-
-gives_extension : (c : goal.After-from_residual) → c.from_residual.result ≡ Err Extension
-gives_extension c = let p = err_from_is_err_and c.from_residual.result c.from_residual.ensures.1 in
-    p.1 ∙ ap Err (p.2 ∙ c.in_err-rest.ensures.0)
-
-pub returns-in_err-rest-clause-refused : goal.returns-in_err-rest-clause-refused
-returns-in_err-rest-clause-refused c = λ fault same. same_fault c.args.octets.now Extension fault (no_extension c)
-    (sym (gives_extension c) ∙ same)
-
-pub returns-in_err-rest-clause-reads : goal.returns-in_err-rest-clause-reads
-returns-in_err-rest-clause-reads c = λ head h. absurd (never_both c.args.octets.now head Extension h (no_extension c))
-
-pub returns-in_err-rest-clause-finds : goal.returns-in_err-rest-clause-finds
-returns-in_err-rest-clause-finds c = λ fault found. gives_extension c
-    ∙ ap Err (one_fault c.args.octets.now Extension fault (no_extension c) found)
-
--- ---- Padding that is not counted right
-
-no_padding : (c : goal.After-from_residual-in_err-payload) → IsRtpFault c.args.octets.now Padding
-no_padding c =
-    let octets = c.args.octets.now in
+    let extended = c.take_fixed-fixed.result.has_extension in
+    let padded = c.take_fixed-fixed.result.has_padding in
     let room = begun (goal.at.returns-in_err-payload-clause-refused c).After-left c.if-left-csrcs_size.false in
     let before = before_extension (goal.at.returns-in_err-payload-clause-refused c).After-rest room in
-    let passed = before_padding (goal.at.returns-in_err-payload-clause-refused c).In_ok-rest before in
-    padding_exit octets c.in_ok-rest.rest.now c.take_fixed-fixed.result.has_padding passed c.in_err-payload.ensures.1
-    c.in_err-payload.ensures.2
-
-gives_padding : (c : goal.After-from_residual-in_err-payload) → c.from_residual-in_err-payload.result ≡ Err Padding
-gives_padding c = let p = err_from_is_err_and c.from_residual-in_err-payload.result
-    c.from_residual-in_err-payload.ensures.1 in p.1 ∙ ap Err (p.2 ∙ c.in_err-payload.ensures.0)
+    let given = err_from_is_err_and c.from_residual.result c.from_residual.ensures.1 in
+    let found = subst (λ f. FindsAround f extended padded c.rest.result.now) (sym given.2) c.in_err-payload.ensures in (
+      given.0,
+      given.1,
+      around_exit octets c.rest.result.now extended padded given.0 before
+          (c.take_fixed-fixed.ensures.has_padding ∙ ap has_padding c.new-reader.ensures) found,
+    )
 
 pub returns-in_err-payload-clause-refused : goal.returns-in_err-payload-clause-refused
-returns-in_err-payload-clause-refused c = λ fault same. same_fault c.args.octets.now Padding fault (no_padding c)
-    (sym (gives_padding c) ∙ same)
+returns-in_err-payload-clause-refused c = λ fault same. let found = found_around c in
+    same_fault c.args.octets.now found.0 fault found.2 (sym found.1 ∙ same)
 
 pub returns-in_err-payload-clause-reads : goal.returns-in_err-payload-clause-reads
-returns-in_err-payload-clause-reads c = λ head h. absurd (never_both c.args.octets.now head Padding h (no_padding c))
+returns-in_err-payload-clause-reads c = λ head h. let found = found_around c in
+    absurd (never_both c.args.octets.now head found.0 h found.2)
 
 pub returns-in_err-payload-clause-finds : goal.returns-in_err-payload-clause-finds
-returns-in_err-payload-clause-finds c = λ fault found. gives_padding c
-    ∙ ap Err (one_fault c.args.octets.now Padding fault (no_padding c) found)
+returns-in_err-payload-clause-finds c = λ fault first. let found = found_around c in
+    found.1 ∙ ap Err (one_fault c.args.octets.now found.0 fault found.2 first)
 
 -- ---- A packet
 
@@ -167,16 +137,14 @@ is_packet c =
     let made = c.new-reader.ensures in
     let room = begun (goal.at.returns-clause-accepted c).After-left c.if-left-csrcs_size.false in
     let before = before_extension (goal.at.returns-clause-accepted c).After-rest room in
-    let passed = before_padding (goal.at.returns-clause-accepted c).In_ok-rest before in
-    head_read octets c.in_ok-rest.rest.now c.take_fixed-fixed.result.has_padding (found_in c) passed
-    c.in_ok-payload.ensures.1
+    head_read octets c.rest.result.now c.take_fixed-fixed.result.has_extension c.take_fixed-fixed.result.has_padding
+    (found_in c) before (fixed.has_padding ∙ ap has_padding made) c.in_ok-payload.ensures
     (fixed.payload_type ∙ ap payload_type_of made) (fixed.marker ∙ ap marker_of made)
     (fixed.sequence ∙ ap (λ (t : List ℕ). big_number 2 (drop 2 t)) made)
     (fixed.timestamp ∙ ap (λ (t : List ℕ). big_number 4 (drop 4 t)) made)
     (fixed.ssrc ∙ ap (λ (t : List ℕ). big_number 4 (drop 8 t)) made)
     (ap csrcs_in (c.take-csrcs.ensures.taken ∙ list_taken octets c.take_fixed-fixed.new.reader
     (4 * c.from-csrcs_size.result) room))
-    c.in_ok-payload.ensures.0
 
 pub invariant_of-result : goal.invariant_of-result
 invariant_of-result c =
