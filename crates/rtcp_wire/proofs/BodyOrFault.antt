@@ -128,6 +128,12 @@ other_type kind not_sr not_rr not_sdes not_bye not_app = elim (cases_lt kind 200
   | inr above ↦ inr (omega arith)
 ]
 
+-- Any body of another type is some packet's.
+pub other_body : (kind count : ℕ) (body : List ℕ) → kind ≢ 200 → kind ≢ 201 → kind ≢ 202 → kind ≢ 203 → kind ≢ 204 →
+    IsSomeBody kind count body
+other_body kind count body not_sr not_rr not_sdes not_bye not_app =
+    (other kind count body, (other_type kind not_sr not_rr not_sdes not_bye not_app, refl, refl, refl))
+
 -- With the octets that its type asks for, no chunks and no reason, a body is some packet's.
 pub plain_body : (kind count : ℕ) (body : List ℕ) → least_size kind count ≤ length body → kind ≢ 202 → kind ≢ 203 →
     IsSomeBody kind count body
@@ -138,10 +144,7 @@ plain_body kind count body room not_sdes not_bye =
         | inl is ↦ at_type 201 kind count body is room (report_from count body)
         | inr not_rr ↦ elim (cases_eq kind 204) [
           | inl is ↦ at_type 204 kind count body is room (application_from count body)
-          | inr not_app ↦ (
-            other kind count body,
-            (other_type kind not_sr not_rr not_sdes not_bye not_app, refl, refl, refl),
-          )
+          | inr not_app ↦ other_body kind count body not_sr not_rr not_sdes not_bye not_app
         ]
       ]
     ]

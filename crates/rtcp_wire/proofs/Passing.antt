@@ -1,7 +1,7 @@
 -- Items and chunks that are passed one after the other: a lemma for each step of the tests, and a walk over any octets
 -- by
 -- these steps.
-use Rattle.std.proofs.Common.{◌≡◌, ◌≢◌, ℕ, zero, suc, ◌+◌, ◌%◌, ◌<◌, ◌≤◌, ◌⊎◌, true, Option, Some, None, is_some, MatchOption, List, [], ◌∷◌, ◌++◌, length, take, drop, refl, sym, ap, subst, ◌∙◌, append_assoc, append-nil, arith, inl, inr}
+use Rattle.std.proofs.Common.{◌≡◌, ◌≢◌, ℕ, zero, suc, ◌+◌, ◌%◌, ◌<◌, ◌≤◌, ◌⊎◌, List, [], ◌∷◌, ◌++◌, length, take, drop, refl, sym, ap, subst, ◌∙◌, append_assoc, append-nil, arith, inl, inr}
 use Rattle.std.proofs.lemmas.Bool.{cases_lt, cases_eq}
 use Rattle.std.proofs.lemmas.List.{take-append-drop, length-take-le, length-drop, length-append, length-take, nil_from_length}
 use Rattle.byteorder.specs.Endian.{big_number}
@@ -153,11 +153,6 @@ pub record HasTakenChunks (count : ℕ) (body left : List ℕ) : Type 0 where
   pub chunks : List ChunkValue
   pub counted : length chunks ≡ count
   pub taken : TakesPrefix body left (Joins IsChunk chunks)
-
--- what is said where a part was passed
-pub passed_if_some : (passed : Option Unit) (P Q : Type 0) → is_some passed ≡ true → MatchOption passed P (λ _. Q) → Q
-passed_if_some None P Q some h = absurd cc
-passed_if_some (Some done) P Q some h = h
 
 -- before the first chunk
 pub no_chunk_taken : (body : List ℕ) → length body % 4 ≡ 0 → HasTakenChunks 0 body body

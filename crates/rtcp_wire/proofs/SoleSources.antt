@@ -10,7 +10,7 @@ use Rattle.rtcp_wire.specs.declared.validity.summary.Summary.{Summary}
 use Rattle.rtcp_wire.specs.Grammar.{IsAccepted}
 use Rattle.rtcp_wire.specs.Facts.{facts_of_chunk, facts_of_packet, facts_of}
 use Rattle.rtcp_wire.specs.Sole.{is_presence_of, is_name, clock_told, IsSole}
-use Rattle.rtcp_wire.specs.Summaries.{gives_name, keeps_to, names, all_keep_to, sender_of, SumsUp}
+use Rattle.rtcp_wire.specs.Summaries.{gives_name, keeps_to, names, all_keep_to, clock_of, sender_of, SumsUp}
 use Rattle.rtcp_wire.specs.Values.{SenderValue, ReportBlock, ChunkValue, RtcpPacket, sr, rr, sdes, bye, app, other}
 use Rattle.rtcp_wire.specs.Walks.{packets_in}
 use Rattle.rtcp_wire.proofs.Reporters.{IsReportOf, begins_with_report, some_packet}
@@ -113,33 +113,33 @@ packets_name (packet ∷ packets) =
 -- ---- Compounds of one source
 
 -- where packets begin with a sender report,
-pub sole_sender : (ssrc : ℕ) (sender : SenderValue) (blocks : List ReportBlock) (extension : List ℕ)
+sole_sender : (ssrc : ℕ) (sender : SenderValue) (blocks : List ReportBlock) (extension : List ℕ)
     (packets : List RtcpPacket) (is_named : Bool) → sender.ssrc ≡ ssrc →
     all_keep_to ssrc true (sr sender blocks extension ∷ packets) ≡ true
-    → is_named ≡ list_any names (sr sender blocks extension ∷ packets)
-    → IsSole (record { ssrc = sender.ssrc; timestamps = Some (sender.ntp, sender.rtp); is_named = is_named })
+    → is_named ≡ list_any is_name (facts_of packets)
+    → IsSole (record { ssrc = ssrc; timestamps = Some (sender.ntp, sender.rtp); is_named = is_named })
     (facts_of (sr sender blocks extension ∷ packets))
 sole_sender ssrc sender blocks extension packets is_named own keep named = record {
   others = facts_of packets;
-  parts = refl;
-  alone = ap (λ (n : ℕ). list_all (is_presence_of n) (facts_of packets)) own ∙ sym (packets_keep ssrc packets)
+  parts = ap (λ (n : ℕ). Heard n ∷ Told n sender.ntp sender.rtp ∷ facts_of packets) own;
+  alone = sym (packets_keep ssrc packets)
       ∙ right_of (sender.ssrc == ssrc) (all_keep_to ssrc false packets) keep;
-  named = sym (named ∙ packets_name packets);
+  named = sym named;
 }
 
 -- and where they begin with a receiver report
-pub sole_receiver : (ssrc own : ℕ) (blocks : List ReportBlock) (extension : List ℕ)
+sole_receiver : (ssrc own : ℕ) (blocks : List ReportBlock) (extension : List ℕ)
     (packets : List RtcpPacket) (is_named : Bool) → own ≡ ssrc →
     all_keep_to ssrc true (rr own blocks extension ∷ packets) ≡ true
-    → is_named ≡ list_any names (rr own blocks extension ∷ packets)
-    → IsSole (record { ssrc = own; timestamps = None; is_named = is_named })
+    → is_named ≡ list_any is_name (facts_of packets)
+    → IsSole (record { ssrc = ssrc; timestamps = None; is_named = is_named })
     (facts_of (rr own blocks extension ∷ packets))
 sole_receiver ssrc own blocks extension packets is_named is keep named = record {
   others = facts_of packets;
-  parts = refl;
-  alone = ap (λ (n : ℕ). list_all (is_presence_of n) (facts_of packets)) is ∙ sym (packets_keep ssrc packets)
+  parts = ap (λ (n : ℕ). Heard n ∷ facts_of packets) is;
+  alone = sym (packets_keep ssrc packets)
       ∙ right_of (own == ssrc) (all_keep_to ssrc false packets) keep;
-  named = sym (named ∙ packets_name packets);
+  named = sym named;
 }
 
 -- ---- The other way round
@@ -226,31 +226,40 @@ module _ (octets : List ℕ) (summary : Summary) (accepted : IsAccepted octets (
       summary.is_sole ≡ all_keep_to (sender_of octets) true packets
   keep_of packets is = sums.sole ∙ ap (all_keep_to (sender_of octets) true) is
 
-  pub sole_at_sender : (sender : SenderValue) (blocks : List ReportBlock) (extension : List ℕ)
-      (packets : List RtcpPacket) → summary.is_sole ≡ true → now ≡ sr sender blocks extension ∷ packets
-      → IsSole (record { ssrc = sender.ssrc; timestamps = Some (sender.ntp, sender.rtp); is_named = summary.is_named })
-      (facts_of now)
-  sole_at_sender sender blocks extension packets sole is =
-      let first : RtcpPacket = sr sender blocks extension in
-      let source : SoleSource = record
-      { ssrc = sender.ssrc; timestamps = Some (sender.ntp, sender.rtp); is_named = summary.is_named } in
-      subst (λ (these : List RtcpPacket). IsSole source (facts_of these)) (sym is)
-      (sole_sender (sender_of octets) sender blocks extension packets summary.is_named
-      (begins_with_report octets first packets accepted (view ∙ is))
-      (sym (keep_of (first ∷ packets) (view ∙ is)) ∙ sole) (sums.named ∙ ap (list_any names) (view ∙ is)))
+  report_of : (first : RtcpPacket) (packets : List RtcpPacket) → now ≡ first ∷ packets →
+      IsReportOf (sender_of octets) first
+  report_of first packets is = begins_with_report octets first packets accepted (view ∙ is)
 
-  pub sole_at_receiver : (own : ℕ) (blocks : List ReportBlock) (extension : List ℕ) (packets : List RtcpPacket) →
-      summary.is_sole ≡ true → now ≡ rr own blocks extension ∷ packets
-      → IsSole (record { ssrc = own; timestamps = None; is_named = summary.is_named }) (facts_of now)
-  sole_at_receiver own blocks extension packets sole is =
-      let first : RtcpPacket = rr own blocks extension in
-      let source : SoleSource = record { ssrc = own; timestamps = None; is_named = summary.is_named } in
-      subst (λ (these : List RtcpPacket). IsSole source (facts_of these)) (sym is)
-      (sole_receiver (sender_of octets) own blocks extension packets summary.is_named
-      (begins_with_report octets first packets accepted (view ∙ is))
-      (sym (keep_of (first ∷ packets) (view ∙ is)) ∙ sole) (sums.named ∙ ap (list_any names) (view ∙ is)))
+  pub named_now : summary.is_named ≡ true → list_any is_name (facts_of now) ≡ true
+  named_now some = sym (packets_name now) ∙ ap (list_any names) (sym view) ∙ sums.named some
 
-  -- Where the packets do not keep to the source of the first, they are about no one source.
+  -- Where the packets keep to the source of the first, they are about this one.
+  pub sole_now : (ssrc : ℕ) (is_named : Bool) → ssrc ≡ sender_of octets → summary.is_sole ≡ true →
+      is_named ≡ list_any is_name (facts_of now)
+      → IsSole (record { ssrc = ssrc; timestamps = clock_of now; is_named = is_named }) (facts_of now)
+  sole_now ssrc is_named own sole named =
+      subst (λ (n : ℕ). IsSole (record { ssrc = n; timestamps = clock_of now; is_named = is_named }) (facts_of now))
+      (sym own) (by now refl named)
+    where
+      by : (these : List RtcpPacket) → now ≡ these → is_named ≡ list_any is_name (facts_of these) →
+          IsSole (record { ssrc = sender_of octets; timestamps = clock_of these; is_named = is_named })
+          (facts_of these)
+      by [] is given = absurd (some_packet octets accepted (view ∙ is))
+      by (sr sender blocks extension ∷ packets) is given =
+          let first : RtcpPacket = sr sender blocks extension in
+          sole_sender (sender_of octets) sender blocks extension packets is_named (report_of first packets is)
+          (sym (keep_of (first ∷ packets) (view ∙ is)) ∙ sole) given
+      by (rr sender blocks extension ∷ packets) is given =
+          let first : RtcpPacket = rr sender blocks extension in
+          sole_receiver (sender_of octets) sender blocks extension packets is_named (report_of first packets is)
+          (sym (keep_of (first ∷ packets) (view ∙ is)) ∙ sole) given
+      by (sdes chunks ∷ packets) is given = absurd (report_of (sdes chunks) packets is)
+      by (bye ids reason ∷ packets) is given = absurd (report_of (bye ids reason) packets is)
+      by (app subtype sender name content ∷ packets) is given =
+          absurd (report_of (app subtype sender name content) packets is)
+      by (other kind count body ∷ packets) is given = absurd (report_of (other kind count body) packets is)
+
+  -- Where the packets do not keep to it, they are about no one source.
   pub not_sole : summary.is_sole ≡ false → (source : SoleSource) → IsSole source (facts_of now) → ⊥
   not_sole several source h = by now refl h
     where
@@ -261,5 +270,4 @@ module _ (octets : List ℕ) (summary : Summary) (accepted : IsAccepted octets (
       by [] is h = some_packet octets accepted (view ∙ is)
       by (first ∷ packets) is h =
           not_both (sym several ∙ keep_of (first ∷ packets) (view ∙ is)
-          ∙ sole_keeps (sender_of octets) first packets source
-          (begins_with_report octets first packets accepted (view ∙ is)) h)
+          ∙ sole_keeps (sender_of octets) first packets source (report_of first packets is) h)

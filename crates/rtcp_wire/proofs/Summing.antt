@@ -1,25 +1,21 @@
 -- The summary of what was passed, and of what is left: together they say what all says. A lemma for each step of the
 -- tests.
-use Rattle.std.proofs.Common.{◌≡◌, ◌≢◌, ℕ, zero, suc, ◌+◌, ◌-◌, ◌<◌, ◌≤◌, ◌==◌, ◌&&◌, ◌||◌, Bool, true, false, List, [], ◌∷◌, ◌++◌, length, take, drop, Result, Ok, Err, IfOk, MatchResult, refl, sym, ap, subst, ◌∙◌, arith}
+use Rattle.std.proofs.Common.{◌≡◌, ℕ, zero, suc, ◌+◌, ◌-◌, ◌<◌, ◌==◌, ◌&&◌, ◌||◌, Bool, true, false, List, [], ◌∷◌, ◌++◌, length, take, drop, refl, sym, ap, subst, ◌∙◌, append_assoc, arith}
 use Rattle.std.specs.List.{list_all, list_any}
 use Rattle.std.proofs.lemmas.Bool.{eq-eqb, ne_eqb}
-use Rattle.std.proofs.lemmas.List.{take-append-drop, length-take-le, nil_from_length}
-use Rattle.std.proofs.Math.Bool.{or_assoc}
+use Rattle.std.proofs.lemmas.List.{nil_from_length}
 use Rattle.byteorder.specs.Endian.{big_number}
-use Rattle.rtcp_wire.specs.declared.fault.FaultReason.{FaultReason}
-use Rattle.rtcp_wire.specs.declared.fault.WireFault.{WireFault}
 use Rattle.rtcp_wire.specs.declared.validity.summary.Summary.{Summary}
 use Rattle.rtcp_wire.specs.Facts.{is_cname}
-use Rattle.rtcp_wire.specs.Faults.{FindsInBody, IsFirstFault}
+use Rattle.rtcp_wire.specs.Grammar.{Joins, IsItem}
 use Rattle.rtcp_wire.specs.Parts.{TakesPrefix}
-use Rattle.rtcp_wire.specs.Summaries.{gives_name, names, all_keep_to, sender_of, SumsChunk, Sums, SumsUp}
-use Rattle.rtcp_wire.specs.Validity.{IsSomeBody, IsSomeChunk, IsSomeDatagram}
+use Rattle.rtcp_wire.specs.Summaries.{gives_name, names, keeps_to, all_keep_to, Adds, AddsChunk, AddsPacket, SumsUp}
+use Rattle.rtcp_wire.specs.Validity.{PassesItems, IsSomeChunk}
 use Rattle.rtcp_wire.specs.Values.{ItemValue, ChunkValue, RtcpPacket, sdes}
-use Rattle.rtcp_wire.specs.Walks.{body_says, items_after, chunk_in, chunk_size, chunks_in, packet_in, packets_in, values_in}
+use Rattle.rtcp_wire.specs.Walks.{items_after, chunk_in, chunk_size, chunks_in, packet_in, packets_in, values_in}
 use Rattle.rtcp_wire.proofs.PacketOrFault.{TakesPacket}
 use Rattle.rtcp_wire.proofs.Prefixes.{length_parts}
 use Rattle.rtcp_wire.proofs.ReadingWalks.{first_item, after_chunk, packet_read, first_packet}
-use Rattle.rtcp_wire.proofs.Reporters.{accepted_length}
 use Rattle.rtcp_wire.proofs.Spellings.{spelling_length}
 use Rattle.rtcp_wire.proofs.Walking.{HasPassed}
 
@@ -33,69 +29,100 @@ and_true : (a : Bool) → (a && true) ≡ a
 and_true true = refl
 and_true false = refl
 
-or_false : (a : Bool) → (a || false) ≡ a
-or_false true = refl
-or_false false = refl
+or_left : (a b : Bool) → a ≡ true → (a || b) ≡ true
+or_left a b is = ap (λ (c : Bool). c || b) is
 
--- What was passed and what is left say what all says.
-pub record Leaves (passed : Summary) (all_sole all_named left_sole left_named : Bool) : Type 0 where
-  pub sole : all_sole ≡ (passed.is_sole && left_sole)
-  pub named : all_named ≡ (passed.is_named || left_named)
+or_more_right : (a b c : Bool) → (b ≡ true → c ≡ true) → (a || b) ≡ true → (a || c) ≡ true
+or_more_right true b c more some = refl
+or_more_right false b c more some = more some
 
--- One part more is passed.
-leaves_next : (passed one next : Summary) (all_sole all_named sole named left_sole left_named : Bool) →
-    Leaves passed all_sole all_named sole named → sole ≡ (one.is_sole && left_sole) →
-    named ≡ (one.is_named || left_named) → next.is_sole ≡ (passed.is_sole && one.is_sole)
-    → next.is_named ≡ (passed.is_named || one.is_named) → Leaves next all_sole all_named left_sole left_named
-leaves_next passed one next all_sole all_named sole named left_sole left_named h first_sole first_named sole_is
-    named_is =
+-- Since the old summary parts were taken in: with those that are left they say what all say.
+pub record Leaves (old now : Summary) (all_keep all_give left_keep left_give : Bool) : Type 0 where
+  pub sole : (old.is_sole && all_keep) ≡ (now.is_sole && left_keep)
+  pub named : (now.is_named || left_give) ≡ true → (old.is_named || all_give) ≡ true
+
+-- One part more was taken in.
+leaves_next : (old now next : Summary) (all_keep all_give keep give one_keeps one_gives left_keep left_give : Bool) →
+    Leaves old now all_keep all_give keep give → keep ≡ (one_keeps && left_keep) → give ≡ (one_gives || left_give) →
+    Adds now next one_keeps one_gives
+    → Leaves old next all_keep all_give left_keep left_give
+leaves_next old now next all_keep all_give keep give one_keeps one_gives left_keep left_give h first_keeps first_gives
+    one =
     record {
-      sole = h.sole ∙ ap (λ (b : Bool). passed.is_sole && b) first_sole
-          ∙ sym (and_assoc passed.is_sole one.is_sole left_sole) ∙ ap (λ (b : Bool). b && left_sole) (sym sole_is);
-      named = h.named ∙ ap (λ (b : Bool). passed.is_named || b) first_named
-          ∙ sym (or_assoc passed.is_named one.is_named left_named)
-          ∙ ap (λ (b : Bool). b || left_named) (sym named_is);
+      sole = h.sole ∙ ap (λ (b : Bool). now.is_sole && b) first_keeps
+          ∙ sym (and_assoc now.is_sole one_keeps left_keep) ∙ ap (λ (b : Bool). b && left_keep) (sym one.sole);
+      named = λ some. h.named (ap (λ (b : Bool). now.is_named || b) first_gives
+          ∙ either next.is_named now.is_named one_gives left_give one.named some);
     }
+  where
+    either : (next now one left : Bool) → (next ≡ true → (now || one) ≡ true) → (next || left) ≡ true →
+        (now || (one || left)) ≡ true
+    either next true one left h some = refl
+    either next false true left h some = refl
+    either true false false left h some = absurd (apart (h refl))
+      where
+        apart : false ≡ true → ⊥
+        apart same = cc
+    either false false false left h some = some
 
--- ---- Items
+-- None was taken in.
+leaves_all : (old : Summary) (all_keep all_give : Bool) → Leaves old old all_keep all_give all_keep all_give
+leaves_all old all_keep all_give = record { sole = refl; named = λ some. some }
 
--- One item more is passed.
-pub name_passed : (octets old new : List ℕ) (kind size : ℕ) (text : List ℕ) (seen : Bool) →
-    list_any is_cname (items_after 0 octets) ≡ (seen || list_any is_cname (items_after 0 old)) →
-    old ≡ kind ∷ size ∷ text → kind ≢ 0 → size ≤ length text → new ≡ drop size text
-    → list_any is_cname (items_after 0 octets) ≡ ((seen || (kind == 1)) || list_any is_cname (items_after 0 new))
-name_passed octets old new kind size text seen so_far is some room after =
-    let item : ItemValue = record { kind = kind; text = take size text } in
-    let len : length (take size text) ≡ size = length-take-le size text room in
-    let split : text ≡ take size text ++ new = sym (take-append-drop size text)
-    ∙ ap (λ (t : List ℕ). take size text ++ t) (sym after) in
-    let whole : old ≡ kind ∷ length (take size text) ∷ (take size text ++ new) = is
-    ∙ (λ i. kind ∷ sym len i ∷ split i) in
-    let read : items_after 0 old ≡ item ∷ items_after 0 new = ap (items_after 0) whole ∙ first_item item new some in
-    so_far ∙ ap (λ (items : List ItemValue). seen || list_any is_cname items) read
-    ∙ sym (or_assoc seen (kind == 1) (list_any is_cname (items_after 0 new)))
-
--- None is left before the zero octet.
-pub names_passed : (octets left : List ℕ) (kind : ℕ) (after : List ℕ) (seen : Bool) →
-    list_any is_cname (items_after 0 octets) ≡ (seen || list_any is_cname (items_after 0 left)) → left ≡ kind ∷ after →
-    kind ≡ 0 → seen ≡ list_any is_cname (items_after 0 octets)
-names_passed octets left kind after seen so_far is none =
-    let ends : left ≡ 0 ∷ after = is ∙ ap (λ (k : ℕ). k ∷ after) none in
-    sym (so_far ∙ ap (λ (t : List ℕ). seen || list_any is_cname (items_after 0 t)) ends ∙ or_false seen)
+-- All were.
+adds_all : (old now : Summary) (all_keep all_give : Bool) → Leaves old now all_keep all_give true false →
+    Adds old now all_keep all_give
+adds_all old now all_keep all_give h = record {
+  sole = sym (h.sole ∙ and_true now.is_sole);
+  named = λ some. h.named (or_left now.is_named false some);
+}
 
 -- ---- Chunks
 
-pub chunk_summed : (octets after : List ℕ) (id ssrc : ℕ) (is_named : Bool) → id ≡ big_number 4 (take 4 octets) →
-    after ≡ drop 4 octets → is_named ≡ list_any is_cname (items_after 0 after)
-    → SumsChunk ssrc (record { is_sole = id == ssrc; is_named = is_named }) (chunk_in octets)
-chunk_summed octets after id ssrc is_named is after_is named = record {
-  sole = ap (λ (n : ℕ). n == ssrc) is;
-  named = named ∙ ap (λ (t : List ℕ). list_any is_cname (items_after 0 t)) after_is;
-}
+-- Items that were passed and begin with a CNAME give one.
+name_first : (octets left after : List ℕ) → PassesItems octets left → octets ≡ 1 ∷ after →
+    list_any is_cname (items_after 0 octets) ≡ true
+name_first octets left after passed is = by passed.items passed.middle passed.each passed.parts
+  where
+    first_octet : (a b : ℕ) (s t : List ℕ) → a ∷ s ≡ b ∷ t → a ≡ b
+    first_octet a b s t e = cc
 
-abbrev pub LeavesChunks : (ssrc : ℕ) → Summary → (all left : List ChunkValue) → Type 0
-LeavesChunks ssrc passed all left =
-    Leaves passed (list_all (λ chunk. chunk.id == ssrc) all) (list_any gives_name all)
+    by : (items : List ItemValue) (middle : List ℕ) → Joins IsItem items middle → octets ≡ middle ++ 0 ∷ left →
+        list_any is_cname (items_after 0 octets) ≡ true
+    by [] middle each parts = absurd (omega (
+      arith,
+      first_octet 0 1 left after
+          (sym (parts ∙ ap (λ (t : List ℕ). t ++ 0 ∷ left) each) ∙ is),
+    ))
+    by (item ∷ items) middle each parts =
+        let whole : octets ≡ item.kind ∷ length item.text ∷ (item.text ++ (each.1 ++ 0 ∷ left)) =
+        parts ∙ ap (λ (t : List ℕ). t ++ 0 ∷ left) (each.2 ∙ ap (λ (t : List ℕ). t ++ each.1) each.3.1)
+        ∙ ap (λ (t : List ℕ). item.kind ∷ length item.text ∷ t) (append_assoc item.text each.1 (0 ∷ left)) in
+        let kind : item.kind ≡ 1 = first_octet item.kind 1 (length item.text ∷ (item.text ++ (each.1 ++ 0 ∷ left)))
+        after (sym whole ∙ is) in
+        ap (λ (t : List ℕ). list_any is_cname (items_after 0 t)) whole
+        ∙ ap (list_any is_cname) (first_item item (each.1 ++ 0 ∷ left) each.3.0)
+        ∙ ap (λ (b : Bool). b || list_any is_cname (items_after 0 (each.1 ++ 0 ∷ left))) (eq-eqb item.kind 1 kind)
+
+pub chunk_summed : (octets after start left : List ℕ) (ssrc : ℕ) (is_kept is_named : Bool) (old kept new : Summary) →
+    is_kept ≡ (big_number 4 (take 4 octets) == ssrc) → after ≡ drop 4 octets → start ≡ after → PassesItems after left →
+    (is_named ≡ true → (rest : List ℕ) × (start ≡ 1 ∷ rest))
+    → kept.is_sole ≡ (old.is_sole && is_kept) → kept.is_named ≡ old.is_named → new.is_sole ≡ kept.is_sole →
+    new.is_named ≡ (kept.is_named || is_named) → AddsChunk ssrc old new (chunk_in octets)
+chunk_summed octets after start left ssrc is_kept is_named old kept new keeps after_is start_is passed first kept_sole
+    kept_named new_sole new_named =
+    let gives : is_named ≡ true → gives_name (chunk_in octets) ≡ true = λ some.
+    ap (λ (t : List ℕ). list_any is_cname (items_after 0 t)) (sym after_is)
+    ∙ name_first after left (first some).0 passed (sym start_is ∙ (first some).1) in
+    record {
+      sole = new_sole ∙ kept_sole ∙ ap (λ (b : Bool). old.is_sole && b) keeps;
+      named = λ some. or_more_right old.is_named is_named (gives_name (chunk_in octets)) gives
+          (sym (new_named ∙ ap (λ (b : Bool). b || is_named) kept_named) ∙ some);
+    }
+
+abbrev pub LeavesChunks : (ssrc : ℕ) → (old now : Summary) → (all left : List ChunkValue) → Type 0
+LeavesChunks ssrc old now all left =
+    Leaves old now (list_all (λ chunk. chunk.id == ssrc) all) (list_any gives_name all)
     (list_all (λ chunk. chunk.id == ssrc) left) (list_any gives_name left)
 
 -- one chunk, and those after it
@@ -106,48 +133,40 @@ chunks_next more old new one =
     ap (λ (t : List ℕ). drop (chunk_size (chunk_in t).items) t) one.1 ∙ after_chunk one.2.0 one.0 new one.2.1 in
     ap (λ (t : List ℕ). chunk_in old ∷ chunks_in more t) left
 
-pub no_chunk_summed : (ssrc count : ℕ) (passed : Summary) (body : List ℕ) → passed.is_sole ≡ true →
-    passed.is_named ≡ false → LeavesChunks ssrc passed (chunks_in count body) (chunks_in (count - 0) body)
-no_chunk_summed ssrc count passed body sole named =
+pub no_chunk_summed : (ssrc count : ℕ) (old : Summary) (body : List ℕ) →
+    LeavesChunks ssrc old old (chunks_in count body) (chunks_in (count - 0) body)
+no_chunk_summed ssrc count old body =
     let all : count ≡ count - 0 = omega arith in
-    record {
-      sole = λ i. sym sole i && list_all (λ (chunk : ChunkValue). chunk.id == ssrc) (chunks_in (all i) body);
-      named = λ i. sym named i || list_any gives_name (chunks_in (all i) body);
-    }
+    subst (λ (n : ℕ). LeavesChunks ssrc old old (chunks_in count body) (chunks_in n body)) all
+    (leaves_all old (list_all (λ (chunk : ChunkValue). chunk.id == ssrc) (chunks_in count body))
+    (list_any gives_name (chunks_in count body)))
 
-pub chunk_left : (ssrc count turns : ℕ) (body old new : List ℕ) (passed one next : Summary) → turns < count →
-    LeavesChunks ssrc passed (chunks_in count body) (chunks_in (count - turns) old) → TakesPrefix old new IsSomeChunk →
-    SumsChunk ssrc one (chunk_in old) → next.is_sole ≡ (passed.is_sole && one.is_sole)
-    → next.is_named ≡ (passed.is_named || one.is_named)
-    → LeavesChunks ssrc next (chunks_in count body) (chunks_in (count - (turns + 1)) new)
-chunk_left ssrc count turns body old new passed one next more h taken summed sole named =
+pub chunk_left : (ssrc count turns : ℕ) (body reader left : List ℕ) (old now next : Summary) → turns < count →
+    LeavesChunks ssrc old now (chunks_in count body) (chunks_in (count - turns) reader) →
+    TakesPrefix reader left IsSomeChunk →
+    AddsChunk ssrc now next (chunk_in reader)
+    → LeavesChunks ssrc old next (chunks_in count body) (chunks_in (count - (turns + 1)) left)
+chunk_left ssrc count turns body reader left old now next more h taken one =
     let counted : count - turns ≡ suc (count - (turns + 1)) = omega (arith, more) in
-    let left : chunks_in (count - turns) old ≡ chunk_in old ∷ chunks_in (count - (turns + 1)) new =
-    ap (λ (n : ℕ). chunks_in n old) counted ∙ chunks_next (count - (turns + 1)) old new taken in
-    let others : List ChunkValue = chunks_in (count - (turns + 1)) new in
-    leaves_next passed one next (list_all (λ (chunk : ChunkValue). chunk.id == ssrc) (chunks_in count body))
+    let first : chunks_in (count - turns) reader ≡ chunk_in reader ∷ chunks_in (count - (turns + 1)) left =
+    ap (λ (n : ℕ). chunks_in n reader) counted ∙ chunks_next (count - (turns + 1)) reader left taken in
+    let others : List ChunkValue = chunks_in (count - (turns + 1)) left in
+    leaves_next old now next (list_all (λ (chunk : ChunkValue). chunk.id == ssrc) (chunks_in count body))
     (list_any gives_name (chunks_in count body))
-    (list_all (λ (chunk : ChunkValue). chunk.id == ssrc) (chunks_in (count - turns) old))
-    (list_any gives_name (chunks_in (count - turns) old))
+    (list_all (λ (chunk : ChunkValue). chunk.id == ssrc) (chunks_in (count - turns) reader))
+    (list_any gives_name (chunks_in (count - turns) reader)) ((chunk_in reader).id == ssrc)
+    (gives_name (chunk_in reader))
     (list_all (λ (chunk : ChunkValue). chunk.id == ssrc) others) (list_any gives_name others) h
-    (ap (list_all (λ (chunk : ChunkValue). chunk.id == ssrc)) left
-    ∙ ap (λ (b : Bool). b && list_all (λ (chunk : ChunkValue). chunk.id == ssrc) others) (sym summed.sole))
-    (ap (list_any gives_name) left ∙ ap (λ (b : Bool). b || list_any gives_name others) (sym summed.named))
-    sole named
+    (ap (list_all (λ (chunk : ChunkValue). chunk.id == ssrc)) first) (ap (list_any gives_name) first) one
 
-pub all_chunks_summed : (ssrc count turns : ℕ) (body left : List ℕ) (passed : Summary) →
-    LeavesChunks ssrc passed (chunks_in count body) (chunks_in (count - turns) left) → turns ≡ count →
-    (is_first : Bool) → Sums ssrc is_first passed (sdes (chunks_in count body))
-all_chunks_summed ssrc count turns body left passed h all is_first =
+pub all_chunks_summed : (ssrc count turns : ℕ) (body left : List ℕ) (old now : Summary) →
+    LeavesChunks ssrc old now (chunks_in count body) (chunks_in (count - turns) left) → turns ≡ count →
+    (is_first : Bool) → AddsPacket ssrc is_first old now (sdes (chunks_in count body))
+all_chunks_summed ssrc count turns body left old now h all is_first =
     let no_more : count - turns ≡ 0 = omega (arith, all) in
-    let none : chunks_in (count - turns) left ≡ [] = ap (λ (n : ℕ). chunks_in n left) no_more in
-    record {
-      sole = sym (h.sole
-          ∙ ap (λ (chunks : List ChunkValue). passed.is_sole && list_all (λ (chunk : ChunkValue). chunk.id == ssrc)
-          chunks) none ∙ and_true passed.is_sole);
-      named = sym (h.named ∙ ap (λ (chunks : List ChunkValue). passed.is_named || list_any gives_name chunks) none
-          ∙ or_false passed.is_named);
-    }
+    adds_all old now (list_all (λ (chunk : ChunkValue). chunk.id == ssrc) (chunks_in count body))
+    (list_any gives_name (chunks_in count body))
+    (subst (λ (n : ℕ). LeavesChunks ssrc old now (chunks_in count body) (chunks_in n left)) no_more h)
 
 -- ---- Bodies
 
@@ -156,32 +175,20 @@ pub as_many : {A : Type 0} (size : ℕ) (value : List ℕ → A) (count : ℕ) (
 as_many size value zero octets = refl
 as_many size value (suc count) octets = ap suc (as_many size value count (drop size octets))
 
--- what is found of a body at the type that it has
-pub valid_at : (own kind count : ℕ) (body : List ℕ) (tested : Result Summary FaultReason) → kind ≡ own →
-    MatchResult tested (λ _. IsSomeBody own count body) (λ reason. FindsInBody reason own count body)
-    → MatchResult tested (λ _. IsSomeBody kind count body) (λ reason. FindsInBody reason kind count body)
-valid_at own kind count body tested is =
-    subst (λ (k : ℕ).
-    MatchResult tested (λ _. IsSomeBody k count body) (λ reason. FindsInBody reason k count body)) (sym is)
-
-pub summed_at : (own kind count ssrc : ℕ) (is_first : Bool) (body : List ℕ) (tested : Result Summary FaultReason) →
-    kind ≡ own → IfOk tested (λ summary. (first : Bool) → Sums ssrc first summary (body_says own count body))
-    → IfOk tested (λ summary. Sums ssrc is_first summary (body_says kind count body))
-summed_at own kind count ssrc is_first body (Ok summary) is sums =
-    subst (λ (k : ℕ). Sums ssrc is_first summary (body_says k count body)) (sym is) (sums is_first)
-summed_at own kind count ssrc is_first body (Err found) is sums = tt
-
-pub summed_for : (count ssrc : ℕ) (body : List ℕ) (tested : Result Summary FaultReason) →
-    IfOk tested (λ summary. (own : ℕ) (first : Bool) → Sums own first summary (body_says 203 count body))
-    → IfOk tested (λ summary. (first : Bool) → Sums ssrc first summary (body_says 203 count body))
-summed_for count ssrc body (Ok summary) sums = sums ssrc
-summed_for count ssrc body (Err found) sums = tt
+-- A packet keeps to the source by this alone, and gives no name.
+pub body_kept : (old new : Summary) (is_kept : Bool) (ssrc : ℕ) (is_first : Bool) (packet : RtcpPacket) →
+    is_kept ≡ keeps_to ssrc is_first packet → new.is_sole ≡ (old.is_sole && is_kept) → new.is_named ≡ old.is_named →
+    AddsPacket ssrc is_first old new packet
+body_kept old new is_kept ssrc is_first packet keeps sole named = record {
+  sole = sole ∙ ap (λ (b : Bool). old.is_sole && b) keeps;
+  named = λ some. or_left old.is_named (names packet) (sym named ∙ some);
+}
 
 -- ---- Packets
 
-abbrev pub LeavesPackets : (ssrc : ℕ) (is_first : Bool) → Summary → (all left : List RtcpPacket) → Type 0
-LeavesPackets ssrc is_first passed all left =
-    Leaves passed (all_keep_to ssrc true all) (list_any names all) (all_keep_to ssrc is_first left)
+abbrev pub LeavesPackets : (ssrc : ℕ) (is_first : Bool) → (old now : Summary) → (all left : List RtcpPacket) → Type 0
+LeavesPackets ssrc is_first old now all left =
+    Leaves old now (all_keep_to ssrc true all) (list_any names all) (all_keep_to ssrc is_first left)
     (list_any names left)
 
 -- one packet, and those after it
@@ -193,63 +200,52 @@ packets_next first old new taken =
     ap packets_in taken.1 ∙ first_packet packet taken.0 new taken.2.0.1
     ∙ ap (λ (p : RtcpPacket). p ∷ packets_in new) (sym read)
 
-pub no_packet_summed : (ssrc : ℕ) (passed : Summary) (datagram : List ℕ) → passed.is_sole ≡ true →
-    passed.is_named ≡ false
-    → LeavesPackets ssrc ((length datagram - length datagram) == 0) passed (packets_in datagram) (packets_in datagram)
-no_packet_summed ssrc passed datagram sole named =
+pub no_packet_summed : (ssrc : ℕ) (old : Summary) (datagram : List ℕ) →
+    LeavesPackets ssrc ((length datagram - length datagram) == 0) old old (packets_in datagram) (packets_in datagram)
+no_packet_summed ssrc old datagram =
     let first : ((length datagram - length datagram) == 0) ≡ true = eq-eqb (length datagram - length datagram) 0
     (omega arith) in
-    record {
-      sole = λ i. sym sole i && all_keep_to ssrc (sym first i) (packets_in datagram);
-      named = ap (λ (b : Bool). b || list_any names (packets_in datagram)) (sym named);
-    }
+    subst (λ (b : Bool). LeavesPackets ssrc b old old (packets_in datagram) (packets_in datagram)) (sym first)
+    (leaves_all old (all_keep_to ssrc true (packets_in datagram)) (list_any names (packets_in datagram)))
 
-module _ (ssrc : ℕ) (datagram old : List ℕ) (place : ℕ) (h : HasPassed datagram old)
-    (is : place ≡ length datagram - length old) (new : List ℕ) (taken : TakesPacket (place == 0) old new)
-    (passed one next : Summary)
-    (left : LeavesPackets ssrc ((length datagram - length old) == 0) passed (packets_in datagram) (packets_in old))
-    (summed : Sums ssrc (place == 0) one (packet_in old)) (sole : next.is_sole ≡ (passed.is_sole && one.is_sole))
-    (named : next.is_named ≡ (passed.is_named || one.is_named)) where
-  pub packet_left : LeavesPackets ssrc ((length datagram - length new) == 0) next (packets_in datagram) (packets_in new)
+module _ (ssrc : ℕ) (datagram reader : List ℕ) (place : ℕ) (h : HasPassed datagram reader)
+    (is : place ≡ length datagram - length reader) (new : List ℕ) (taken : TakesPacket (place == 0) reader new)
+    (old now next : Summary)
+    (left : LeavesPackets ssrc ((length datagram - length reader) == 0) old now (packets_in datagram)
+    (packets_in reader))
+    (one : AddsPacket ssrc (place == 0) now next (packet_in reader)) where
+  pub packet_left :
+      LeavesPackets ssrc ((length datagram - length new) == 0) old next (packets_in datagram) (packets_in new)
   packet_left =
-      let first : packets_in old ≡ packet_in old ∷ packets_in new = packets_next (place == 0) old new taken in
+      let first : packets_in reader ≡ packet_in reader ∷ packets_in new = packets_next (place == 0) reader new taken in
       let later : ((length datagram - length new) == 0) ≡ false = ne_eqb (length datagram - length new) 0
       (λ none. omega (
         arith,
         none,
-        length_parts datagram h.prefix old h.parts,
-        length_parts old taken.0 new taken.1,
+        length_parts datagram h.prefix reader h.parts,
+        length_parts reader taken.0 new taken.1,
         spelling_length taken.2.0.0 taken.0 taken.2.0.1,
       )) in
-      leaves_next passed one next (all_keep_to ssrc true (packets_in datagram)) (list_any names (packets_in datagram))
-      (all_keep_to ssrc ((length datagram - length old) == 0) (packets_in old)) (list_any names (packets_in old))
+      leaves_next old now next (all_keep_to ssrc true (packets_in datagram)) (list_any names (packets_in datagram))
+      (all_keep_to ssrc ((length datagram - length reader) == 0) (packets_in reader))
+      (list_any names (packets_in reader)) (keeps_to ssrc (place == 0) (packet_in reader)) (names (packet_in reader))
       (all_keep_to ssrc ((length datagram - length new) == 0) (packets_in new)) (list_any names (packets_in new)) left
-      (ap (λ (n : ℕ). all_keep_to ssrc (n == 0) (packets_in old)) (sym is)
+      (ap (λ (n : ℕ). all_keep_to ssrc (n == 0) (packets_in reader)) (sym is)
       ∙ ap (all_keep_to ssrc (place == 0)) first
-      ∙ (λ i. sym summed.sole i && all_keep_to ssrc (sym later i) (packets_in new)))
-      (ap (list_any names) first ∙ ap (λ (b : Bool). b || list_any names (packets_in new)) (sym summed.named))
-      sole named
+      ∙ (λ i. keeps_to ssrc (place == 0) (packet_in reader) && all_keep_to ssrc (sym later i) (packets_in new)))
+      (ap (list_any names) first) one
 
 -- No packet is left.
-pub all_packets_summed : (ssrc : ℕ) (is_first : Bool) (datagram left : List ℕ) (passed : Summary) →
-    LeavesPackets ssrc is_first passed (packets_in datagram) (packets_in left) → length left ≡ 0
-    → SumsUp ssrc true passed (packets_in datagram)
-all_packets_summed ssrc is_first datagram left passed h none =
+pub all_packets_summed : (ssrc : ℕ) (is_first : Bool) (datagram left : List ℕ) (old now : Summary) →
+    old.is_sole ≡ true → old.is_named ≡ false →
+    LeavesPackets ssrc is_first old now (packets_in datagram) (packets_in left) → length left ≡ 0
+    → SumsUp ssrc true now (packets_in datagram)
+all_packets_summed ssrc is_first datagram left old now sole named h none =
     let empty : packets_in left ≡ [] = ap packets_in (nil_from_length left none) in
+    let all : Adds old now (all_keep_to ssrc true (packets_in datagram)) (list_any names (packets_in datagram)) =
+    adds_all old now (all_keep_to ssrc true (packets_in datagram)) (list_any names (packets_in datagram))
+    (subst (λ (t : List RtcpPacket). LeavesPackets ssrc is_first old now (packets_in datagram) t) empty h) in
     record {
-      sole = sym (h.sole
-          ∙ ap (λ (packets : List RtcpPacket). passed.is_sole && all_keep_to ssrc is_first packets) empty
-          ∙ and_true passed.is_sole);
-      named = sym (h.named ∙ ap (λ (packets : List RtcpPacket). passed.is_named || list_any names packets) empty
-          ∙ or_false passed.is_named);
+      sole = all.sole ∙ ap (λ (b : Bool). b && all_keep_to ssrc true (packets_in datagram)) sole;
+      named = λ some. ap (λ (b : Bool). b || list_any names (packets_in datagram)) (sym named) ∙ all.named some;
     }
-
--- The identifier is that of the datagram's first packet.
-pub summed_to_sender : (datagram : List ℕ) (id : ℕ) (tested : Result Summary WireFault) →
-    (8 ≤ length datagram → id ≡ sender_of datagram)
-    → MatchResult tested (λ _. IsSomeDatagram datagram) (λ fault. IsFirstFault datagram fault)
-    → IfOk tested (λ summary. SumsUp id true summary (packets_in datagram))
-    → IfOk tested (λ summary. SumsUp (sender_of datagram) true summary (packets_in datagram))
-summed_to_sender datagram id (Ok summary) is valid sums =
-    subst (λ (n : ℕ). SumsUp n true summary (packets_in datagram)) (is (accepted_length datagram valid.0 valid.1)) sums
-summed_to_sender datagram id (Err fault) is valid sums = tt

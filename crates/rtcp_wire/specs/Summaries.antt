@@ -1,6 +1,6 @@
--- What the tests of a datagram see of its sources, against one source: whether the packets keep to it, and whether they
--- give a CNAME. For the contracts between the tests, over what a walk reads.
-use Rattle.std.specs.Prelude.{◌≡◌, ℕ, ◌==◌, ◌&&◌, Bool, true, false, List, [], ◌∷◌, length, drop}
+-- What the tests of a datagram see of its sources, against one source: whether the packets keep to it, and that they give
+-- a CNAME where a chunk begins with one. For the contracts between the tests, over what a walk reads.
+use Rattle.std.specs.Prelude.{◌≡◌, ℕ, ◌==◌, ◌&&◌, ◌||◌, Bool, true, false, List, [], ◌∷◌, Option, Some, None, length, drop}
 use Rattle.std.specs.List.{list_all, list_any}
 use Rattle.byteorder.specs.Endian.{big_number}
 use Rattle.rtcp_wire.specs.declared.validity.summary.Summary.{Summary}
@@ -41,19 +41,30 @@ all_keep_to ssrc is_first (packet ∷ packets) = keeps_to ssrc is_first packet &
 abbrev pub sender_of : List ℕ → ℕ
 sender_of octets = big_number 4 (drop 4 octets)
 
+-- what the sender of the first packet told of its clock
+abbrev pub clock_of : List RtcpPacket → Option (ℕ × ℕ)
+clock_of (sr sender blocks extension ∷ packets) = Some (sender.ntp, sender.rtp)
+clock_of _ = None
+
 -- ---- Summaries
 
--- of a chunk
-pub record SumsChunk (ssrc : ℕ) (summary : Summary) (chunk : ChunkValue) : Type 0 where
-  pub sole : summary.is_sole ≡ (chunk.id == ssrc)
-  pub named : summary.is_named ≡ gives_name chunk
+-- a summary of no packets
+pub record IsNone (summary : Summary) : Type 0 where
+  pub sole : summary.is_sole ≡ true
+  pub named : summary.is_named ≡ false
 
--- of a packet
-pub record Sums (ssrc : ℕ) (is_first : Bool) (summary : Summary) (packet : RtcpPacket) : Type 0 where
-  pub sole : summary.is_sole ≡ keeps_to ssrc is_first packet
-  pub named : summary.is_named ≡ names packet
+-- A part was taken into a summary: whether it keeps to the source, and whether it gives a CNAME.
+pub record Adds (old new : Summary) (keeps gives : Bool) : Type 0 where
+  pub sole : new.is_sole ≡ (old.is_sole && keeps)
+  pub named : new.is_named ≡ true → (old.is_named || gives) ≡ true
 
--- of packets
+abbrev pub AddsChunk : (ssrc : ℕ) → (old new : Summary) → ChunkValue → Type 0
+AddsChunk ssrc old new chunk = Adds old new (chunk.id == ssrc) (gives_name chunk)
+
+abbrev pub AddsPacket : (ssrc : ℕ) → (is_first : Bool) → (old new : Summary) → RtcpPacket → Type 0
+AddsPacket ssrc is_first old new packet = Adds old new (keeps_to ssrc is_first packet) (names packet)
+
+-- a summary of packets
 pub record SumsUp (ssrc : ℕ) (is_first : Bool) (summary : Summary) (packets : List RtcpPacket) : Type 0 where
   pub sole : summary.is_sole ≡ all_keep_to ssrc is_first packets
-  pub named : summary.is_named ≡ list_any names packets
+  pub named : summary.is_named ≡ true → list_any names packets ≡ true

@@ -1,11 +1,13 @@
 //! Compounds: the packets of a datagram (RFC 3550, 6.1 and appendix A.2).
 
 ghost use Rattle.std.specs.Prelude.{◌≡◌, List, IfNone, IfOk, IfSome, IsOkAnd, Err};
+ghost use Rattle.std.specs.List.{list_any};
 ghost use Rattle.rtcp_wire.specs.Values.{RtcpPacket};
 ghost use Rattle.rtcp_wire.specs.Grammar.{IsAccepted};
 ghost use Rattle.rtcp_wire.specs.Faults.{IsFirstFault};
 ghost use Rattle.rtcp_wire.specs.Facts.{facts_of};
-ghost use Rattle.rtcp_wire.specs.Sole.{IsSole};
+ghost use Rattle.rtcp_wire.specs.Sole.{is_name, IsSole};
+ghost use Rattle.rtcp_wire.specs.Summaries.{clock_of};
 ghost use Rattle.rtcp_wire.specs.Walks.{packets_in};
 ghost use Rattle.rtcp_wire.specs.About.{blocks_about};
 ghost use Rattle.rtcp_wire.specs.declared.fault.WireFault.{WireFault as Fault};
@@ -14,10 +16,11 @@ ghost use Rattle.rtcp_wire.specs.declared.sole.SoleSource.{SoleSource as Source}
 mod about;
 mod packets;
 
+use crate::fact::{Fact, Facts, facts};
 use crate::fault::WireFault;
 use crate::packet::PacketView;
 use crate::sole::SoleSource;
-use crate::validity::{Summary, check_datagram};
+use crate::validity::{Summary, check_datagram, first_id};
 pub use about::About;
 pub use packets::Packets;
 use std::marker::Model;
@@ -57,6 +60,8 @@ impl<'a> Compound<'a> {
     ///
     /// Where the datagram is not a compound, or has more than [`MAX_DATAGRAM`] octets: its first fault, and
     /// the offset of the packet that has it, 0 where the datagram is too long.
+    // Inlined, so that the compound is made where it is used, of what the tests return.
+    #[inline(always)]
     pub fn read(datagram: &'a [u8]) -> Result<Compound<'a>, WireFault>
         // What is read is what the octets encode, and an error is their first fault.
         ensures accepted { IfOk result (λ compound. IsAccepted datagram.now compound) }
@@ -67,8 +72,9 @@ impl<'a> Compound<'a> {
             IsOkAnd result (λ compound. compound ≡ packets) }
         ensures finds { (fault : Fault) → IsFirstFault datagram.now fault → result ≡ Err fault }
     {
-        match check_datagram(datagram) {
-            Ok(summary) => Ok(Compound {
+        let mut summary = Summary::of_none();
+        match check_datagram(datagram, &mut summary) {
+            Ok(()) => Ok(Compound {
                 octets: datagram,
                 summary,
             }),
@@ -94,20 +100,30 @@ impl<'a> Compound<'a> {
         if !self.summary.is_sole {
             return None;
         }
-        let is_named = self.summary.is_named;
+        Some(SoleSource {
+            ssrc: first_id(self.octets),
+            timestamps: self.first_timestamps(),
+            is_named: self.is_named(),
+        })
+    }
+
+    /// The NTP and the RTP timestamp of the first report, if it is one of a sender.
+    #[inline(always)]
+    fn first_timestamps(&self) -> Option<(u64, u32)>
+        ensures { result ≡ clock_of self.now }
+    {
         match self.packets().next()? {
-            PacketView::Sr(report) => Some(SoleSource {
-                ssrc: report.ssrc,
-                timestamps: Some((report.ntp, report.rtp)),
-                is_named,
-            }),
-            PacketView::Rr(report) => Some(SoleSource {
-                ssrc: report.ssrc,
-                timestamps: None,
-                is_named,
-            }),
+            PacketView::Sr(report) => Some((report.ntp, report.rtp)),
             _ => None,
         }
+    }
+
+    /// Whether a packet gives a CNAME.
+    #[inline(always)]
+    fn is_named(&self) -> bool
+        ensures { result ≡ list_any is_name (facts_of self.now) }
+    {
+        self.summary.is_named || is_name_among(facts(self))
     }
 
     /// What the reports say of the source `ssrc`: each block that names it, with the SSRC of its packet's
@@ -117,4 +133,16 @@ impl<'a> Compound<'a> {
     {
         About::new(ssrc, self.packets())
     }
+}
+
+/// Whether one of the facts is that a source gave its CNAME.
+fn is_name_among(facts: Facts<'_>) -> bool
+    ensures { result ≡ list_any is_name facts.entry }
+{
+    'facts: for fact in facts {
+        if let Fact::Named(_) = fact {
+            return true;
+        }
+    }
+    false
 }

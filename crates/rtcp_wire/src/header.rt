@@ -82,16 +82,16 @@ pub(crate) fn header_at(octets: &[u8]) -> Header
 
 /// What stands between the header and the padding of a whole packet (RFC 3550, 6.4.1). The last octet of the
 /// padding counts all of it; the others are not checked.
-pub(crate) fn unpadded(octets: &[u8], has_padding: bool) -> Result<&[u8], FaultReason>
-    requires size { length octets.now ≡ size_of octets.now }
-    requires padding { has_padding ≡ is_padded octets.now }
+pub(crate) fn unpadded(octets: &[u8]) -> Result<&[u8], FaultReason>
+    requires { length octets.now ≡ size_of octets.now }
     ensures { MatchResult result
         (λ body. IsUnpadded octets.now body.now)
         (λ reason. (reason ≡ FaultReason.Padding) × Finds FaultReason.Padding false octets.now) }
 {
     let mut reader = Reader::new(octets);
     reader.take(HEADER_SIZE);
-    if !has_padding {
+    // The bit is tested where it stands: a flag of the header would be made for each packet.
+    if octets[0] % 64 < 32 {
         return Ok(reader.rest());
     }
     let padding = octets.last().copied().unwrap_or(0) as usize;

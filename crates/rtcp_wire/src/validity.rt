@@ -1,11 +1,11 @@
 //! The tests of a datagram (RFC 3550, appendix A.2 and 6.4 to 6.7): each packet's header, padding and body,
 //! in the order of `FaultReason`. They make no values.
 
-ghost use Rattle.std.specs.Prelude.{◌≡◌, ◌≤◌, ◌%◌, ◌*◌, ℕ, Bool, length, true, IfOk, MatchResult};
+ghost use Rattle.std.specs.Prelude.{◌≡◌, ◌+◌, ◌≤◌, ◌<◌, ◌%◌, ◌==◌, length, true, IfOk, MatchResult};
 ghost use Rattle.byteorder.specs.Endian.{big_number};
-ghost use Rattle.rtcp_wire.specs.Faults.{least_size, FindsInBody, IsNoReason, IsFirstFound, IsFirstFault, MayStand};
+ghost use Rattle.rtcp_wire.specs.Faults.{FindsInBody, IsNoReason, IsFirstFound, IsFirstFault, MayStand};
 ghost use Rattle.rtcp_wire.specs.Parts.{TakesPrefix};
-ghost use Rattle.rtcp_wire.specs.Summaries.{Sums, SumsUp, sender_of};
+ghost use Rattle.rtcp_wire.specs.Summaries.{AddsPacket, IsNone, SumsUp, sender_of};
 ghost use Rattle.rtcp_wire.specs.Validity.{IsSomeBody, IsSomePacket, IsSomeDatagram};
 ghost use Rattle.rtcp_wire.specs.Walks.{body_says, packet_in, packets_in};
 
@@ -25,12 +25,15 @@ use crate::sr::SENDER_SIZE;
 use chunks::check_chunks;
 pub(crate) use summary::Summary;
 
-/// Tests a datagram: whether it is one packet or more, up to its last octet. Sums up what its packets say of sources.
-pub(crate) fn check_datagram(datagram: &[u8]) -> Result<Summary, WireFault>
+/// Tests a datagram: whether it is one packet or more, up to its last octet. Sums up what its packets say of sources,
+/// against the one of the first.
+pub(crate) fn check_datagram(datagram: &[u8], summary: &mut Summary) -> Result<(), WireFault>
+    requires { IsNone summary.old }
     ensures valid { MatchResult result
         (λ _. IsSomeDatagram datagram.now)
         (λ fault. IsFirstFault datagram.now fault) }
-    ensures sums { IfOk result (λ summary. SumsUp (sender_of datagram.now) true summary (packets_in datagram.now)) }
+    ensures sums { IfOk result (λ _.
+        SumsUp (sender_of datagram.now) true summary.new (packets_in datagram.now)) }
 {
     if datagram.len() > MAX_DATAGRAM {
         return Err(WireFault {
@@ -38,16 +41,14 @@ pub(crate) fn check_datagram(datagram: &[u8]) -> Result<Summary, WireFault>
             place: 0,
         });
     }
-    check_packets(datagram, first_id(datagram))
+    check_packets(datagram, summary)
 }
 
-/// The identifier of the first packet's source, where the datagram begins with a report.
-fn first_id(datagram: &[u8]) -> u32
-    ensures { 8 ≤ length datagram.now → result ≡ sender_of datagram.now }
+/// The source of a datagram's first packet, a report: the identifier after its header.
+pub(crate) fn first_id(datagram: &[u8]) -> u32
+    requires { 8 ≤ length datagram.now }
+    ensures { result ≡ sender_of datagram.now }
 {
-    if datagram.len() < HEADER_SIZE + ID_SIZE {
-        return 0;
-    }
     id_in(datagram.split_at(HEADER_SIZE).1)
 }
 
@@ -59,93 +60,120 @@ fn id_in(octets: &[u8]) -> u32
     Reader::new(octets).u32()
 }
 
-/// Tests packet after packet, to the end of the datagram or to its first fault. Sums up what they say, against the
-/// source `ssrc`.
-fn check_packets(datagram: &[u8], ssrc: u32) -> Result<Summary, WireFault>
-    requires { length datagram.now ≤ 65535 }
+/// Whether the identifier in the first four octets is the source of the datagram's first packet.
+fn is_of_first(octets: &[u8], datagram: &[u8]) -> bool
+    requires octets { 4 ≤ length octets.now }
+    requires datagram { 8 ≤ length datagram.now }
+    ensures { result ≡ (big_number 4 octets.now == sender_of datagram.now) }
+{
+    id_in(octets) == first_id(datagram)
+}
+
+/// Tests packet after packet, to the end of the datagram or to its first fault. Sums up what they say.
+fn check_packets(datagram: &[u8], summary: &mut Summary) -> Result<(), WireFault>
+    requires none { IsNone summary.old }
+    requires short { length datagram.now ≤ 65535 }
     ensures valid { MatchResult result
         (λ _. IsSomeDatagram datagram.now)
         (λ fault. IsFirstFault datagram.now fault) }
-    ensures sums { IfOk result (λ summary. SumsUp ssrc true summary (packets_in datagram.now)) }
+    ensures sums { IfOk result (λ _.
+        SumsUp (sender_of datagram.now) true summary.new (packets_in datagram.now)) }
 {
     let mut reader = Reader::new(datagram);
-    let mut summary = Summary::of_none();
     'packets: loop {
         let place = datagram.len() - reader.left();
-        match pass_packet(&mut reader, place == 0, ssrc) {
-            Ok(packet) => summary = summary.with(packet),
+        match pass_packet(&mut reader, place == 0, datagram, summary) {
+            Ok(()) => {}
             Err(reason) => return Err(WireFault { reason, place }),
         }
         if reader.left() == 0 {
-            return Ok(summary);
+            return Ok(());
         }
     }
 }
 
-/// Tests the next packet, and takes it. Sums up what it says, against the source `ssrc`.
-fn pass_packet(reader: &mut Reader<'_>, is_first: bool, ssrc: u32) -> Result<Summary, FaultReason>
+/// Tests the next packet, and takes it. Sums up what it says.
+fn pass_packet(
+    reader: &mut Reader<'_>,
+    is_first: bool,
+    datagram: &[u8],
+    summary: &mut Summary,
+) -> Result<(), FaultReason>
+    requires { length reader.old ≤ length datagram.now }
     ensures valid { MatchResult result
         (λ _. TakesPrefix reader.old reader.new (λ octets. IsSomePacket octets × MayStand is_first octets))
         (λ reason. IsFirstFound reason is_first reader.old) }
-    ensures sums { IfOk result (λ summary. Sums ssrc is_first summary (packet_in reader.old)) }
+    ensures sums { IfOk result (λ _.
+        AddsPacket (sender_of datagram.now) is_first summary.old summary.new (packet_in reader.old)) }
 {
     let header = read_header(reader.rest(), is_first)?;
     let octets = reader.take(header.size);
-    let body = unpadded(octets, header.is_padded)?;
-    check_body(header.kind, header.count, body, is_first, ssrc)
+    let body = unpadded(octets)?;
+    check_body(header.kind, header.count, body, is_first, datagram, summary)
 }
 
-/// Tests a body under its packet's type and count. Sums up what it says, against the source `ssrc`.
+/// Tests a body under its packet's type and count. Sums up what it says.
 fn check_body(
     kind: u8,
     count: u8,
     body: &[u8],
     is_first: bool,
-    ssrc: u32,
-) -> Result<Summary, FaultReason>
-    requires { length body.now % 4 ≡ 0 }
+    datagram: &[u8],
+    summary: &mut Summary,
+) -> Result<(), FaultReason>
+    requires words { length body.now % 4 ≡ 0 }
+    requires within { 4 + length body.now ≤ length datagram.now }
     ensures valid { MatchResult result
         (λ _. IsSomeBody kind count body.now)
         (λ reason. FindsInBody reason kind count body.now) }
-    ensures sums { IfOk result (λ summary. Sums ssrc is_first summary (body_says kind count body.now)) }
+    ensures sums { IfOk result (λ _.
+        AddsPacket (sender_of datagram.now) is_first summary.old summary.new (body_says kind count body.now)) }
 {
-    if body.len() < fewest_octets(kind, count) {
+    match kind {
+        SENDER_REPORT => {
+            has_room(body, SENDER_SIZE + BLOCK_SIZE * count as usize)?;
+            summary.keep(is_first & is_of_first(body, datagram));
+        }
+        RECEIVER_REPORT => {
+            has_room(body, ID_SIZE + BLOCK_SIZE * count as usize)?;
+            summary.keep(is_of_first(body, datagram));
+        }
+        SOURCE_DESCRIPTION => check_chunks(count, body, datagram, summary)?,
+        GOODBYE => {
+            check_goodbye(count, body)?;
+            summary.keep(count == 0);
+        }
+        APPLICATION => {
+            has_room(body, 2 * WORD_SIZE)?;
+            summary.keep(is_of_first(body, datagram));
+        }
+        _ => {}
+    }
+    Ok(())
+}
+
+/// Tests that a body has so many octets at least.
+fn has_room(body: &[u8], fewest: usize) -> Result<(), FaultReason>
+    ensures { MatchResult result
+        (λ _. fewest ≤ length body.now)
+        (λ reason. (reason ≡ FaultReason.Body) × (length body.now < fewest)) }
+{
+    if body.len() < fewest {
         return Err(FaultReason::Body);
     }
-    match kind {
-        SOURCE_DESCRIPTION => check_chunks(count, body, ssrc),
-        GOODBYE => check_goodbye(count, body),
-        SENDER_REPORT => Ok(Summary::of_one(is_first & (id_in(body) == ssrc))),
-        RECEIVER_REPORT | APPLICATION => Ok(Summary::of_one(id_in(body) == ssrc)),
-        _ => Ok(Summary::of_none()),
-    }
+    Ok(())
 }
 
-/// Tests a BYE with room for its identifiers. It says of each source that it left.
-fn check_goodbye(count: u8, body: &[u8]) -> Result<Summary, FaultReason>
-    requires words { length body.now % 4 ≡ 0 }
-    requires room { 4 * count ≤ length body.now }
-    ensures valid { MatchResult result
+/// Tests the body of a BYE.
+fn check_goodbye(count: u8, body: &[u8]) -> Result<(), FaultReason>
+    requires { length body.now % 4 ≡ 0 }
+    ensures { MatchResult result
         (λ _. IsSomeBody 203 count body.now)
         (λ reason. FindsInBody reason 203 count body.now) }
-    ensures sums { IfOk result (λ summary. (ssrc : ℕ) (is_first : Bool) →
-        Sums ssrc is_first summary (body_says 203 count body.now)) }
 {
-    check_reason(body.split_at(ID_SIZE * count as usize).1)?;
-    Ok(Summary::of_one(count == 0))
-}
-
-/// The fewest octets that a body of this type and count can have.
-fn fewest_octets(kind: u8, count: u8) -> usize
-    ensures { result ≡ least_size kind count }
-{
-    match kind {
-        SENDER_REPORT => SENDER_SIZE + BLOCK_SIZE * count as usize,
-        RECEIVER_REPORT => ID_SIZE + BLOCK_SIZE * count as usize,
-        GOODBYE => ID_SIZE * count as usize,
-        APPLICATION => 2 * WORD_SIZE,
-        _ => 0,
-    }
+    let size = ID_SIZE * count as usize;
+    has_room(body, size)?;
+    check_reason(body.split_at(size).1)
 }
 
 /// Tests what follows the identifiers of a BYE, whole words: a reason, or nothing. The octets after the

@@ -1,44 +1,41 @@
 //! What the tests of a datagram see of its sources as they pass over its octets.
 
-ghost use Rattle.std.specs.Prelude.{◌≡◌, ◌&&◌, ◌||◌, true, false};
+ghost use Rattle.std.specs.Prelude.{◌≡◌, ◌&&◌, ◌||◌};
+ghost use Rattle.rtcp_wire.specs.Summaries.{IsNone};
 
-/// A summary of some packets, or of a part of one, against one source.
+/// What was seen of a datagram's packets so far, against the source of the first one.
 #[derive(Clone, Copy, Debug, Drop)]
 pub(crate) struct Summary {
     /// Whether they say of no other source that it is there, and of none that it left.
     pub(crate) is_sole: bool,
-    /// Whether they give a CNAME.
+    /// Whether a chunk begins with a CNAME. Where none does, they may still give one.
     pub(crate) is_named: bool,
 }
 
 impl Summary {
-    /// Of what says nothing of any source.
-    pub(super) fn of_none() -> Summary
-        ensures sole { result.is_sole ≡ true }
-        ensures named { result.is_named ≡ false }
-    {
-        Summary::of_one(true)
-    }
-
-    /// Of what says that a source is there, with whether it is the one.
-    pub(super) fn of_one(is_sole: bool) -> Summary
-        ensures sole { result.is_sole ≡ is_sole }
-        ensures named { result.is_named ≡ false }
+    /// Of no packets.
+    pub(crate) fn of_none() -> Summary
+        ensures { IsNone result }
     {
         Summary {
-            is_sole,
+            is_sole: true,
             is_named: false,
         }
     }
 
-    /// Of these and those of the other.
-    pub(super) fn with(self, other: Summary) -> Summary
-        ensures sole { result.is_sole ≡ (self.is_sole && other.is_sole) }
-        ensures named { result.is_named ≡ (self.is_named || other.is_named) }
+    /// Takes in that they say something, with whether it keeps to the one source.
+    pub(super) fn keep(&mut self, is_kept: bool)
+        ensures sole { self.new.is_sole ≡ (self.old.is_sole && is_kept) }
+        ensures named { self.new.is_named ≡ self.old.is_named }
     {
-        Summary {
-            is_sole: self.is_sole & other.is_sole,
-            is_named: self.is_named | other.is_named,
-        }
+        self.is_sole &= is_kept;
+    }
+
+    /// Takes in a chunk, with whether it begins with a CNAME.
+    pub(super) fn name(&mut self, is_first: bool)
+        ensures sole { self.new.is_sole ≡ self.old.is_sole }
+        ensures named { self.new.is_named ≡ (self.old.is_named || is_first) }
+    {
+        self.is_named |= is_first;
     }
 }

@@ -44,11 +44,25 @@ const LEAVING: [u8; 16] = [
     0x81, 0xcb, 0, 1, 0, 0, 0, 7, // a goodbye of one source
 ];
 
+/// A receiver report of source 7, and its CNAME after an item of another type.
+const NAMED_SECOND: [u8; 24] = [
+    0x80, 0xc9, 0, 1, 0, 0, 0, 7, // a receiver report
+    0x81, 0xca, 0, 3, 0, 0, 0, 7, // a source description of four words, with one chunk
+    2, 1, 0x62, 1, 1, 0x61, 0, 0, // a NAME, a CNAME, and the zero octet
+];
+
 /// Compounds, and the one source that each is about.
-static SOLE: [(&[u8], Option<SoleSource>); 4] = [
+static SOLE: [(&[u8], Option<SoleSource>); 5] = [
     (&[0x80, 0xc9, 0, 1, 0, 0, 0, 7], Some(SEVEN)),
     (&INTRODUCED, Some(NINE)),
     (&TWICE, Some(SEVEN)),
+    (
+        &NAMED_SECOND,
+        Some(SoleSource {
+            is_named: true,
+            ..SEVEN
+        }),
+    ),
     (&LEAVING, None),
 ];
 

@@ -1,7 +1,7 @@
 use Rattle.std.proofs.Common.{◌∙◌, ap, take, drop, subst}
 use Rattle.rtcp_wire.specs.Grammar.{size_of, type_of, count_of}
 use Rattle.rtcp_wire.specs.Parts.{IsWhole, IsUnpadded}
-use Rattle.rtcp_wire.specs.Summaries.{Sums}
+use Rattle.rtcp_wire.specs.Summaries.{sender_of, AddsPacket}
 use Rattle.rtcp_wire.proofs.PacketOrFault.{HasBody, packet_passed, packet_summed}
 use Rattle.rtcp_wire.proofs.validity.pass_packet.Goals as goal
 
@@ -24,5 +24,6 @@ returns c =
       valid = rw left (packet_passed c.args.is_first octets body header.kind header.count has c.check_body.result
           c.check_body.ensures.valid);
       sums = packet_summed c.args.is_first octets body header.kind header.count has
-          (Sums c.args.ssrc c.args.is_first) c.check_body.result c.check_body.ensures.sums;
+          (λ _ packet. AddsPacket (sender_of c.args.datagram.now) c.args.is_first c.args.summary.now
+          c.check_body.new.summary packet) c.check_body.result c.check_body.ensures.sums;
     }

@@ -1,6 +1,6 @@
-use Rattle.std.proofs.Common.{◌∷◌, ap, sym, ◌∙◌}
-use Rattle.rtcp_wire.specs.Views.{packet_value, sender_value, sender_blocks, receiver_blocks}
-use Rattle.rtcp_wire.proofs.SoleSources.{sole_at_sender, sole_at_receiver, not_sole}
+use Rattle.rtcp_wire.proofs.Reporters.{accepted_length}
+use Rattle.rtcp_wire.proofs.SoleSources.{sole_now, not_sole}
+use Rattle.rtcp_wire.specs.Walks.{packets_in}
 use Rattle.rtcp_wire.proofs.compound.Compound.sole.Goals as goal
 
 pub returns-then-not-self-clause-several : goal.returns-then-not-self-clause-several
@@ -8,20 +8,12 @@ returns-then-not-self-clause-several c =
     not_sole c.self.inside.octets.now c.self.inside.summary c.self.invariant.0 c.self.invariant.1 c.args.self.now
     c.self.view_is c.if-not-self.true
 
-pub returns-in-Sr-clause-sole : goal.returns-in-Sr-clause-sole
-returns-in-Sr-clause-sole c =
-    let report = c.in-Sr.report in
-    sole_at_sender c.self.inside.octets.now c.self.inside.summary c.self.invariant.0 c.self.invariant.1 c.args.self.now
-    c.self.view_is (sender_value report) (sender_blocks report) report.extension.now c.next.new.self
-    c.if-not-self.false
-    (sym c.packets.ensures ∙ c.in_ok-report.ensures.steps
-    ∙ ap (λ packet. packet_value packet ∷ c.next.new.self) c.in-Sr.is)
+pub first_id-requires : goal.first_id-requires
+first_id-requires c =
+    accepted_length c.self.inside.octets.now (packets_in c.self.inside.octets.now) c.self.invariant.0
 
-pub returns-in-Rr-clause-sole : goal.returns-in-Rr-clause-sole
-returns-in-Rr-clause-sole c =
-    let report = c.in-Rr.report in
-    sole_at_receiver c.self.inside.octets.now c.self.inside.summary c.self.invariant.0 c.self.invariant.1
-    c.args.self.now c.self.view_is report.ssrc (receiver_blocks report) report.extension.now c.next.new.self
-    c.if-not-self.false
-    (sym c.packets.ensures ∙ c.in_ok-report.ensures.steps
-    ∙ ap (λ packet. packet_value packet ∷ c.next.new.self) c.in-Rr.is)
+pub returns-clause-sole : goal.returns-clause-sole
+returns-clause-sole c =
+    rw c.first_timestamps.ensures
+    (sole_now c.self.inside.octets.now c.self.inside.summary c.self.invariant.0 c.self.invariant.1 c.args.self.now
+    c.self.view_is c.first_id.result c.is_named.result c.first_id.ensures c.if-not-self.false c.is_named.ensures)

@@ -1,22 +1,22 @@
 use Rattle.std.proofs.Common.{arith}
+use Rattle.rtcp_wire.specs.Summaries.{sender_of}
 use Rattle.rtcp_wire.proofs.Passing.{no_chunk_taken, chunk_taken, all_chunks}
 use Rattle.rtcp_wire.proofs.Summing.{no_chunk_summed, chunk_left, all_chunks_summed}
 use Rattle.rtcp_wire.proofs.validity.chunks.check_chunks.Goals as goal
 
 pub loop-init : goal.loop-init
 loop-init c = rw c.new-reader.ensures (record {
-  taken = no_chunk_taken c.args.body.now c.requires;
-  summed = no_chunk_summed c.args.ssrc c.args.count c.of_none-summary.result c.args.body.now
-      c.of_none-summary.ensures.sole c.of_none-summary.ensures.named;
+  taken = no_chunk_taken c.args.body.now c.requires.words;
+  summed = no_chunk_summed (sender_of c.args.datagram.now) c.args.count c.args.summary.now c.args.body.now;
 })
 
 pub loop-preserved : goal.loop-preserved
 loop-preserved c = record {
   taken = chunk_taken c.loop.counter c.args.body.now c.loop.reader c.pass_chunk.new.reader c.loop.invariant.taken
       c.in-Some.ensures.valid.0 c.in-Some.ensures.valid.1;
-  summed = chunk_left c.args.ssrc c.args.count c.loop.counter c.args.body.now c.loop.reader c.pass_chunk.new.reader
-      c.loop.summary c.in-Some.chunk c.with-summary.result (omega arith) c.loop.invariant.summed
-      c.in-Some.ensures.valid.0 c.in-Some.ensures.sums c.with-summary.ensures.sole c.with-summary.ensures.named;
+  summed = chunk_left (sender_of c.args.datagram.now) c.args.count c.loop.counter c.args.body.now c.loop.reader
+      c.pass_chunk.new.reader c.args.summary.now c.loop.summary c.pass_chunk.new.summary (omega arith)
+      c.loop.invariant.summed c.in-Some.ensures.valid.0 c.in-Some.ensures.sums;
 }
 
 pub returns-clause-valid : goal.returns-clause-valid
@@ -24,5 +24,5 @@ returns-clause-valid c = all_chunks c.loop.counter c.args.count c.args.body.now 
     (omega arith) (omega arith)
 
 pub returns-clause-sums : goal.returns-clause-sums
-returns-clause-sums c = all_chunks_summed c.args.ssrc c.args.count c.loop.counter c.args.body.now c.loop.reader
-    c.loop.summary c.loop.invariant.summed (omega arith)
+returns-clause-sums c = all_chunks_summed (sender_of c.args.datagram.now) c.args.count c.loop.counter c.args.body.now
+    c.loop.reader c.args.summary.now c.loop.summary c.loop.invariant.summed (omega arith)
