@@ -4,3 +4,4 @@ pub mod Placing
 pub mod Inserting
 pub mod Edits
 pub mod Checking
+pub mod Reported

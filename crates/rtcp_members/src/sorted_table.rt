@@ -8,10 +8,10 @@ ghost use Rattle.rtcp_members.specs.Listings.{first_state};
 ghost use Rattle.rtcp_members.specs.Entries.{is_such};
 ghost use Rattle.rtcp_members.specs.ListViews.{state_value, rows_of, map_of, table_of, tally_of, IsRankOf};
 ghost use Rattle.rtcp_members.specs.storage.Shelves.{Joins, LieAsBefore, tallies_differ};
-ghost use Rattle.rtcp_members.specs.storage.SortedViews.{CutsAbove, IsRising, IsSortedTable, IsGapFor, Locates};
+ghost use Rattle.rtcp_members.specs.storage.SortedViews.{CutsAbove, RanksFirst, IsRising, IsSortedTable, IsGapFor, Locates};
 ghost use Rattle.rtcp_members.specs.declared.bounds.Bounds.{Bounds as BoundsOf};
 ghost use Rattle.rtcp_members.specs.storage.Standing.{AllStandBy, IsUpTo};
-ghost use Rattle.rtcp_members.specs.Pending.{is_due, is_above, first_ssrc};
+ghost use Rattle.rtcp_members.specs.Pending.{is_due, is_above, pending};
 ghost use Rattle.rtcp_members.specs.Tables.{no_members, placed, after_fact, after_check, after_forgetting, is_unmarked, dropped_entries, dropped_senders};
 
 use crate::blocks::Blocks;
@@ -195,14 +195,9 @@ impl<C: Blocks<Cell>, S: Blocks<Slot>> MemberTable for Sorted<C, S> {
     }
 
     fn next_with_news(&self, after: Option<u32>) -> Option<u32> {
-        if self.entries.counts().due == 0 {
-            return None;
-        }
-        let (entries, last_rank) = (&self.entries, usize::from(self.last_rank));
-        let first = first_above(entries, last_rank, after);
-        match first_due(entries, first, entries.len()) {
-            Some(ssrc) => Some(ssrc),
-            None => first_due(entries, 0, first),
+        match next_due(&self.entries, usize::from(self.last_rank), after) {
+            Some(at) => Some(self.entries.ssrc_at(at)),
+            None => None,
         }
     }
 
@@ -212,6 +207,17 @@ impl<C: Blocks<Cell>, S: Blocks<Slot>> MemberTable for Sorted<C, S> {
         let at = search(&self.entries, next, ssrc).unwrap();
         self.last_rank = at as u16;
         self.entries.report(at, t)
+    }
+
+    // The source is not searched for again: its rank is known once it is found to be the next.
+    fn next_block(&mut self, after: Option<u32>, t: u64) -> Option<Block> {
+        match next_due(&self.entries, usize::from(self.last_rank), after) {
+            Some(at) => {
+                self.last_rank = at as u16;
+                Some(self.entries.report(at, t))
+            }
+            None => None,
+        }
     }
 
     // By the hint at the source of `after`, which most likely says where that stands.
@@ -418,20 +424,43 @@ fn state_at<C: Blocks<Cell>, S: Blocks<Slot>>(
     Some(entries.state(at))
 }
 
-/// The first source of which a block is due, among those that stand from `from` on and before `until`.
+/// The rank of the first pending source after `after`. The last rank is looked at first.
+#[inline(always)]
+fn next_due<C: Blocks<Cell>, S: Blocks<Slot>>(
+    entries: &Shelf<C, S>,
+    last_rank: usize,
+    after: Option<u32>,
+) -> Option<usize>
+    requires rising { IsRising entries.now.items }
+    requires few { length entries.now.items ≤ 1024 }
+    ensures { (capacity : ℕ) →
+        RanksFirst (pending after (table_of capacity entries.now.items)) entries.now.items result }
+{
+    if entries.counts().due == 0 {
+        return None;
+    }
+    let first = first_above(entries, last_rank, after);
+    match first_due(entries, first, entries.len()) {
+        Some(at) => Some(at),
+        None => first_due(entries, 0, first),
+    }
+}
+
+/// The rank of the first source of which a block is due, among those that stand from `from` on and before `until`.
 fn first_due<C: Blocks<Cell>, S: Blocks<Slot>>(
     entries: &Shelf<C, S>,
     from: usize,
     until: usize,
-) -> Option<u32>
+) -> Option<usize>
+    requires rising { IsRising entries.now.items }
     requires ordered { from ≤ until }
     requires bound { until ≤ length entries.now.items }
-    ensures { result ≡ first_ssrc (filter (λ row. is_due row.1)
-        (rows_of (drop from (take until entries.now.items)))) }
+    ensures { RanksFirst (filter (λ row. is_due row.1) (rows_of (drop from (take until entries.now.items))))
+        entries.now.items result }
 {
     'entries: for at in from..until {
         if entries.is_due_at(at) {
-            return Some(entries.ssrc_at(at));
+            return Some(at);
         }
     }
     None

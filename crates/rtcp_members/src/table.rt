@@ -1,6 +1,6 @@
 //! Tables of members (RFC 3550, 6.2.1, 6.3.3 to 6.3.5 and 6.3.7).
 
-ghost use Rattle.std.specs.Prelude.{◌≡◌, ◌≤◌, ◌^◌, IfSome, IsTrue, Some, is_some, option_map};
+ghost use Rattle.std.specs.Prelude.{◌≡◌, ◌≤◌, ◌^◌, IfSome, IsTrue, MatchOption, Some, is_some, option_map};
 ghost use Rattle.std.specs.FinMap as map;
 ghost use Rattle.rtcp_wire.specs.Facts.{subject, is_media};
 ghost use Rattle.rtcp_members.specs.Traces.{horizons_at};
@@ -155,6 +155,22 @@ pub trait MemberTable {
         ensures block { Some (block_value result) ≡ block_at ssrc t (content self.old) }
         ensures content { content self.new ≡ after_block ssrc (content self.old) }
         ensures writable { IsWritableBlock (block_value result) };
+
+    /// The reception report block of the source that `next_with_news` returns, made as `block_of` makes it, at the
+    /// moment `t`, in microseconds (RFC 3550, 6.4). Where no source has news, it returns `None` and changes nothing.
+    /// Begun with the SSRC of the last block, and gone on with that of each answer, it makes the blocks of a report.
+    fn next_block(&mut self, after: Option<u32>, t: u64) -> Option<Block>
+        ensures source { option_map (λ block. block.ssrc) result
+            ≡ first_ssrc (pending after (content self.old)) }
+        ensures block { IfSome result (λ block.
+            Some (block_value block) ≡ block_at block.ssrc t (content self.old)) }
+        ensures content { MatchOption result (content self.new ≡ content self.old) (λ block.
+            content self.new ≡ after_block block.ssrc (content self.old)) }
+        ensures writable { IfSome result (λ block. IsWritableBlock (block_value block)) }
+    {
+        let ssrc = self.next_with_news(after)?;
+        Some(self.block_of(ssrc, t))
+    }
 
     /// What is known of the source of least SSRC above `after`, or of all sources: of one that is not yet valid
     /// or that left, too. It changes nothing. Begun with `None` and gone on with the SSRC of each answer, it goes

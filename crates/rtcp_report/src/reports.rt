@@ -110,15 +110,16 @@ fn put_blocks<T: MemberTable>(
         ≡ drop most (pending cursor.old (T.content table.old)) }
 {
     let mut count = 0;
+    let mut last = *cursor;
     'sources: while count < most {
-        let Some(ssrc) = table.next_with_news(*cursor) else {
+        let Some(block) = table.next_block(last, t) else {
             break;
         };
-        let block = table.block_of(ssrc, t);
         put_block(octets, at + BLOCK_SIZE * count, &block);
-        *cursor = Some(ssrc);
+        last = Some(block.ssrc);
         count += 1;
     }
+    *cursor = last;
     count
 }
 

@@ -1,5 +1,5 @@
 -- A source of which a block is due, at its entry of a sorted list.
-use Rattle.std.proofs.Common.{◌≡◌, ◌-◌, ℕ, Bool, true, List, IsTrue, slice_index_or, if◌then◌else◌, arith, ap, subst, ◌∙◌}
+use Rattle.std.proofs.Common.{◌≡◌, ◌-◌, ℕ, Bool, true, List, IsTrue, slice_index_or, if◌then◌else◌, arith, sym, ap, subst, ◌∙◌}
 use Rattle.std.specs.FinMap as finite
 use Rattle.rtcp_members.specs.declared.counts.Counts.{Counts}
 use Rattle.rtcp_members.specs.declared.entry.Entry.{Entry}
@@ -18,6 +18,13 @@ module _ (ssrc : ℕ) (entries : List Entry) (at : ℕ) (place : IsRankOf ssrc e
   -- It is the entry that is due.
   pub due_there : (d : Entry) → IsTrue (is_due (entry_value (slice_index_or entries at d)))
   due_there d = ap (λ (y : Entry). is_due (entry_value y)) (read_there ssrc entries at d place) ∙ its_due
+
+-- One source stands at a rank.
+pub same_rank : (entries : List Entry) (at one other : ℕ) → IsRankOf one entries at → IsRankOf other entries at →
+    one ≡ other
+same_rank entries at one other its place =
+    sym its.its_ssrc ∙ ap (λ (e : Entry). e.ssrc) (sym (read_there one entries at its.entry its)
+    ∙ read_there other entries at its.entry place) ∙ place.its_ssrc
 
 -- Once its block is made, a source is due no more, and else counts as it did.
 pub recounted_reported : (e next : Entry) → entry_value next ≡ reported_entry (entry_value e) →

@@ -10,7 +10,7 @@ use Rattle.std.proofs.lemmas.Bool.Decides.{nat_tests}
 use Rattle.rtcp_members.specs.declared.entry.Entry.{Entry}
 use Rattle.rtcp_members.specs.Tables.{TableValue}
 use Rattle.rtcp_members.specs.ListViews.{entry_value, row_of, rows_of, map_of, table_of, tally_of, IsRankOf}
-use Rattle.rtcp_members.specs.storage.SortedViews.{CutsAbove, IsRising, IsGapFor}
+use Rattle.rtcp_members.specs.storage.SortedViews.{CutsAbove, IsFirstDue, IsRising, IsGapFor, RanksFirst}
 use Rattle.rtcp_members.specs.Pending.{EntryRow, due_rows, in_turn, first_ssrc, is_above, is_due, pending}
 use Rattle.rtcp_members.proofs.lists.Listing.{get_rows}
 use Rattle.rtcp_members.proofs.turns.LeastDue.{filter_twice, none_first, some_first}
@@ -160,3 +160,23 @@ module _ (last : Option ℕ) (capacity : ℕ) (entries : List Entry) (n : ℕ) (
   first_pending first second finds finds_before =
       ap (λ o. if is_some first then first else o) finds_before ∙ first_of_both (due_of (drop n entries))
       (due_of (take n entries)) first finds ∙ ap first_ssrc pending_in
+
+  -- The rank of the first that is due from the place on is that of the first pending source.
+  pub ranked_from : (at : ℕ) → IsFirstDue (due_of (drop n entries)) entries at → IsFirstDue (pending last table) entries at
+  ranked_from at found = record {
+    ssrc = found.ssrc;
+    first = first_pending (Some found.ssrc) (first_ssrc (due_of (take n entries))) found.first refl;
+    place = found.place;
+    due = found.due;
+  }
+
+  -- Where none is, it is that of the first before the place, if there is one.
+  pub ranked_before : None ≡ first_ssrc (due_of (drop n entries)) → (found : Option ℕ) →
+      RanksFirst (due_of (take n entries)) entries found → RanksFirst (pending last table) entries found
+  ranked_before none None nowhere = first_pending None None none nowhere
+  ranked_before none (Some at) found = record {
+    ssrc = found.ssrc;
+    first = first_pending None (Some found.ssrc) none found.first;
+    place = found.place;
+    due = found.due;
+  }

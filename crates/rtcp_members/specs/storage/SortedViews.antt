@@ -1,10 +1,10 @@
 -- Lists of entries by rising SSRC.
-use Rattle.std.specs.Prelude.{ℕ, ◌≡◌, ◌<◌, ◌≤◌, T, not, filter, take, drop, Option, List, length, Result, Ok, Err, slice_index_or}
+use Rattle.std.specs.Prelude.{ℕ, ◌≡◌, ◌<◌, ◌≤◌, T, IsTrue, not, filter, take, drop, Option, Some, None, List, length, Result, Ok, Err, slice_index_or}
 use Rattle.std.specs.Ordering.{nat_cmp}
 use Rattle.std.specs.FinMap as finite
 use Rattle.rtcp_members.specs.declared.entry.Entry.{Entry}
-use Rattle.rtcp_members.specs.Pending.{is_above}
-use Rattle.rtcp_members.specs.ListViews.{rows_of, IsRankOf}
+use Rattle.rtcp_members.specs.Pending.{EntryRow, first_ssrc, is_above, is_due}
+use Rattle.rtcp_members.specs.ListViews.{entry_value, rows_of, IsRankOf}
 
 -- The SSRCs strictly rise.
 abbrev pub IsRising : List Entry → Type 0
@@ -32,3 +32,15 @@ pub record CutsAbove (last : Option ℕ) (entries : List Entry) (rank : ℕ) : T
 abbrev pub Locates : (ssrc : ℕ) → List Entry → Result ℕ ℕ → Type 0
 Locates ssrc entries (Ok rank) = IsRankOf ssrc entries rank
 Locates ssrc entries (Err gap) = IsGapFor ssrc entries gap
+
+-- The first of these rows is of the source that stands at a rank, and a block of it is due.
+pub record IsFirstDue (rows : List EntryRow) (entries : List Entry) (at : ℕ) : Type 0 where
+  pub ssrc : ℕ
+  pub first : Some ssrc ≡ first_ssrc rows
+  pub place : IsRankOf ssrc entries at
+  pub due : (d : Entry) → IsTrue (is_due (entry_value (slice_index_or entries at d)))
+
+-- What a search of the first row's source comes to: its rank, or nothing where there is no row.
+abbrev pub RanksFirst : List EntryRow → List Entry → Option ℕ → Type 0
+RanksFirst rows entries None = None ≡ first_ssrc rows
+RanksFirst rows entries (Some at) = IsFirstDue rows entries at

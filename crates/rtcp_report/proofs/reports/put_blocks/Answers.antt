@@ -1,7 +1,6 @@
--- The next pending source is due, and its block is written after the others.
+-- The block of the next pending source is written after the others.
 use Rattle.std.proofs.Common.{arith}
 use Rattle.rtcp_wire.proofs.Putting.{nothing_put}
-use Rattle.rtcp_members.proofs.LawLemmas.{first_is_due-answered}
 use Rattle.rtcp_report.proofs.TakenInTurn.{none_taken, one_more}
 use Rattle.rtcp_report.proofs.reports.put_blocks.Goals as goal
 
@@ -12,16 +11,12 @@ sources-init g c = record {
   within = omega arith;
 }
 
-pub block_of-block-requires : goal.block_of-block-requires
-block_of-block-requires g c =
-    first_is_due-answered c.sources.cursor (g.T.MemberTable.content c.sources.table) c.in-Some.ssrc c.in-Some.ensures
-
 pub sources-preserved : goal.sources-preserved
 sources-preserved g c = record {
-  taken = one_more c.sources.invariant.taken c.in-Some.ensures (record {
-    made = c.block_of-block.ensures.block;
-    moved = c.block_of-block.ensures.content;
-    can = c.block_of-block.ensures.writable;
+  taken = one_more c.sources.invariant.taken c.in-Some.ensures.source (record {
+    made = c.in-Some.ensures.block;
+    moved = c.in-Some.ensures.content;
+    can = c.in-Some.ensures.writable;
     fits = c.put_block.ensures.in_range;
     put = c.put_block.ensures.put;
   });

@@ -4,7 +4,7 @@ use Rattle.rtcp_report.proofs.reports.put_blocks.Given as goal
 
 abbrev pub invariant-sources : goal.invariant-sources
 invariant-sources g l = record {
-  taken : IsTaken l.t l.initial.cursor (g.T.MemberTable.content l.initial.table) l.cursor
+  taken : IsTaken l.t l.cursor (g.T.MemberTable.content l.initial.table) l.last
       (g.T.MemberTable.content l.table) l.at l.count l.initial.octets l.octets;
   within : l.count ≤ l.most;
 }

@@ -1,17 +1,14 @@
 -- A source of which a block is due is found, and its entry is the one that the map has.
-use Rattle.std.proofs.Common.{List, IsTrue, Some, arith, sym, ap, subst, ◌∙◌}
+use Rattle.std.proofs.Common.{List, IsTrue, sym, subst}
 use Rattle.std.proofs.lemmas.Option.{slice_get_within}
 use Rattle.rtcp_wire.specs.Views.{block_value}
 use Rattle.rtcp_members.specs.declared.entry.Entry.{Entry}
-use Rattle.rtcp_members.specs.storage.Heaps.{no_entry}
 use Rattle.rtcp_members.specs.ListViews.{table_of, IsRankOf}
-use Rattle.rtcp_members.specs.Pending.{is_due_at, after_block, block_at, reported_entry}
+use Rattle.rtcp_members.specs.Pending.{is_due_at}
 use Rattle.rtcp_members.specs.storage.SortedViews.{Locates}
 use Rattle.rtcp_members.specs.Tables.{TableValue}
-use Rattle.rtcp_members.proofs.sorted.Edits.{sorted_edited, stand_edited}
 use Rattle.rtcp_members.proofs.sorted.Placing.{due_there}
-use Rattle.rtcp_members.proofs.lists.Reporting.{block_reported, table_reported}
-use Rattle.rtcp_members.proofs.sorted.Rising.{rising_apart}
+use Rattle.rtcp_members.proofs.sorted.Reported.{block_made, kept_reported, table_after}
 use Rattle.rtcp_members.proofs.sorted.Searching.{due_is_found}
 use Rattle.rtcp_members.proofs.sorted_table.SortedMemberTable.block_of.Goals as goal
 use Rattle.rtcp_members.proofs.sorted_table.SortedMemberTable.block_of.Given.{Over}
@@ -41,31 +38,23 @@ report-requires g c =
 pub returns : goal.returns
 returns g c =
     let items : List Entry = c.self.inside.entries.items in
+    let next : List Entry = c.report.new.self.items in
+    let at = c.unwrap-at.result in
+    let value = block_value c.report.result in
     let place = stands g (goal.at.returns g c).After-unwrap-at in
-    let made = c.report.ensures.made.changed in
+    let made = c.report.ensures.made in
     record {
-      block = block_reported c.args.ssrc c.args.t items c.unwrap-at.result no_entry
-          (Some (block_value c.report.result)) place (c.report.ensures.made.block no_entry) c.self.inside.capacity
-          ∙ ap (block_at c.args.ssrc c.args.t) c.self.view_is;
-      content = ap (table_of c.self.inside.capacity) made.items
-          ∙ table_reported c.args.ssrc items c.unwrap-at.result no_entry made.entry
-          (rising_apart items c.self.invariant.sorted.rising) place (made.ssrc no_entry) (made.value no_entry)
-          c.self.inside.capacity
-          ∙ ap (after_block c.args.ssrc) c.self.view_is;
-      writable = c.report.ensures.made.writable;
+      block = block_made c.args.ssrc c.args.t items next at value place made c.self.inside.capacity c.args.self.now
+          c.self.view_is;
+      content = table_after c.args.ssrc c.args.t items next at value place made c.self.inside.capacity c.args.self.now
+          c.self.invariant.sorted.rising c.self.view_is;
+      writable = made.writable;
     }
 
 pub invariant_of-self : goal.invariant_of-self
 invariant_of-self g c =
     let items : List Entry = c.self.inside.entries.items in
-    let at = c.unwrap-at.result in
     let place = stands g (goal.at.invariant_of-self g c).After-unwrap-at in
-    let so = c.self.invariant in
-    let made = c.report.ensures.made.changed in
-    let next : List Entry = c.report.new.self.items in
-    record {
-      sorted = sorted_edited c.args.ssrc items next at reported_entry place made c.self.inside.capacity so.sorted;
-      roomy = omega (arith, so.roomy, c.report.ensures.in_place.room);
-      standing = stand_edited c.args.ssrc items next at reported_entry place made c.self.inside.bounds
-          (λ value stands. stands) so.standing;
-    }
+    kept_reported c.args.ssrc c.args.t items c.report.new.self.items c.unwrap-at.result (block_value c.report.result)
+    place c.report.ensures.made c.self.inside.capacity c.self.inside.entries.room c.report.new.self.room
+    c.self.inside.bounds c.report.ensures.in_place.room c.self.invariant

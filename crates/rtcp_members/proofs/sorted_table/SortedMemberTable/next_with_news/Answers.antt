@@ -1,38 +1,26 @@
--- What the walks found is the first pending source.
-use Rattle.std.proofs.Common.{◌≡◌, Some, None, List, take, drop, rules, arith, refl, sym, ap, ◌∙◌}
-use Rattle.std.proofs.lemmas.List.{take_all}
+-- The rank that is found is that of the first pending source.
+use Rattle.std.proofs.Common.{List, Some, ap, ◌∙◌}
+use Rattle.std.proofs.lemmas.Option.{slice_get_within}
 use Rattle.rtcp_members.specs.declared.entry.Entry.{Entry}
-use Rattle.rtcp_members.specs.Pending.{first_ssrc}
-use Rattle.rtcp_members.proofs.turns.InCyclicTurn.{first_pending, none_pending}
-use Rattle.rtcp_members.proofs.lists.Ranks.{due_rows_of}
+use Rattle.rtcp_members.specs.Pending.{first_ssrc, pending}
+use Rattle.rtcp_members.specs.Tables.{TableValue}
+use Rattle.rtcp_members.proofs.sorted.Placing.{same_rank}
 use Rattle.rtcp_members.proofs.sorted_table.SortedMemberTable.next_with_news.Goals as goal
-use Rattle.rtcp_members.proofs.sorted_table.SortedMemberTable.next_with_news.Given.{Over}
-use Rattle.rtcp_members.proofs.sorted_table.SortedMemberTable.next_with_news.Goals.{After-first_due}
 
--- the first walk goes on to the end
-found : (g : Over) (c : After-first_due g) → c.first_due.result ≡ first_ssrc
-    (due_rows_of (drop c.first_above-first.result c.self.inside.entries.items))
-found g c =
-    c.first_due.ensures
-    ∙ ap (λ xs. first_ssrc (due_rows_of (drop c.first_above-first.result xs)))
-    (take_all c.len.result c.self.inside.entries.items (omega (arith, c.len.ensures)))
+pub ssrc_at-requires : goal.ssrc_at-requires
+ssrc_at-requires g c =
+    let found = c.in-Some.ensures c.self.inside.capacity in
+    slice_get_within c.self.inside.entries.items c.in-Some.at found.place.entry found.place.stands
 
 pub returns-in-Some : goal.returns-in-Some
 returns-in-Some g c =
     let items : List Entry = c.self.inside.entries.items in
-    let finds = found g (goal.at.returns-in-Some g c).After-first_due in
-    first_pending c.args.after c.self.inside.capacity items c.first_above-first.result
-    c.args.self.now c.self.view_is c.self.invariant.sorted.rising c.first_above-first.ensures
-    (Some c.in-Some.ssrc) (first_ssrc (due_rows_of (take c.first_above-first.result items))) (cc) refl
+    let found = c.in-Some.ensures c.self.inside.capacity in
+    ap Some (same_rank items c.in-Some.at c.ssrc_at.result found.ssrc c.ssrc_at.ensures found.place)
+    ∙ found.first
+    ∙ ap (λ (table : TableValue). first_ssrc (pending c.args.after table)) c.self.view_is
 
 pub returns-in-None : goal.returns-in-None
 returns-in-None g c =
-    let finds = found g (goal.at.returns-in-None g c).After-first_due in
-    first_pending c.args.after c.self.inside.capacity c.self.inside.entries.items
-    c.first_above-first.result c.args.self.now c.self.view_is c.self.invariant.sorted.rising
-    c.first_above-first.ensures None c.first_due-in-None.result (cc) (search rules)
-
-pub returns-then-counts-eq0 : goal.returns-then-counts-eq0
-returns-then-counts-eq0 g c =
-    none_pending c.args.after c.self.inside.capacity c.self.inside.entries.items c.args.self.now
-    c.self.view_is c.self.invariant.sorted.rising (sym c.counts.ensures.due ∙ c.if-counts-eq0.true)
+    c.in-None.ensures c.self.inside.capacity
+    ∙ ap (λ (table : TableValue). first_ssrc (pending c.args.after table)) c.self.view_is
