@@ -1,6 +1,6 @@
 //! Up to which moments a check has nothing to do.
 
-ghost use Rattle.std.specs.Prelude.{◌≤◌, IsTrue};
+ghost use Rattle.std.specs.Prelude.{◌≡◌, ◌+◌, ◌^◌, ◌≤◌, IsTrue};
 ghost use Rattle.rtcp_members.specs.ListViews.{entry_value};
 ghost use Rattle.rtcp_members.specs.storage.Standing.{IsNoLater, IsUpTo, StandsBy};
 
@@ -21,7 +21,11 @@ pub struct Bounds {
 
 impl Bounds {
     /// Those of no entries.
-    pub(crate) fn none() -> Bounds {
+    pub(crate) fn none() -> Bounds
+        ensures silent { result.silent + 1 ≡ 2 ^ 64 }
+        ensures idle { result.idle + 1 ≡ 2 ^ 64 }
+        ensures gone { result.gone + 1 ≡ 2 ^ 64 }
+    {
         Bounds {
             silent: u64::MAX,
             idle: u64::MAX,

@@ -11,7 +11,7 @@ ghost use Rattle.rtcp_members.specs.Pending.{is_due};
 ghost use Rattle.rtcp_members.specs.storage.Index.{AreRising, Finds};
 ghost use Rattle.rtcp_members.specs.storage.Shelves.{IsCounted, Joins, LieAsBefore, MakesBlock, TakesFact};
 ghost use Rattle.rtcp_members.specs.storage.SortedViews.{IsGapFor, Locates};
-ghost use Rattle.rtcp_members.specs.storage.Standing.{AllStandBy, AreCounts, IsMeasured, RulesOut};
+ghost use Rattle.rtcp_members.specs.storage.Standing.{AllStandBy, AreCounts, IsMeasured, IsNoLater, RulesOut};
 ghost use Rattle.rtcp_members.specs.Tables.{IsFew};
 ghost use Rattle.rtcp_members.specs.Listings.{state_of};
 ghost use Rattle.rtcp_members.specs.Traces.{horizons_at};
@@ -28,7 +28,7 @@ use crate::table::Effect;
 use rtcp_wire::{Block, Fact};
 use std::marker::Model;
 
-/// At every how many entries a walk over all looks whether there is something to do.
+/// How many entries a walk over all covers before it looks whether there is something to do.
 const STRIDE: usize = 32;
 
 /// Entries by rising SSRC. Each lies in one cell from when it is put in until it is dropped, and slots say where, by
@@ -246,20 +246,19 @@ impl<C: Blocks<Cell>, S: Blocks<Slot>> Shelf<C, S> {
     /// Bounds of the entries which these horizons do not pass, if it finds such: then the check leaves each entry as
     /// it is.
     // In order of memory, over free cells too: what is left in these keeps no check from being ruled out. Where a check
-    // changes something, the walk ends soon: all horizons are looked at, but only at each 32nd entry.
+    // changes something, the walk ends soon: all horizons are looked at, but only after every 32 entries.
     pub(crate) fn bounds_if_left(&self, silent: u64, idle: u64, gone: u64) -> Option<Bounds>
         ensures { IfSome result (RulesOut (horizons_at silent idle gone) self.now.items) }
     {
-        let cells = self.cells.as_slice();
         let mut bounds = Bounds::none();
-        'cells: for (at, cell) in cells.iter().enumerate() {
-            bounds.cover(&cell.entry);
-            if at % STRIDE == 0 && !bounds.reach(silent, idle, gone) {
+        let mut rest = self.cells.as_slice();
+        'strides: while !rest.is_empty() {
+            let (stride, others) = rest.split_at(rest.len().min(STRIDE));
+            cover_all(&mut bounds, stride);
+            if !bounds.reach(silent, idle, gone) {
                 return None;
             }
-        }
-        if !bounds.reach(silent, idle, gone) {
-            return None;
+            rest = others;
         }
         Some(bounds)
     }
@@ -277,6 +276,17 @@ impl<C: Blocks<Cell>, S: Blocks<Slot>> Shelf<C, S> {
         self.used = kept;
         self.counts = counts;
         bounds
+    }
+}
+
+/// Lowers bounds to the entries of cells.
+#[inline(always)]
+fn cover_all(bounds: &mut Bounds, cells: &[Cell])
+    ensures no_later { IsNoLater bounds.new bounds.old }
+    ensures stand { AllStandBy bounds.new (entries_in cells.now) }
+{
+    'cells: for cell in cells {
+        bounds.cover(&cell.entry);
     }
 }
 

@@ -1,8 +1,9 @@
 -- Bounds by which entries stand, after a fact, a block and a check.
-use Rattle.std.proofs.Common.{length, slice_index_or, ◌≡◌, ◌≤◌, ◌<◌, ◌+◌, ◌||◌, ◌&&◌, ℕ, Bool, true, false, not, nat_lt, List, [], ◌∷◌, Option, Some, None, set, take, is_none, if◌then◌else◌, arith, refl, sym, subst}
+use Rattle.std.proofs.Common.{length, slice_index_or, ◌≡◌, ◌≤◌, ◌<◌, ◌+◌, ◌||◌, ◌&&◌, ℕ, Bool, true, false, not, nat_lt, List, [], ◌∷◌, Option, Some, None, set, take, drop, ◌++◌, ◌==◌, is_none, if◌then◌else◌, arith, refl, sym, ap, subst, ◌∙◌}
 use Rattle.std.proofs.lemmas.Bool.{le-ltb}
-use Rattle.std.proofs.lemmas.List.Elements.{All-set, All-head, All-tail, All-weaker, All-more}
-use Rattle.std.proofs.lemmas.List.{length-map, get_or-map}
+use Rattle.std.proofs.lemmas.List.Elements.{All-append, All-nil, All-set, All-head, All-tail, All-weaker, All-more}
+use Rattle.std.proofs.lemmas.List.{length-map, get_or-map, map-append, take-append-drop}
+use Rattle.std.proofs.lemmas.Bool.Decides.{nat_tests}
 use Rattle.std.specs.List.{All, list_all}
 use Rattle.std.proofs.lemmas.Option.{slice_get_within}
 use Rattle.rtcp_wire.specs.declared.fact.Fact.{Fact}
@@ -15,8 +16,9 @@ use Rattle.rtcp_members.specs.Traces.{Horizons}
 use Rattle.rtcp_members.specs.Stays.{is_before}
 use Rattle.rtcp_members.specs.Tables.{entry_with_fact}
 use Rattle.rtcp_members.specs.ListViews.{entry_value, mark_in, sending_in, is_left, IsRankOf}
+use Rattle.rtcp_members.specs.declared.cells.Cell.{Cell}
 use Rattle.rtcp_members.specs.declared.cells.Slot.{Slot}
-use Rattle.rtcp_members.specs.storage.Heaps.{no_slot, no_entry, entry_in, picked}
+use Rattle.rtcp_members.specs.storage.Heaps.{no_slot, no_entry, entries_in, entry_in, picked}
 use Rattle.rtcp_members.specs.storage.Standing.{MarkStandsBy, StandsBy, AllStandBy, IsUpTo, IsNoLater, RulesOut}
 
 -- ---- Lower bounds
@@ -33,6 +35,16 @@ stands_lower b c lower e h = (omega (arith, lower.silent, h.0), mark_lower b c l
 pub all_lower : (b c : Bounds) → IsNoLater b c → (entries : List Entry) → AllStandBy c entries → AllStandBy b entries
 all_lower b c lower entries all = All-weaker (λ (e : Entry). StandsBy c (entry_value e))
     (λ (e : Entry). StandsBy b (entry_value e)) (λ e h. stands_lower b c lower (entry_value e) h) entries all
+
+pub no_later_still : (a b c : Bounds) → IsNoLater a b → IsNoLater b c → IsNoLater a c
+no_later_still a b c first second = record {
+  silent = omega (arith, first.silent, second.silent);
+  idle = omega (arith, first.idle, second.idle);
+  gone = omega (arith, first.gone, second.gone);
+}
+
+pub none_later : (a : Bounds) → IsNoLater a a
+none_later a = record { silent = omega arith; idle = omega arith; gone = omega arith }
 
 -- ---- A fact
 
@@ -99,6 +111,19 @@ pub all_covered : (b c : Bounds) → IsNoLater b c → (entries : List Entry) (a
     AllStandBy b (take (at + 1) entries)
 all_covered b c lower entries at d within all its = All-more (stands b) entries at d within
     (all_lower b c lower (take at entries) all) its
+
+-- The entries of all cells stand by the bounds where those of the first do, and those of the rest.
+pub all_parts : (b : Bounds) (cells : List Cell) (n : ℕ) → AllStandBy b (entries_in (take n cells)) →
+    AllStandBy b (entries_in (drop n cells)) → AllStandBy b (entries_in cells)
+all_parts b cells n front back =
+    let parts : entries_in (take n cells) ++ entries_in (drop n cells) ≡ entries_in cells =
+    sym (map-append (λ (cell : Cell). cell.entry) (take n cells) (drop n cells))
+    ∙ ap (λ (c : List Cell). entries_in c) (take-append-drop n cells) in
+    subst (AllStandBy b) parts (All-append (stands b) (entries_in (take n cells)) (entries_in (drop n cells)) front back)
+
+pub none_stand : (b : Bounds) (cells : List Cell) → true ≡ (length cells == 0) → AllStandBy b (entries_in cells)
+none_stand b [] none = All-nil (stands b)
+none_stand b (cell ∷ cells) none = absurd (grind (arith, nat_tests))
 
 -- Those that are picked stand by the bounds by which all stand.
 pub all_picked : (b : Bounds) (entries : List Entry) (slots : List Slot) →
