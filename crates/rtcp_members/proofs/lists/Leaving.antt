@@ -1,5 +1,5 @@
 -- An entry that leaves a list, wherever it stands.
-use Rattle.std.proofs.Common.{◌≡◌, ◌<◌, ◌≤◌, ◌+◌, ◌-◌, ◌++◌, ℕ, zero, suc, Bool, true, false, T, cond, if◌then◌else◌, List, [], ◌∷◌, length, take, drop, set, Option, Some, None, not, slice_get, slice_index_or, is_some, is_none, nat_cmp, is_lt, arith, refl, sym, ap, ◌∙◌}
+use Rattle.std.proofs.Common.{◌≡◌, ◌<◌, ◌≤◌, ◌+◌, ◌++◌, ℕ, zero, suc, Bool, true, false, T, cond, if◌then◌else◌, List, [], ◌∷◌, length, take, drop, set, Option, Some, None, not, slice_get, slice_index_or, is_some, is_none, nat_cmp, is_lt, arith, refl, sym, ap, ◌∙◌}
 use Rattle.std.specs.List.{remove}
 use Rattle.std.specs.Ordering.{eq_by_cmp}
 use Rattle.std.specs.Cmp.{nat_cmp_total}

@@ -6,7 +6,7 @@ use Rattle.std.proofs.lemmas.Bool.{eqb-true}
 use Rattle.rtcp_wire.specs.declared.fact.Fact.{Fact}
 use Rattle.rtcp_wire.specs.declared.fact.Fact.TheVariants.{Heard, Told, Named, Gone, Media}
 use Rattle.rtcp_wire.specs.declared.sole.SoleSource.{SoleSource}
-use Rattle.rtcp_wire.specs.Sole.{is_presence_of, is_name, clock_told, report_facts, said_of, facts_of_sole, IsSole}
+use Rattle.rtcp_wire.specs.Sole.{is_presence_of, is_name, clock_told, said_of, facts_of_sole, IsSole}
 use Rattle.rtcp_members.specs.Roles.{counts_differ, facts_move}
 use Rattle.rtcp_members.specs.Tables.{TableValue, after_fact, after_facts, members_in, senders_in}
 use Rattle.rtcp_members.proofs.stays.AtOnce.{adds_nothing, differ_not, once_said, once_moved}
