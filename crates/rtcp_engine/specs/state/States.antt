@@ -106,6 +106,12 @@ abbrev pub MovesOthers : (old : State) → (others_changed : Bool) → (step : S
 MovesOthers old others_changed step =
     (outcome : Outcome) → Agrees old outcome → others_changed ≡ moved_since old.setup outcome (step old.setup outcome)
 
+-- A step of a check: it sends no report, and says whether it moved others.
+pub record Checks (old new : State) (others_changed : Bool) (step : Setup → Outcome → Outcome) : Type 0 where
+  pub does : Does old new step
+  pub moves : MovesOthers old others_changed step
+  pub reports : new.reports ≡ old.reports
+
 -- It says whether some other source is a member.
 abbrev pub HasOthers : State → (others : Bool) → Type 0
 HasOthers state others = (outcome : Outcome) → Agrees state outcome → others ≡ has_others state.setup outcome

@@ -8,7 +8,7 @@ ghost use Rattle.rtcp_report.specs.Sizes.{reported_rows, report_of};
 ghost use Rattle.rtcp_engine.specs.answers.Setups.{IsUsable};
 ghost use Rattle.rtcp_engine.specs.answers.Lives.{report_out};
 ghost use Rattle.rtcp_engine.specs.state.Views.{LeavesRest, out_in, reporter_of, setup_of};
-ghost use Rattle.rtcp_engine.specs.state.States.{Agrees, Does, IsQuiet, KeepsCapacity, MovesOthers};
+ghost use Rattle.rtcp_engine.specs.state.States.{Agrees, Checks, Does, IsQuiet, KeepsCapacity, MovesOthers};
 ghost use Rattle.rtcp_engine.specs.answers.Outcomes.{Outcome, check_interval, check_load, receiver_load};
 ghost use Rattle.rtcp_engine.specs.answers.Reporting.{report_octets};
 ghost use Rattle.rtcp_engine.specs.answers.Ticks.{horizons_of, with_recount, without_silent, checked, is_report_due, report_due, with_report, drawn_anew, reported, tried_at, after_check, after_tick};
@@ -65,9 +65,7 @@ impl<T: MemberTable> Presence<T> {
     /// Drops those who are silent for too long, and counts the members again. Returns whether that changed who of the
     /// others is a member or who sends.
     fn check_members(&mut self) -> bool
-        ensures new { Does self.old self.new (λ setup. checked setup self.old.latest) }
-        ensures moved { MovesOthers self.old result (λ setup. checked setup self.old.latest) }
-        ensures reports { self.new.reports ≡ self.old.reports }
+        ensures { Checks self.old self.new result (λ setup. checked setup self.old.latest) }
     {
         let moved = self.drop_silent();
         self.recount();
@@ -76,9 +74,7 @@ impl<T: MemberTable> Presence<T> {
 
     /// Drops those who are silent for too long, the participant among the senders too.
     fn drop_silent(&mut self) -> bool
-        ensures new { Does self.old self.new (λ setup. without_silent setup self.old.latest) }
-        ensures moved { MovesOthers self.old result (λ setup. without_silent setup self.old.latest) }
-        ensures reports { self.new.reports ≡ self.old.reports }
+        ensures { Checks self.old self.new result (λ setup. without_silent setup self.old.latest) }
     {
         if self.is_quiet() {
             return false;
@@ -100,9 +96,7 @@ impl<T: MemberTable> Presence<T> {
 
     /// Drops them by the interval that checks go by.
     fn drop_by_interval(&mut self) -> bool
-        ensures new { Does self.old self.new (λ setup. without_silent setup self.old.latest) }
-        ensures moved { MovesOthers self.old result (λ setup. without_silent setup self.old.latest) }
-        ensures reports { self.new.reports ≡ self.old.reports }
+        ensures { Checks self.old self.new result (λ setup. without_silent setup self.old.latest) }
     {
         let now = self.latest;
         let (silent, idle, gone) = horizons(now, self.check_interval());
