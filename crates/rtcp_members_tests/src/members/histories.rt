@@ -52,7 +52,8 @@ fn call<T: MemberTable>(session: &mut Session<T>, draw: u32, step: u16) -> Answe
     let (ssrc, t) = (draw >> 8 & 7, u64::from(step));
     let fact = match draw >> 16 & 15 {
         0 => return Answer::Check(session.check(t, horizon(t, 40), horizon(t, 20), horizon(t, 10))),
-        1 | 2 => return Answer::Block(session.block(Some(ssrc), t)),
+        1 => return Answer::Block(session.block(Some(ssrc), t)),
+        2 => return Answer::Block(session.block_by_two(Some(ssrc), t)),
         3 => Fact::Gone(ssrc),
         4 => Fact::Heard(ssrc),
         5 => Fact::Named(ssrc),

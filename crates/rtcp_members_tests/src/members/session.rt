@@ -166,6 +166,13 @@ impl<T: MemberTable> Session<T> {
     pub(crate) fn block(&mut self, after: Option<u32>, t: u64) -> Option<Block>
         ensures { self.new.facts ≡ self.old.facts }
     {
+        self.table.next_block(after, t)
+    }
+
+    /// The same by two calls: one says which source is next, the other makes its block.
+    pub(crate) fn block_by_two(&mut self, after: Option<u32>, t: u64) -> Option<Block>
+        ensures { self.new.facts ≡ self.old.facts }
+    {
         let ssrc = self.table.next_with_news(after)?;
         Some(self.table.block_of(ssrc, t))
     }
