@@ -119,7 +119,8 @@ all_parts b cells n front back =
     let parts : entries_in (take n cells) ++ entries_in (drop n cells) ≡ entries_in cells =
     sym (map-append (λ (cell : Cell). cell.entry) (take n cells) (drop n cells))
     ∙ ap (λ (c : List Cell). entries_in c) (take-append-drop n cells) in
-    subst (AllStandBy b) parts (All-append (stands b) (entries_in (take n cells)) (entries_in (drop n cells)) front back)
+    subst (AllStandBy b) parts
+    (All-append (stands b) (entries_in (take n cells)) (entries_in (drop n cells)) front back)
 
 pub none_stand : (b : Bounds) (cells : List Cell) → true ≡ (length cells == 0) → AllStandBy b (entries_in cells)
 none_stand b [] none = All-nil (stands b)

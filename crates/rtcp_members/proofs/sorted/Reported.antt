@@ -16,9 +16,10 @@ use Rattle.rtcp_members.proofs.sorted.Rising.{rising_apart}
 
 module _ (ssrc t : ℕ) (items next : List Entry) (at : ℕ) (value : ReportBlock) (place : IsRankOf ssrc items at)
     (made : MakesBlock t items next at value) where
-  pub block_made : (capacity : ℕ) (table : TableValue) → table_of capacity items ≡ table → Some value ≡ block_at ssrc t
-      table
-  block_made capacity table is = block_reported ssrc t items at no_entry (Some value) place (made.block no_entry) capacity
+  pub block_made : (capacity : ℕ) (table : TableValue) → table_of capacity items ≡ table →
+      Some value ≡ block_at ssrc t table
+  block_made capacity table is =
+      block_reported ssrc t items at no_entry (Some value) place (made.block no_entry) capacity
       ∙ ap (block_at ssrc t) is
 
   pub table_after : (capacity : ℕ) (table : TableValue) → IsRising items → table_of capacity items ≡ table →

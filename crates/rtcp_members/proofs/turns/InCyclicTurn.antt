@@ -162,7 +162,8 @@ module _ (last : Option ℕ) (capacity : ℕ) (entries : List Entry) (n : ℕ) (
       (due_of (take n entries)) first finds ∙ ap first_ssrc pending_in
 
   -- The rank of the first that is due from the place on is that of the first pending source.
-  pub ranked_from : (at : ℕ) → IsFirstDue (due_of (drop n entries)) entries at → IsFirstDue (pending last table) entries at
+  pub ranked_from : (at : ℕ) → IsFirstDue (due_of (drop n entries)) entries at →
+      IsFirstDue (pending last table) entries at
   ranked_from at found = record {
     ssrc = found.ssrc;
     first = first_pending (Some found.ssrc) (first_ssrc (due_of (take n entries))) found.first refl;

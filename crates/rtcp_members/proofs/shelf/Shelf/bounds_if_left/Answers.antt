@@ -39,9 +39,10 @@ returns g c =
     let cells : List Cell = g.C.Blocks.items c.self.inside.cells in
     let slots : List Slot = g.S.Blocks.items c.self.inside.slots in
     let bounds = c.strides.bounds in
+    let nothing_left = none_stand bounds c.strides.rest.now c.strides-test.ensures in
     let all : AllStandBy bounds (entries_in cells) =
     subst (λ (lent : List Cell). AllStandBy bounds (entries_in lent)) c.as_slice-rest.ensures.items
-    (c.strides.invariant.stand bounds (none_later bounds) (none_stand bounds c.strides.rest.now c.strides-test.ensures)) in
+    (c.strides.invariant.stand bounds (none_later bounds) nothing_left) in
     record {
       stand = subst (AllStandBy bounds) (ap (λ (v : ShelfValue). v.items) c.self.view_is)
           (all_picked bounds (entries_in cells) (take c.self.inside.used slots)
