@@ -1,0 +1,4 @@
+pub mod Claiming
+pub mod Bounding
+pub mod Owning
+pub mod Lawful

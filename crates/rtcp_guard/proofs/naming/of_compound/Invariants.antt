@@ -1,0 +1,7 @@
+-- The names so far and those that are left are all names.
+use Rattle.std.proofs.Common.{◌≡◌, ◌++◌}
+use Rattle.rtcp_guard.specs.Naming.{names_of_facts, names_of_compound}
+use Rattle.rtcp_guard.proofs.naming.of_compound.Given as goal
+
+abbrev pub invariant-facts : goal.invariant-facts
+invariant-facts l = l.names.items ++ names_of_facts l.own l.fact-iterator ≡ names_of_compound l.own l.compound

@@ -1,0 +1,20 @@
+-- The sources that a datagram names (RFC 3550, 5.1 and 6.1).
+use Rattle.std.specs.Prelude.{ℕ, ◌==◌, not, List, ◌∷◌, filter, map}
+use Rattle.rtcp_wire.specs.declared.fact.Fact.{Fact}
+use Rattle.rtcp_wire.specs.Facts.{subject, facts_of}
+use Rattle.rtcp_wire.specs.Values.{RtcpPacket}
+use Rattle.rtcp_wire.specs.RtpHeads.{RtpValue}
+
+abbrev pub but : (own : ℕ) → List ℕ → List ℕ
+but own names = filter (λ name. not (name == own)) names
+
+abbrev pub names_of_facts : (own : ℕ) → List Fact → List ℕ
+names_of_facts own facts = but own (map subject facts)
+
+-- The subjects of the facts of a compound, but the participant's own SSRC, which the engine sees to.
+abbrev pub names_of_compound : (own : ℕ) → List RtcpPacket → List ℕ
+names_of_compound own packets = names_of_facts own (facts_of packets)
+
+-- The SSRC and the CSRCs of an RTP packet, which 8.2 treats alike, but the participant's own.
+abbrev pub names_of_packet : (own : ℕ) → RtpValue → List ℕ
+names_of_packet own head = but own (head.ssrc ∷ head.csrcs)

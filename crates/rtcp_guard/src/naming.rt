@@ -1,0 +1,46 @@
+//! The sources that a datagram names.
+
+ghost use Rattle.std.specs.Prelude.{◌≡◌, ◌++◌, ◌<◌, ◌+◌, [], length, true, false};
+ghost use Rattle.rtcp_guard.specs.Naming.{but, names_of_facts, names_of_compound, names_of_packet};
+
+use arrayvec::ArrayVec;
+use rtcp_wire::{Compound, RtpHead, facts};
+
+/// The most names of a datagram that a guard takes in. A datagram of 1,472 octets has fewer.
+pub const MAX_NAMES: usize = 512;
+
+/// Room for the names of a datagram.
+pub(crate) type Names = ArrayVec<u32, MAX_NAMES>;
+
+/// Gathers the sources that a compound speaks of, but `own`. Whether there was room for all.
+pub(crate) fn of_compound(compound: &Compound<'_>, own: u32, names: &mut Names) -> bool
+    requires { names.old.items ≡ [] }
+    ensures all { result ≡ true → names.new.items ≡ names_of_compound own compound.now }
+    ensures many { result ≡ false → MAX_NAMES < length (names_of_compound own compound.now) }
+{
+    'facts: for fact in facts(compound) {
+        let name = fact.ssrc();
+        if name != own {
+            if names.is_full() {
+                return false;
+            }
+            names.push(name);
+        }
+    }
+    true
+}
+
+/// Gathers the SSRC and the CSRCs of an RTP packet, but `own`.
+pub(crate) fn of_packet(head: &RtpHead<'_>, own: u32, names: &mut Names)
+    requires { names.old.items ≡ [] }
+    ensures { names.new.items ≡ names_of_packet own head.now }
+{
+    if head.ssrc() != own {
+        names.push(head.ssrc());
+    }
+    'csrcs: for csrc in head.csrcs() {
+        if csrc != own {
+            names.push(csrc);
+        }
+    }
+}
