@@ -1,212 +1,165 @@
--- No source is claimed twice, and no origin holds more than it may.
-use Rattle.std.proofs.Common.{◌≡◌, ◌≤◌, ◌+◌, ◌==◌, ◌&&◌, ◌||◌, ◌++◌, ℕ, nat_lt, not, Bool, true, false, cond, List, [], ◌∷◌, filter, map, length, arith, refl, sym, ap, subst, ◌∙◌}
-use Rattle.std.specs.List.Retain.{RetainsInTurn}
+-- No origin ever has more sources than it may.
+use Rattle.std.proofs.Common.{◌≡◌, ◌<◌, ◌≤◌, ◌==◌, ◌||◌, ◌++◌, ◌*◌, ℕ, max, nat_lt, nat_le, not, Bool, true, false, cond, List, [], ◌∷◌, length, arith, refl, sym, ap, subst, ◌∙◌}
 use Rattle.std.proofs.lemmas.Bool.{eqb-true, or_parts}
 use Rattle.std.proofs.lemmas.Bool.Decides.{nat_tests}
 use Rattle.std.proofs.lemmas.List.Folds.{list_any-append}
-use Rattle.rtcp_guard.specs.declared.claim.Claim.{Claim}
-use Rattle.rtcp_guard.specs.Claims.{is_named, claim_by, is_claimed, with_new, renewed, after_passing, of_origin, is_strange}
-use Rattle.rtcp_guard.specs.Guarding.{is_crowd}
-use Rattle.rtcp_guard.specs.Bounded.{IsApart, IsBounded}
-use Rattle.rtcp_guard.proofs.Claiming.{held, held_append}
+use Rattle.rtcp_guard.specs.Claims.{Claim, claim_by, owner_in, put, with_names, after_lapse, is_by, held, is_of_another, is_strange, before_stranger, is_too_many}
+use Rattle.rtcp_guard.specs.Guarding.{GuardValue, judged, is_trusted, limit_of, room_of, with_trusted}
+use Rattle.rtcp_guard.specs.declared.settings.Settings.{Settings}
+use Rattle.rtcp_guard.specs.declared.verdict.Verdict.{Verdict}
+use Rattle.rtcp_guard.specs.declared.verdict.Verdict.TheVariants.{Pass, Stranger, Crowd}
+use Rattle.rtcp_guard.specs.Tables.{AreRising, IsBounded}
+use Rattle.rtcp_guard.proofs.Orders.{rising_put, rising_filter}
+use Rattle.rtcp_guard.proofs.Putting.{tally_filter, length_filter, put_shrinks}
+use Rattle.rtcp_guard.proofs.Claiming.{rising_names, others_shrink}
 
--- A closure that is the same after each call, changes nothing, and returns a test, leaves what passes the test.
-pub kept : {X F : Type 0} (R : F → X → Bool → F → X → Type 0) (test : X → Bool) (f : F) →
-    ((x : X) (b : Bool) (g : F) (y : X) → R f x b g y → (b ≡ test x) × (g ≡ f) × (y ≡ x)) →
-    (xs ys : List X) → RetainsInTurn R f xs ys → ys ≡ filter test xs
-kept R test f says [] ys h = h
-kept R test f says (x ∷ xs) ys h =
-    let said = says x h.0 h.1 h.2 h.3 in
-    let rest = kept R test f says xs h.4 (subst (λ g. RetainsInTurn R g xs h.4) said.1 h.5) in
-    h.6 ∙ (λ i. cond (said.0 i) (said.2 i ∷ rest i) (rest i))
+pub bounded_lapse : (settings : Settings) (trusted : List ℕ) (before : ℕ) (claims : List Claim) →
+    IsBounded settings trusted claims → IsBounded settings trusted (after_lapse before claims)
+bounded_lapse settings trusted before claims bounded = record {
+  rising = rising_filter stays claims bounded.rising;
+  few = λ origin.
+      let fewer = tally_filter (is_by origin) stays claims in
+      let few = bounded.few origin in
+      omega (arith, fewer, few);
+  within = let fewer = length_filter stays claims in let within = bounded.within in omega (arith, fewer, within);
+}
+  where
+    stays : Claim → Bool
+    stays claim = nat_le before claim.last
 
-pub none_of_not : (r b : Bool) → r ≡ not b → r ≡ true → b ≡ false
-none_of_not r true e t = absurd cc
-none_of_not r false e t = refl
+-- ---- What a verdict says
 
--- ---- Fewer claims
+pub none_strange : (origin : ℕ) (names : List ℕ) (claims : List Claim) → is_strange origin names claims ≡ false →
+    before_stranger origin names claims ≡ names
+none_strange origin [] claims none = refl
+none_strange origin (ssrc ∷ rest) claims none =
+    let parts = or_parts (is_of_another origin (owner_in ssrc claims)) (is_strange origin rest claims) none in
+    ap (λ b. cond b [] (ssrc ∷ before_stranger origin rest claims)) parts.0
+    ∙ ap (λ names. ssrc ∷ names) (none_strange origin rest claims parts.1)
 
-none_kept : (p : Claim → Bool) (ssrc : ℕ) (claims : List Claim) → is_claimed ssrc claims ≡ false →
-    is_claimed ssrc (filter p claims) ≡ false
-none_kept p ssrc [] none = refl
-none_kept p ssrc (claim ∷ rest) none =
-    let parts = or_parts (claim.ssrc == ssrc) (is_claimed ssrc rest) none in
-    elim (p claim) as (λ b. is_claimed ssrc (cond b (claim ∷ filter p rest) (filter p rest)) ≡ false) [
-      | true ↦ ap (λ (b : Bool). b || is_claimed ssrc (filter p rest)) parts.0 ∙ none_kept p ssrc rest parts.1
-      | false ↦ none_kept p ssrc rest parts.1
-    ]
+-- a datagram that passes
+pub record Passes (limit room origin moment : ℕ) (names : List ℕ) (claims : List Claim) : Type 0 where
+  pub own : is_strange origin names claims ≡ false
+  pub enough : is_too_many limit room origin (with_names origin moment names claims) ≡ false
+  pub short : length names ≤ 512
 
-pub apart_kept : (p : Claim → Bool) (claims : List Claim) → IsApart claims → IsApart (filter p claims)
-apart_kept p [] apart = tt
-apart_kept p (claim ∷ rest) apart =
-    elim (p claim) as (λ b. IsApart (cond b (claim ∷ filter p rest) (filter p rest))) [
-      | true ↦ (none_kept p claim.ssrc rest apart.0, apart_kept p rest apart.1)
-      | false ↦ apart_kept p rest apart.1
-    ]
+pub when_passed : (limit room origin moment : ℕ) (names : List ℕ) (claims : List Claim) →
+    judged limit room origin moment names claims ≡ Pass → Passes limit room origin moment names claims
+when_passed limit room origin moment names claims pass =
+    let before : List ℕ = before_stranger origin names claims in
+    let many : Bool = is_too_many limit room origin (with_names origin moment before claims) in
+    let parts = cases (nat_lt 512 (length names)) many (is_strange origin names claims) pass in
+    record {
+      own = parts.2;
+      enough = ap (λ ns. is_too_many limit room origin (with_names origin moment ns claims))
+          (sym (none_strange origin names claims parts.2)) ∙ parts.1;
+      short = let fits = parts.0 in grind (arith, nat_tests, fits);
+    }
+  where
+    cases : (long many strange : Bool) → cond (long || many) Crowd (cond strange Stranger Pass) ≡ Pass →
+        (long ≡ false) × (many ≡ false) × (strange ≡ false)
+    cases true many strange e = absurd cc
+    cases false true strange e = absurd cc
+    cases false false true e = absurd cc
+    cases false false false e = (refl, refl, refl)
 
-abbrev one_if : Bool → ℕ
-one_if b = cond b 1 0
+-- ---- Bounds
 
-held_first : (origin : ℕ) (claim : Claim) (rest : List Claim) →
-    held origin (claim ∷ rest) ≡ one_if (claim.origin == origin) + held origin rest
-held_first origin claim rest =
-    elim (claim.origin == origin) as (λ b. length (cond b (claim ∷ of_origin origin rest) (of_origin origin rest))
-    ≡ one_if b + held origin rest) [
+pub too_many_parts : (limit room origin : ℕ) (claims : List Claim) → is_too_many limit room origin claims ≡ false →
+    (held origin claims ≤ limit) × (length claims ≤ room)
+too_many_parts limit room origin claims enough =
+    let parts = or_parts (nat_lt limit (held origin claims)) (nat_lt room (length claims)) enough in
+    let few = parts.0 in
+    let within = parts.1 in
+    (grind (arith, nat_tests, few), grind (arith, nat_tests, within))
+
+-- An origin whose sources are few enough may become more; no other becomes so.
+bounded_where : (settings : Settings) (trusted : List ℕ) (origin : ℕ) (claims next : List Claim) →
+    IsBounded settings trusted claims → AreRising next →
+    is_too_many (limit_of origin settings trusted) (room_of settings) origin next ≡ false →
+    ((other : ℕ) → origin == other ≡ false → held other next ≤ held other claims) → IsBounded settings trusted next
+bounded_where settings trusted origin claims next bounded rising enough fewer =
+    let parts = too_many_parts (limit_of origin settings trusted) (room_of settings) origin next enough in
+    record {
+      rising = rising;
+      few = λ other. elim (origin == other) as (λ b. origin == other ≡ b → held other next ≤ limit_of other settings trusted) [
+        | true ↦ λ e. subst (λ o. held o next ≤ limit_of o settings trusted) (eqb-true origin other e) parts.0
+        | false ↦ λ e.
+            let less = fewer other e in
+            let few = bounded.few other in
+            omega (arith, less, few)
+      ] refl;
+      within = parts.1;
+    }
+
+pub bounded_passing : (settings : Settings) (trusted : List ℕ) (origin moment : ℕ) (names : List ℕ)
+    (claims : List Claim) → IsBounded settings trusted claims →
+    judged (limit_of origin settings trusted) (room_of settings) origin moment names claims ≡ Pass →
+    IsBounded settings trusted (with_names origin moment names claims)
+bounded_passing settings trusted origin moment names claims bounded pass =
+    let passes = when_passed (limit_of origin settings trusted) (room_of settings) origin moment names claims pass in
+    bounded_where settings trusted origin claims (with_names origin moment names claims) bounded
+    (rising_names origin moment names claims bounded.rising) passes.enough
+    (λ other apart. others_shrink origin moment other apart names claims bounded.rising)
+
+pub bounded_put : (settings : Settings) (trusted : List ℕ) (claim : Claim) (claims : List Claim) →
+    IsBounded settings trusted claims →
+    is_too_many (limit_of claim.origin settings trusted) (room_of settings) claim.origin (put claim claims) ≡ false →
+    IsBounded settings trusted (put claim claims)
+bounded_put settings trusted claim claims bounded enough =
+    bounded_where settings trusted claim.origin claims (put claim claims) bounded
+    (rising_put claim claims bounded.rising) enough
+    (λ other apart. put_shrinks (is_by other) claim claims bounded.rising apart)
+
+-- ---- Trust
+
+-- the limit of no origin falls
+pub limit_rises : (settings : Settings) (trusted : List ℕ) (other origin : ℕ) →
+    limit_of origin settings trusted ≤ limit_of origin settings (trusted ++ other ∷ [])
+limit_rises settings trusted other origin =
+    subst (λ b. limit_of origin settings trusted ≤ cond b (max settings.names settings.trusted_names) settings.names)
+    (sym (list_any-append (λ o. o == origin) trusted (other ∷ [])))
+    (elim (is_trusted origin trusted) as (λ b. cond b (max settings.names settings.trusted_names) settings.names
+    ≤ cond (b || (other == origin || false)) (max settings.names settings.trusted_names) settings.names) [
       | true ↦ omega arith
-      | false ↦ omega arith
-    ]
+      | false ↦ elim (other == origin) as (λ b. settings.names
+          ≤ cond (b || false) (max settings.names settings.trusted_names) settings.names) [
+            | true ↦ omega arith
+            | false ↦ omega arith
+          ]
+    ])
 
-held_kept : (p : Claim → Bool) (origin : ℕ) (claims : List Claim) → held origin (filter p claims) ≤ held origin claims
-held_kept p origin [] = omega arith
-held_kept p origin (claim ∷ rest) =
-    let less = held_kept p origin rest in
-    let all = held_first origin claim rest in
-    elim (p claim) as (λ b. held origin (cond b (claim ∷ filter p rest) (filter p rest)) ≤ held origin (claim ∷ rest)) [
-      | true ↦ let some = held_first origin claim (filter p rest) in omega arith
-      | false ↦ omega arith
-    ]
-
-pub bounded_kept : (p : Claim → Bool) (limit : ℕ) (claims : List Claim) → IsBounded limit claims →
-    IsBounded limit (filter p claims)
-bounded_kept p limit claims bounded = record {
-  apart = apart_kept p claims bounded.apart;
-  few = λ origin. let less = held_kept p origin claims in let few = bounded.few origin in omega arith;
+pub bounded_trust : (settings : Settings) (trusted : List ℕ) (other : ℕ) (claims : List Claim) →
+    IsBounded settings trusted claims → IsBounded settings (trusted ++ other ∷ []) claims
+bounded_trust settings trusted other claims bounded = record {
+  rising = bounded.rising;
+  few = λ origin.
+      let few = bounded.few origin in
+      let rises = limit_rises settings trusted other origin in
+      omega (arith, few, rises);
+  within = bounded.within;
 }
 
--- ---- New claims
+-- what passes by the limits of a guard keeps its bounds
+pub bounded_then : (guard : GuardValue) (limit room origin moment : ℕ) (names : List ℕ) →
+    IsBounded guard.settings guard.trusted guard.claims → limit ≡ limit_of origin guard.settings guard.trusted →
+    room ≡ room_of guard.settings → Pass ≡ judged limit room origin moment names guard.claims →
+    IsBounded guard.settings guard.trusted (with_names origin moment names guard.claims)
+bounded_then guard limit room origin moment names bounded its_limit its_room pass =
+    bounded_passing guard.settings guard.trusted origin moment names guard.claims bounded
+    (sym (λ i. judged (its_limit i) (its_room i) origin moment names guard.claims) ∙ sym pass)
 
-none_append : (ssrc : ℕ) (claims : List Claim) (claim : Claim) → is_claimed ssrc claims ≡ false →
-    claim.ssrc == ssrc ≡ false → is_claimed ssrc (claims ++ claim ∷ []) ≡ false
-none_append ssrc claims claim none other =
-    list_any-append (λ (c : Claim). c.ssrc == ssrc) claims (claim ∷ [])
-    ∙ (λ i. none i || (other i || false))
+not_true : (b : Bool) → true ≡ not b → b ≡ false
+not_true true e = absurd cc
+not_true false e = refl
 
-apart_append : (claims : List Claim) (claim : Claim) → IsApart claims → is_claimed claim.ssrc claims ≡ false →
-    IsApart (claims ++ claim ∷ [])
-apart_append [] claim apart none = (refl, tt)
-apart_append (first ∷ rest) claim apart none =
-    let parts = or_parts (first.ssrc == claim.ssrc) (is_claimed claim.ssrc rest) none in
-    let other : claim.ssrc == first.ssrc ≡ false = grind (arith, nat_tests, parts.0) in
-    (none_append first.ssrc rest claim apart.0 other, apart_append rest claim apart.1 parts.1)
-
-pub apart_new : (origin moment : ℕ) (names : List ℕ) (claims : List Claim) → IsApart claims →
-    IsApart (with_new origin moment names claims)
-apart_new origin moment [] claims apart = apart
-apart_new origin moment (ssrc ∷ rest) claims apart =
-    elim (is_claimed ssrc claims) as (λ b. is_claimed ssrc claims ≡ b → IsApart (with_new origin moment rest
-    (cond b claims (claims ++ claim_by origin moment ssrc ∷ [])))) [
-      | true ↦ λ e. apart_new origin moment rest claims apart
-      | false ↦ λ e. apart_new origin moment rest (claims ++ claim_by origin moment ssrc ∷ [])
-          (apart_append claims (claim_by origin moment ssrc) apart e)
-    ] refl
-
--- of other origins there are as many as before
-others_new : (other origin moment : ℕ) (names : List ℕ) (claims : List Claim) → origin == other ≡ false →
-    held other (with_new origin moment names claims) ≡ held other claims
-others_new other origin moment [] claims apart = refl
-others_new other origin moment (ssrc ∷ rest) claims apart =
-    elim (is_claimed ssrc claims) as (λ b. held other (with_new origin moment rest
-    (cond b claims (claims ++ claim_by origin moment ssrc ∷ []))) ≡ held other claims) [
-      | true ↦ others_new other origin moment rest claims apart
-      | false ↦
-          let one : held other (claim_by origin moment ssrc ∷ []) ≡ 0 = ap (λ (b : Bool). length (cond b
-          (claim_by origin moment ssrc ∷ []) [])) apart in
-          let both = held_append other claims (claim_by origin moment ssrc ∷ []) in
-          let less = others_new other origin moment rest (claims ++ claim_by origin moment ssrc ∷ []) apart in
-          omega arith
-    ]
-
--- ---- Renewed claims
-
-same_origin : (o : ℕ) → not (o == o) ≡ false
-same_origin o = grind (arith, nat_tests)
-
-and_false : (b : Bool) → b && false ≡ false
-and_false true = refl
-and_false false = refl
-
-pub strange_new : (origin moment : ℕ) (names rest : List ℕ) (claims : List Claim) →
-    is_strange origin names claims ≡ false → is_strange origin names (with_new origin moment rest claims) ≡ false
-strange_new origin moment names [] claims none = none
-strange_new origin moment names (ssrc ∷ rest) claims none =
-    elim (is_claimed ssrc claims) as (λ b. is_strange origin names (with_new origin moment rest
-    (cond b claims (claims ++ claim_by origin moment ssrc ∷ []))) ≡ false) [
-      | true ↦ strange_new origin moment names rest claims none
-      | false ↦ strange_new origin moment names rest (claims ++ claim_by origin moment ssrc ∷ [])
-          (list_any-append (λ (claim : Claim). is_named claim.ssrc names && not (claim.origin == origin)) claims
-          (claim_by origin moment ssrc ∷ [])
-          ∙ (λ i. none i || (is_named ssrc names && same_origin origin i || false))
-          ∙ ap (λ (b : Bool). b || false) (and_false (is_named ssrc names)))
-    ]
-
-pub renewed_ssrc : (origin moment : ℕ) (names : List ℕ) (claim : Claim) →
-    (renewed origin moment names claim).ssrc ≡ claim.ssrc
-renewed_ssrc origin moment names claim =
-    elim (is_named claim.ssrc names) as (λ b. (cond b (record claim { origin = origin; last = moment }) claim).ssrc
-    ≡ claim.ssrc) [
-      | true ↦ refl
-      | false ↦ refl
-    ]
-
-claimed_renewed : (origin moment : ℕ) (names : List ℕ) (ssrc : ℕ) (claims : List Claim) →
-    is_claimed ssrc (map (renewed origin moment names) claims) ≡ is_claimed ssrc claims
-claimed_renewed origin moment names ssrc [] = refl
-claimed_renewed origin moment names ssrc (claim ∷ rest) =
-    λ i. renewed_ssrc origin moment names claim i == ssrc || claimed_renewed origin moment names ssrc rest i
-
-pub apart_renewed : (origin moment : ℕ) (names : List ℕ) (claims : List Claim) → IsApart claims →
-    IsApart (map (renewed origin moment names) claims)
-apart_renewed origin moment names [] apart = tt
-apart_renewed origin moment names (claim ∷ rest) apart = (
-  ap (λ (s : ℕ). is_claimed s (map (renewed origin moment names) rest)) (renewed_ssrc origin moment names claim)
-      ∙ claimed_renewed origin moment names claim.ssrc rest ∙ apart.0,
-  apart_renewed origin moment names rest apart.1,
-)
-
--- where no name belongs to another origin, each claim stays with its origin
-renewed_origin : (origin moment : ℕ) (names : List ℕ) (claim : Claim) →
-    is_named claim.ssrc names && not (claim.origin == origin) ≡ false →
-    (renewed origin moment names claim).origin ≡ claim.origin
-renewed_origin origin moment names claim own =
-    elim (is_named claim.ssrc names) as (λ b. b && not (claim.origin == origin) ≡ false →
-    (cond b (record claim { origin = origin; last = moment }) claim).origin ≡ claim.origin) [
-      | true ↦ λ e. grind (arith, nat_tests, e)
-      | false ↦ λ e. refl
-    ] own
-
-pub held_renewed : (other origin moment : ℕ) (names : List ℕ) (claims : List Claim) →
-    is_strange origin names claims ≡ false →
-    held other (map (renewed origin moment names) claims) ≡ held other claims
-held_renewed other origin moment names [] own = refl
-held_renewed other origin moment names (claim ∷ rest) own =
-    let parts = or_parts (is_named claim.ssrc names && not (claim.origin == origin)) (is_strange origin names rest) own in
-    let first : held other (map (renewed origin moment names) (claim ∷ rest)) ≡ one_if ((renewed origin moment names claim).origin == other) + held other (map (renewed origin moment names) rest) = held_first other (renewed origin moment names claim) (map (renewed origin moment names) rest) in
-    let second : held other (claim ∷ rest) ≡ one_if (claim.origin == other) + held other rest = held_first other claim rest in
-    let same : one_if ((renewed origin moment names claim).origin == other) ≡ one_if (claim.origin == other) =
-    ap (λ (o : ℕ). one_if (o == other)) (renewed_origin origin moment names claim parts.0) in
-    let tail = held_renewed other origin moment names rest parts.1 in
-    first ∙ (λ i. same i + tail i) ∙ sym second
-
--- ---- A datagram that is passed on
-
-pub bounded_passing : (limit origin moment : ℕ) (names : List ℕ) (claims : List Claim) → IsBounded limit claims →
-    is_strange origin names claims ≡ false → is_crowd limit origin moment names claims ≡ false →
-    IsBounded limit (after_passing origin moment names claims)
-bounded_passing limit origin moment names claims bounded own few =
-    let all : List Claim = with_new origin moment names claims in
-    let ours : nat_lt limit (held origin all) ≡ false = (or_parts (nat_lt limit (held origin all)) (nat_lt 2048 (length all)) few).0 in
-    record {
-      apart = apart_renewed origin moment names all (apart_new origin moment names claims bounded.apart);
-      few = λ other.
-          let same = held_renewed other origin moment names all (strange_new origin moment names names claims own) in
-          elim (origin == other) as (λ b. origin == other ≡ b → held other (after_passing origin moment names claims) ≤ limit) [
-            | true ↦ λ e.
-                let is : held origin all ≡ held other all = ap (λ (o : ℕ). held o all) (eqb-true origin other e) in
-                let fits : held origin all ≤ limit = grind (arith, nat_tests, ours) in
-                omega arith
-            | false ↦ λ e.
-                let before = others_new other origin moment names claims e in
-                let fits = bounded.few other in
-                omega arith
-          ] refl;
-    }
+-- so does a source that an origin may have
+pub bounded_expected : (guard : GuardValue) (limit room origin moment ssrc : ℕ) →
+    IsBounded guard.settings guard.trusted guard.claims → limit ≡ limit_of origin guard.settings guard.trusted →
+    room ≡ room_of guard.settings →
+    true ≡ not (is_too_many limit room origin (put (claim_by origin moment ssrc) guard.claims)) →
+    IsBounded guard.settings guard.trusted (put (claim_by origin moment ssrc) guard.claims)
+bounded_expected guard limit room origin moment ssrc bounded its_limit its_room may =
+    bounded_put guard.settings guard.trusted (claim_by origin moment ssrc) guard.claims bounded
+    (sym (λ i. is_too_many (its_limit i) (its_room i) origin (put (claim_by origin moment ssrc) guard.claims))
+    ∙ not_true (is_too_many limit room origin (put (claim_by origin moment ssrc) guard.claims)) may)

@@ -1,4 +1,7 @@
+pub mod Orders
+pub mod Putting
 pub mod Claiming
+pub mod Rows
+pub mod Counting
 pub mod Bounding
-pub mod Owning
-pub mod Lawful
+pub mod Expecting

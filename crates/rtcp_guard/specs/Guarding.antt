@@ -1,110 +1,113 @@
--- Who owns a source, and which datagrams are held back (RFC 3550, 8.2), over the steps so far, the newest first.
-use Rattle.std.specs.Prelude.{ℕ, ◌≡◌, ◌==◌, ◌||◌, ◌++◌, nat_lt, nat_le, Bool, true, false, List, [], ◌∷◌, length, map, if◌then◌else◌, Option, Some, None, option_map, is_some}
-use Rattle.rtcp_guard.specs.Claims.{is_named, claim_by, with_new, after_passing, after_lapse, of_origin, is_strange}
-use Rattle.rtcp_guard.specs.declared.claim.Claim.{Claim}
-use Rattle.rtcp_guard.specs.declared.guard.Verdict.{Verdict}
-use Rattle.rtcp_guard.specs.declared.guard.Verdict.TheVariants.{Passed, Stranger, Crowd}
+-- What becomes of each datagram, and what a guard keeps of it (RFC 3550, 8.2).
+use Rattle.std.specs.Prelude.{ℕ, ◌==◌, ◌||◌, ◌++◌, ◌+◌, ◌-◌, ◌*◌, ◌^◌, not, min, max, nat_lt, nat_le, Bool, List, [], ◌∷◌, length, if◌then◌else◌, Option, Some, None}
+use Rattle.std.specs.List.{list_any}
+use Rattle.rtcp_guard.specs.Claims.{Claim, claim_by, put, with_names, after_lapse, is_strange, before_stranger, is_too_many}
+use Rattle.rtcp_guard.specs.declared.settings.Settings.{Settings}
+use Rattle.rtcp_guard.specs.declared.verdict.HeldBack.{HeldBack}
+use Rattle.rtcp_guard.specs.declared.verdict.Verdict.{Verdict}
+use Rattle.rtcp_guard.specs.declared.verdict.Verdict.TheVariants.{Pass, Stranger, Crowd}
+
+-- ---- A guard
+
+pub record GuardValue : Type 0 where
+  pub settings : Settings
+  pub claims : List Claim
+  -- the origins with a limit of their own
+  pub trusted : List ℕ
+  pub held_back : HeldBack
+
+abbrev pub nothing_held_back : HeldBack
+nothing_held_back = record { strangers = 0; crowds = 0; last_stranger = None; last_crowd = None }
+
+abbrev pub new_guard : Settings → GuardValue
+new_guard settings =
+    record { settings = settings; claims = []; trusted = []; held_back = nothing_held_back }
+
+-- ---- Limits
+
+abbrev pub is_trusted : (origin : ℕ) → (trusted : List ℕ) → Bool
+is_trusted origin trusted = list_any (λ other. other == origin) trusted
+
+-- how many sources an origin may have
+abbrev pub limit_of : (origin : ℕ) → Settings → (trusted : List ℕ) → ℕ
+limit_of origin settings trusted =
+    if is_trusted origin trusted then max settings.names settings.trusted_names else settings.names
+
+-- How many sources all origins may have: twice as many as the participant's table, since one that left counts for a
+-- while.
+abbrev pub room_of : Settings → ℕ
+room_of settings = 2 * settings.sources
+
+abbrev pub has_too_many : (origin : ℕ) → List Claim → GuardValue → Bool
+has_too_many origin claims guard =
+    is_too_many (limit_of origin guard.settings guard.trusted) (room_of guard.settings) origin claims
+
+-- ---- Verdicts
+
+-- What becomes of a datagram with these names. It is held back where one of them belongs to another origin, and where
+-- its own origin would have too many sources by them, or it has more than 512. The names before the first that belongs
+-- to another origin say which of both is told.
+abbrev pub judged : (limit room origin moment : ℕ) → (names : List ℕ) → List Claim → Verdict
+judged limit room origin moment names claims =
+    if nat_lt 512 (length names)
+    || is_too_many limit room origin (with_names origin moment (before_stranger origin names claims) claims) then Crowd
+    else (if is_strange origin names claims then Stranger else Pass)
+
+abbrev pub verdict_on : (origin moment : ℕ) → (names : List ℕ) → GuardValue → Verdict
+verdict_on origin moment names guard =
+    judged (limit_of origin guard.settings guard.trusted) (room_of guard.settings) origin moment names guard.claims
 
 -- ---- Steps
 
 pub data GuardStep : Type 0 where
-  -- a datagram that was passed on: its origin, when it came, and the sources that it names
-  datagram_passed : (origin moment : ℕ) → (names : List ℕ) → GuardStep
-  -- a check, which lets the claims lapse whose sources were last named before a moment
-  claims_lapsed : (before : ℕ) → GuardStep
+  -- a datagram came: from where, when, and the sources that it names
+  datagram_came : (origin moment : ℕ) → (names : List ℕ) → GuardStep
+  -- a check: when, and before which moment the participant's table drops a source that was silent
+  check_made : (moment silent : ℕ) → GuardStep
+  -- the host expects a source at an origin
+  source_expected : (ssrc origin moment : ℕ) → GuardStep
+  -- the host trusts an origin with more sources
+  origin_trusted : (origin : ℕ) → GuardStep
 
--- ---- Who owns a source
+-- One more is counted, as far as a count of 64 bits goes.
+abbrev pub one_more : ℕ → ℕ
+one_more count = min (count + 1) (2 ^ 64 - 1)
 
-abbrev pub claim_at : (ssrc : ℕ) → GuardStep → Option Claim → Option Claim
-claim_at ssrc (datagram_passed origin moment names) claim =
-    if is_named ssrc names then Some (claim_by origin moment ssrc) else claim
-claim_at ssrc (claims_lapsed before) None = None
-claim_at ssrc (claims_lapsed before) (Some claim) = if nat_le before claim.last then Some claim else None
+abbrev pub after_verdict : (origin moment : ℕ) → (names : List ℕ) → Verdict → GuardValue → GuardValue
+after_verdict origin moment names Pass guard =
+    record guard { claims = with_names origin moment names guard.claims }
+after_verdict origin moment names Stranger guard =
+    record guard {
+      held_back =
+          record guard.held_back { strangers = one_more guard.held_back.strangers; last_stranger = Some origin };
+    }
+after_verdict origin moment names Crowd guard =
+    record guard {
+      held_back = record guard.held_back { crowds = one_more guard.held_back.crowds; last_crowd = Some origin };
+    }
 
--- The claim to a source: the origin of the newest datagram that named it, and the moment, unless it lapsed since.
-abbrev pub claim_of : (ssrc : ℕ) → List GuardStep → Option Claim
-claim_of ssrc [] = None
-claim_of ssrc (step ∷ earlier) = claim_at ssrc step (claim_of ssrc earlier)
+-- The claims lapse whose sources were silent for the hold, and for as long as the participant's table keeps them.
+abbrev pub before_which : (moment silent : ℕ) → Settings → ℕ
+before_which moment silent settings = min (moment - settings.hold) silent
 
-abbrev pub owner_of : (ssrc : ℕ) → List GuardStep → Option ℕ
-owner_of ssrc trace = option_map (λ (claim : Claim). claim.origin) (claim_of ssrc trace)
+-- whether an origin may have a source that the host expects of it
+abbrev pub may_have : (ssrc origin moment : ℕ) → GuardValue → Bool
+may_have ssrc origin moment guard = not (has_too_many origin (put (claim_by origin moment ssrc) guard.claims) guard)
 
-abbrev pub is_owner : (origin : ℕ) → Option ℕ → Bool
-is_owner origin None = false
-is_owner origin (Some owner) = owner == origin
+-- whether an origin is trusted already, or may be
+abbrev pub may_trust : (origin : ℕ) → (trusted : List ℕ) → Bool
+may_trust origin trusted = is_trusted origin trusted || nat_lt (length trusted) 16
 
--- ---- All claims
+abbrev pub with_trusted : (origin : ℕ) → (trusted : List ℕ) → List ℕ
+with_trusted origin trusted =
+    if is_trusted origin trusted || nat_le 16 (length trusted) then trusted else trusted ++ origin ∷ []
 
-abbrev pub after_step : GuardStep → List Claim → List Claim
-after_step (datagram_passed origin moment names) claims = after_passing origin moment names claims
-after_step (claims_lapsed before) claims = after_lapse before claims
-
-abbrev pub claims_after : List GuardStep → List Claim
-claims_after [] = []
-claims_after (step ∷ earlier) = after_step step (claims_after earlier)
-
--- the sources of an origin
-abbrev pub names_of : (origin : ℕ) → List GuardStep → List ℕ
-names_of origin trace = map (λ (claim : Claim). claim.ssrc) (of_origin origin (claims_after trace))
-
--- ---- What is held back
-
--- Whether an origin would hold more than `limit` sources, or all origins more than 2,048.
-abbrev pub is_crowd : (limit origin moment : ℕ) → (names : List ℕ) → List Claim → Bool
-is_crowd limit origin moment names claims =
-    nat_lt limit (length (of_origin origin (with_new origin moment names claims)))
-    || nat_lt 2048 (length (with_new origin moment names claims))
-
-abbrev pub verdict : (limit origin moment : ℕ) → (names : List ℕ) → List Claim → Verdict
-verdict limit origin moment names claims =
-    if is_strange origin names claims then Stranger
-    else (if is_crowd limit origin moment names claims then Crowd else Passed)
-
-abbrev pub is_passed : Verdict → Bool
-is_passed Passed = true
-is_passed Stranger = false
-is_passed Crowd = false
-
-abbrev pub is_held_back : (limit origin moment : ℕ) → (names : List ℕ) → List GuardStep → Bool
-is_held_back limit origin moment names trace =
-    is_strange origin names (claims_after trace) || is_crowd limit origin moment names (claims_after trace)
-
--- Each datagram that was passed on was not held back at its time.
-abbrev pub IsGuardedStep : (limit : ℕ) → GuardStep → List GuardStep → Type 0
-IsGuardedStep limit (datagram_passed origin moment names) earlier =
-    is_held_back limit origin moment names earlier ≡ false
-IsGuardedStep limit (claims_lapsed before) earlier = Unit {0}
-
-abbrev pub IsGuarded : (limit : ℕ) → List GuardStep → Type 0
-IsGuarded limit [] = Unit {0}
-IsGuarded limit (step ∷ earlier) = IsGuardedStep limit step earlier × IsGuarded limit earlier
-
--- ---- What a guard keeps
-
-pub record GuardValue : Type 0 where
-  -- how many sources an origin may hold
-  pub limit : ℕ
-  pub claims : List Claim
-
-abbrev pub value_of : (limit : ℕ) → List Claim → GuardValue
-value_of limit claims = record { limit = limit; claims = claims }
-
--- a guard whose claims are those of the steps so far
-pub record StandsAt (guard : GuardValue) (trace : List GuardStep) : Type 0 where
-  pub claims : guard.claims ≡ claims_after trace
-  pub guarded : IsGuarded guard.limit trace
-
--- ---- Whole stretches of steps
-
--- A source is claimed after each of these steps, of which the newest stand first, and which follow older ones.
-abbrev pub IsClaimedThroughout : (ssrc : ℕ) → (newer older : List GuardStep) → Type 0
-IsClaimedThroughout ssrc [] older = Unit {0}
-IsClaimedThroughout ssrc (step ∷ newer) older =
-    (is_some (claim_of ssrc (step ∷ newer ++ older)) ≡ true) × IsClaimedThroughout ssrc newer older
-
--- All of these datagrams that name a source are of one origin.
-abbrev pub AreOf : (ssrc origin : ℕ) → List GuardStep → Type 0
-AreOf ssrc owner [] = Unit {0}
-AreOf ssrc owner (datagram_passed origin moment names ∷ rest) =
-    (is_named ssrc names ≡ true → origin ≡ owner) × AreOf ssrc owner rest
-AreOf ssrc owner (claims_lapsed before ∷ rest) = AreOf ssrc owner rest
+abbrev pub after : GuardStep → GuardValue → GuardValue
+after (datagram_came origin moment names) guard =
+    after_verdict origin moment names (verdict_on origin moment names guard) guard
+after (check_made moment silent) guard =
+    record guard { claims = after_lapse (before_which moment silent guard.settings) guard.claims }
+after (source_expected ssrc origin moment) guard =
+    if may_have ssrc origin moment guard then record guard { claims = put (claim_by origin moment ssrc) guard.claims }
+    else guard
+after (origin_trusted origin) guard = record guard { trusted = with_trusted origin guard.trusted }

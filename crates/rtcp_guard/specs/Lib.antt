@@ -1,5 +1,5 @@
 pub mod Claims
 pub mod Guarding
+pub mod Histories
 pub mod Naming
-pub mod Codes
-pub mod Bounded
+pub mod Tables

@@ -1,218 +1,204 @@
 //! The guard.
 
-ghost use Rattle.std.specs.Prelude.{◌≡◌, ◌≤◌, ◌||◌, List, [], ◌∷◌, length, map, nat_lt, not, take, if◌then◌else◌, true};
-ghost use Rattle.rtcp_guard.specs.Guarding.{GuardStep, datagram_passed, claims_lapsed, is_crowd, is_held_back, verdict, is_passed, value_of, StandsAt};
-ghost use Rattle.rtcp_guard.specs.Claims.{is_strange, is_claimed, of_origin, with_new, renewed, after_passing, after_lapse};
+ghost use Rattle.std.specs.Prelude.{◌≡◌, ◌≤◌, ◌*◌, ℕ, IfOk, length, not};
+ghost use Rattle.rtcp_guard.specs.Claims.{claim_by, held, is_too_many, put, with_names};
+ghost use Rattle.rtcp_guard.specs.Guarding.{after, check_made, datagram_came, is_trusted, limit_of, may_have, may_trust, new_guard, origin_trusted, source_expected, verdict_on};
+ghost use Rattle.rtcp_guard.specs.Tables.{AreRising};
 ghost use Rattle.rtcp_guard.specs.Naming.{names_of_compound, names_of_packet};
 
-use crate::claim::Claim;
-use crate::naming::{of_compound, of_packet};
+use crate::judging::judge;
+use crate::naming::{Names, PacketNames, of_compound, of_packet};
+use crate::settings::Settings;
+use crate::table::ClaimTable;
+use crate::verdict::{HeldBack, Verdict};
 use arrayvec::ArrayVec;
 use rtcp_wire::{Compound, RtpHead};
+use std::alloc::{AllocError, Global};
 use std::marker::Model;
 
-/// The most claims of a guard: twice the greatest capacity of a participant's table, since a name that left still
-/// counts for a while.
-pub const MAX_CLAIMS: usize = 2048;
+/// How many origins may be trusted.
+pub const MAX_TRUSTED: usize = 16;
 
-/// What becomes of a datagram.
-#[derive(Clone, Copy, Debug, PartialEq, Eq)]
-pub enum Verdict {
-    /// It is passed on.
-    Passed,
-    /// It is held back: it names a source that belongs to another origin.
-    Stranger,
-    /// It is held back: its origin would hold too many sources, or the guard would.
-    Crowd,
-}
-
-/// Which origins hold which sources. A contract sees how many an origin may hold, and the claims.
+/// Which origins the sources belong to. An origin is a number for where a datagram comes from: a peer's address
+/// without its port.
 #[derive(Drop)]
 pub struct Guard {
-    limit: u32,
-    claims: ArrayVec<Claim, MAX_CLAIMS>,
+    settings: Settings,
+    claims: ClaimTable,
+    trusted: ArrayVec<u64, MAX_TRUSTED>,
+    held_back: HeldBack,
 }
 
 impl Model for Guard {
-    ghost use Rattle.rtcp_guard.specs.Guarding.{GuardValue, value_of};
-    ghost use Rattle.rtcp_guard.specs.Codes.{guard_code};
-    ghost use Rattle.rtcp_guard.specs.Bounded.{IsBounded};
+    ghost use Rattle.rtcp_guard.specs.Guarding.{GuardValue};
+    ghost use Rattle.rtcp_guard.specs.Tables.{IsGuard};
 
     ghost Value = { GuardValue };
 
-    ghost coded = { guard_code };
+    ghost view = { λ g.
+        record {
+          settings = g.settings;
+          claims = g.claims.items;
+          trusted = g.trusted.items;
+          held_back = g.held_back;
+        } };
 
-    ghost view = { λ g. value_of g.limit g.claims.items };
-
-    ghost invariant = { λ g. IsBounded g.limit g.claims.items };
+    ghost invariant = { λ g. IsGuard g.settings g.trusted.items g.claims.items g.claims.room };
 }
 
 impl Guard {
-    /// A guard without claims, by which an origin holds at most `limit` sources.
-    pub fn new(limit: u32) -> Guard
-        ensures stands { StandsAt result [] }
-        ensures content { result ≡ value_of limit [] }
+    /// A guard that knows of no source. It takes all its memory here, 48 octets for each source of the participant's
+    /// table, and none later.
+    ///
+    /// # Errors
+    ///
+    /// There is no memory.
+    pub fn new(alloc: Global, settings: Settings) -> Result<Guard, AllocError>
+        ensures { IfOk result (λ guard. guard ≡ new_guard settings) }
     {
-        Guard {
-            limit,
-            claims: ArrayVec::new(),
-        }
+        let claims = ClaimTable::with_room(alloc, usize::from(settings.sources) * 2)?;
+        Ok(Guard {
+            settings,
+            claims,
+            trusted: ArrayVec::new(),
+            held_back: HeldBack::none(),
+        })
     }
 
-    /// A datagram of an origin comes that names these sources. Where it is passed on, they belong to the origin.
-    pub fn arrive(&mut self, origin: u64, now: u64, names: &[u32]) -> Verdict
-        // The verdict and the claims are those of the datagrams and checks so far.
-        ensures held_back { (trace : List GuardStep) → StandsAt self.old trace →
-            is_passed result ≡ not (is_held_back self.old.limit origin now names.now trace) }
-        ensures follows { (trace : List GuardStep) → StandsAt self.old trace →
-            StandsAt self.new (if is_passed result then datagram_passed origin now names.now ∷ trace else trace) }
-
-        // In the guard's own claims.
-        ensures verdict { result ≡ verdict self.old.limit origin now names.now self.old.claims }
-        ensures content { self.new ≡ value_of self.old.limit (if is_passed result
-            then after_passing origin now names.now self.old.claims else self.old.claims) }
+    /// A datagram of an origin comes that names these sources. Returns what becomes of it. Where it is passed on, each
+    /// of the sources belongs to the origin, and was last named now; else nothing changes but what was held back.
+    #[inline]
+    pub fn arrive(&mut self, names: &[u32], origin: u64, t: u64) -> Verdict
+        ensures verdict { result ≡ verdict_on origin t names.now self.old }
+        ensures content { self.new ≡ after (datagram_came origin t names.now) self.old }
     {
-        self.decide(origin, now, names)
+        let (limit, room) = (self.limit_of(origin), self.room());
+        let verdict = judge(&mut self.claims, limit, room, origin, names);
+        match verdict {
+            Verdict::Pass => claim_all(&mut self.claims, origin, t, names),
+            Verdict::Stranger => self.held_back.count_stranger(origin),
+            Verdict::Crowd => self.held_back.count_crowd(origin),
+        }
+        verdict
     }
 
     /// A compound of an origin comes, to the participant `own`. It names the sources that its facts speak of
-    /// (RFC 3550, 6.1); one that speaks of more than [`MAX_NAMES`](crate::MAX_NAMES) is held back.
-    pub fn arrive_rtcp(
-        &mut self,
-        origin: u64,
-        now: u64,
-        own: u32,
-        compound: &Compound<'_>,
-    ) -> Verdict
-        ensures held_back { (trace : List GuardStep) → StandsAt self.old trace →
-            is_passed result ≡ not (is_held_back self.old.limit origin now (names_of_compound own compound.now) trace
-            || nat_lt 512 (length (names_of_compound own compound.now))) }
-        ensures follows { (trace : List GuardStep) → StandsAt self.old trace →
-            StandsAt self.new (if is_passed result
-            then datagram_passed origin now (names_of_compound own compound.now) ∷ trace else trace) }
+    /// (RFC 3550, 6.1), but the participant's own SSRC, which the guard does not look at. Else as [`Guard::arrive`].
+    pub fn arrive_rtcp(&mut self, compound: &Compound<'_>, origin: u64, t: u64, own: u32) -> Verdict
+        ensures verdict { result ≡ verdict_on origin t (names_of_compound own compound.now) self.old }
+        ensures content { self.new ≡ after (datagram_came origin t (names_of_compound own compound.now)) self.old }
     {
-        let mut names = ArrayVec::new();
+        let mut names = Names::new();
         if !of_compound(compound, own, &mut names) {
+            self.held_back.count_crowd(origin);
             return Verdict::Crowd;
         }
-        self.arrive(origin, now, names.as_slice())
+        self.arrive(names.as_slice(), origin, t)
     }
 
     /// An RTP packet of an origin comes, to the participant `own`. It names its SSRC and its CSRCs, which are treated
-    /// alike (RFC 3550, 8.2).
-    pub fn arrive_rtp(&mut self, origin: u64, now: u64, own: u32, head: &RtpHead<'_>) -> Verdict
-        ensures held_back { (trace : List GuardStep) → StandsAt self.old trace →
-            is_passed result ≡ not (is_held_back self.old.limit origin now (names_of_packet own head.now) trace) }
-        ensures follows { (trace : List GuardStep) → StandsAt self.old trace →
-            StandsAt self.new (if is_passed result
-            then datagram_passed origin now (names_of_packet own head.now) ∷ trace else trace) }
+    /// alike (RFC 3550, 8.2), but the participant's own SSRC. Else as [`Guard::arrive`].
+    #[inline]
+    pub fn arrive_rtp(&mut self, head: &RtpHead<'_>, origin: u64, t: u64, own: u32) -> Verdict
+        ensures verdict { result ≡ verdict_on origin t (names_of_packet own head.now) self.old }
+        ensures content { self.new ≡ after (datagram_came origin t (names_of_packet own head.now)) self.old }
     {
-        let mut names = ArrayVec::new();
+        let mut names = PacketNames::new();
         of_packet(head, own, &mut names);
-        self.arrive(origin, now, names.as_slice())
+        self.arrive(names.as_slice(), origin, t)
     }
 
-    /// Decides on a datagram, and notes it where it is passed on.
-    fn decide(&mut self, origin: u64, now: u64, names: &[u32]) -> Verdict
-        ensures verdict { result ≡ verdict self.old.limit origin now names.now self.old.claims }
-        ensures content { self.new ≡ value_of self.old.limit (if is_passed result
-            then after_passing origin now names.now self.old.claims else self.old.claims) }
+    /// Says that a source is expected at an origin, as signalling knows: it belongs to that origin from now on, as if
+    /// the origin had named it now. Returns whether it does. It does not, and nothing changes, where the origin would
+    /// have more sources than it may, or all origins together would.
+    pub fn expect(&mut self, ssrc: u32, origin: u64, t: u64) -> bool
+        ensures result { result ≡ may_have ssrc origin t self.old }
+        ensures content { self.new ≡ after (source_expected ssrc origin t) self.old }
     {
-        if names_another(self.claims.as_slice(), origin, names) {
-            return Verdict::Stranger;
+        let (limit, room) = (self.limit_of(origin), self.room());
+        if !may_put(&self.claims, limit, room, ssrc, origin) {
+            return false;
         }
-        let known = self.claims.len();
-        if !claim_new(&mut self.claims, self.limit, origin, now, names) {
-            self.claims.truncate(known);
-            return Verdict::Crowd;
-        }
-        renew(self.claims.as_mut_slice(), origin, now, names);
-        Verdict::Passed
+        self.claims.put(ssrc, origin, t);
+        true
     }
 
-    /// Lets the claims lapse whose sources were last named before a moment.
-    pub fn check(&mut self, before: u64)
-        ensures follows { (trace : List GuardStep) → StandsAt self.old trace →
-            StandsAt self.new (claims_lapsed before ∷ trace) }
-        ensures content { self.new ≡ value_of self.old.limit (after_lapse before self.old.claims) }
+    /// Trusts an origin with as many sources as [`Settings::trusted_names`] says. Returns whether it is trusted: at most
+    /// [`MAX_TRUSTED`] are.
+    pub fn trust(&mut self, origin: u64) -> bool
+        ensures result { result ≡ may_trust origin self.old.trusted }
+        ensures content { self.new ≡ after (origin_trusted origin) self.old }
     {
-        self.claims.retain(|claim| before <= claim.last);
-    }
-}
-
-/// Whether one of these names belongs to another origin.
-fn names_another(claims: &[Claim], origin: u64, names: &[u32]) -> bool
-    ensures { result ≡ is_strange origin names.now claims.now }
-{
-    claims.iter().any(|claim| names.contains(&claim.ssrc) && claim.origin != origin)
-}
-
-/// Whether a source is claimed.
-fn holds(claims: &[Claim], ssrc: u32) -> bool
-    ensures { result ≡ is_claimed ssrc claims.now }
-{
-    claims.iter().any(|claim| claim.ssrc == ssrc)
-}
-
-/// How many sources an origin holds.
-fn count(claims: &[Claim], origin: u64) -> usize
-    ensures { result ≡ length (of_origin origin claims.now) }
-{
-    claims.iter().filter(|claim| claim.origin == origin).count()
-}
-
-/// Claims those of the names that nobody claims, up to the first for which there is no room. Whether there was for
-/// all.
-fn claim_new(
-    claims: &mut ArrayVec<Claim, MAX_CLAIMS>,
-    limit: u32,
-    origin: u64,
-    now: u64,
-    names: &[u32],
-) -> bool
-    requires { length (of_origin origin claims.old.items) ≤ limit }
-    ensures room { result ≡ not (is_crowd limit origin now names.now claims.old.items) }
-    ensures all { result ≡ true → claims.new.items ≡ with_new origin now names.now claims.old.items }
-    ensures kept { take (length claims.old.items) claims.new.items ≡ claims.old.items }
-{
-    let mut held = count(claims.as_slice(), origin);
-    for name in names {
-        if !holds(claims.as_slice(), *name) {
-            if held >= limit as usize || claims.is_full() {
-                return false;
-            }
-            claims.push(Claim {
-                ssrc: *name,
-                origin,
-                last: now,
-            });
-            held += 1;
+        if self.trusted.contains(&origin) {
+            return true;
         }
-    }
-    true
-}
-
-/// Notes of each named source that it was named now, by this origin.
-
-fn renew(claims: &mut [Claim], origin: u64, now: u64, names: &[u32])
-    ensures { claims.new ≡ map (renewed origin now names.now) claims.old }
-{
-    for claim in claims.iter_mut() {
-        *claim = renewed(*claim, origin, now, names);
-    }
-}
-
-/// A claim after these names, of an origin, came.
-fn renewed(claim: Claim, origin: u64, now: u64, names: &[u32]) -> Claim
-    ensures { result ≡ renewed origin now names.now claim }
-{
-    if names.contains(&claim.ssrc) {
-        Claim {
-            ssrc: claim.ssrc,
-            origin,
-            last: now,
+        if self.trusted.is_full() {
+            return false;
         }
-    } else {
-        claim
+        self.trusted.push(origin);
+        true
+    }
+
+    /// Lets the claims lapse of the sources that were silent for the hold, and for so long that the participant's
+    /// table drops them: it keeps those that were heard at `silent_before` or later (RFC 3550, 6.3.5).
+    pub fn check(&mut self, t: u64, silent_before: u64)
+        ensures { self.new ≡ after (check_made t silent_before) self.old }
+    {
+        let before = t.saturating_sub(self.settings.hold).min(silent_before);
+        self.claims.lapse(before);
+    }
+
+    /// What was held back so far.
+    pub fn held_back(&self) -> HeldBack
+        ensures { result ≡ self.now.held_back }
+    {
+        self.held_back
+    }
+
+    /// How many sources an origin may have.
+    #[inline(always)]
+    fn limit_of(&self, origin: u64) -> usize
+        ensures { result ≡ limit_of origin self.now.settings self.now.trusted }
+    {
+        let names = usize::from(self.settings.names);
+        if self.trusted.contains(&origin) {
+            return names.max(usize::from(self.settings.trusted_names));
+        }
+        names
+    }
+
+    /// How many sources all origins may have.
+    #[inline(always)]
+    fn room(&self) -> usize
+        ensures { result ≡ 2 * self.now.settings.sources }
+    {
+        usize::from(self.settings.sources) * 2
+    }
+}
+
+/// Whether an origin may have one source more, or has it already.
+fn may_put(claims: &ClaimTable, limit: usize, room: usize, ssrc: u32, origin: u64) -> bool
+    requires rising { AreRising claims.now.items }
+    requires few { held origin claims.now.items ≤ limit }
+    requires within { length claims.now.items ≤ room }
+    ensures { (moment : ℕ) → result ≡ not (is_too_many limit room origin
+        (put (claim_by origin moment ssrc) claims.now.items)) }
+{
+    match claims.owner(ssrc) {
+        Some(owner) => owner == origin || claims.count(origin) < limit,
+        None => claims.count(origin) < limit && claims.len() < room,
+    }
+}
+
+/// An origin names these sources.
+#[inline(always)]
+fn claim_all(claims: &mut ClaimTable, origin: u64, t: u64, names: &[u32])
+    requires rising { AreRising claims.old.items }
+    requires room { length (with_names origin t names.now claims.old.items) ≤ claims.old.room }
+    ensures items { claims.new.items ≡ with_names origin t names.now claims.old.items }
+    ensures room { claims.new.room ≡ claims.old.room }
+{
+    'names: for name in names {
+        claims.put(*name, origin, t);
     }
 }

@@ -1,27 +1,31 @@
 //! Who speaks for a source, by where its datagrams come from (RFC 3550, 8.2): a guard that stands before a
 //! participant, and says of each arriving datagram whether it is passed on or held back. A source belongs to the
-//! origin whose datagram first named it, until it was not named for long; and an origin holds few sources. The guard
-//! reads no datagram itself: it is told the names in each. It reads no clock, and does not allocate.
+//! origin that named it first, until it was silent for long; and an origin has few sources. The guard reads no clock,
+//! and no address: an origin is a number that the caller makes of one. It allocates when it is made, and never later.
 //!
 //! ```
-//! let mut guard = Guard::new(2);
-//! assert!(rt; guard.arrive(1, 0, &[7]) == Verdict::Passed);
-//! assert!(rt; guard.arrive(2, 5, &[7]) == Verdict::Stranger);
-//! assert!(rt; guard.arrive(2, 6, &[8, 9, 8]) == Verdict::Passed);
-//! assert!(rt; guard.arrive(2, 7, &[8, 10]) == Verdict::Crowd);
-//! guard.check(6);
-//! assert!(rt; guard.arrive(2, 40, &[7]) == Verdict::Crowd);
-//! assert!(rt; guard.arrive(3, 40, &[7]) == Verdict::Passed);
+//! let settings = Settings { sources: 4, names: 2, trusted_names: 3, hold: 10 };
+//! let mut guard = Guard::new(rt.alloc(), settings).expect(&rt, "memory for a guard");
+//! assert!(rt; guard.arrive(&[7], 1, 0) == Verdict::Pass);
+//! assert!(rt; guard.arrive(&[7], 2, 5) == Verdict::Stranger);
+//! assert!(rt; guard.arrive(&[8, 9, 8], 2, 6) == Verdict::Pass);
+//! assert!(rt; guard.arrive(&[8, 10], 2, 7) == Verdict::Crowd);
+//! guard.check(16, 20);
+//! assert!(rt; guard.arrive(&[7], 3, 16) == Verdict::Pass);
 //! ```
 //!
-//! `specs/Guarding` defines who owns a source and what is held back, over the steps so far; `laws` states properties.
+//! `specs/Guarding` defines what is held back and what a guard keeps, and `specs/Histories` a guard over its history.
 #![tactic(auto)]
 
-mod claim;
+mod cells;
 mod guard;
-pub mod laws;
+mod judging;
 mod naming;
+mod settings;
+mod table;
+mod verdict;
 
-pub use claim::Claim;
-pub use guard::{Guard, MAX_CLAIMS, Verdict};
+pub use guard::{Guard, MAX_TRUSTED};
 pub use naming::MAX_NAMES;
+pub use settings::Settings;
+pub use verdict::{HeldBack, Verdict};

@@ -30,8 +30,11 @@ pub(crate) fn of_compound(compound: &Compound<'_>, own: u32, names: &mut Names) 
     true
 }
 
+/// Room for the names of an RTP packet: its SSRC, and up to 15 CSRCs.
+pub(crate) type PacketNames = ArrayVec<u32, 16>;
+
 /// Gathers the SSRC and the CSRCs of an RTP packet, but `own`.
-pub(crate) fn of_packet(head: &RtpHead<'_>, own: u32, names: &mut Names)
+pub(crate) fn of_packet(head: &RtpHead<'_>, own: u32, names: &mut PacketNames)
     requires { names.old.items ≡ [] }
     ensures { names.new.items ≡ names_of_packet own head.now }
 {

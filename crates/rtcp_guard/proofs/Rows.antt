@@ -1,0 +1,131 @@
+-- Claims in cells.
+use Rattle.std.proofs.Common.{◌≡◌, ◌<◌, ◌≤◌, ◌==◌, ℕ, zero, suc, nat_lt, Bool, true, false, cond, List, [], ◌∷◌, filter, map, length, set, take, drop, ◌++◌, slice_index_or, Option, Some, None, option_map, arith, refl, sym, ap, ◌∙◌}
+use Rattle.std.specs.List.{insert}
+use Rattle.std.specs.List.Sorted.{IsNonDecreasingBy, IsPartitionPoint}
+use Rattle.std.proofs.lemmas.Bool.Decides.{nat_tests}
+use Rattle.std.proofs.lemmas.List.{get_or-map, length-map, map-set, take_at}
+use Rattle.rtcp_guard.specs.declared.cells.Cell.{Cell}
+use Rattle.rtcp_guard.specs.Claims.{Claim, found, owner_in, put, is_by, held}
+use Rattle.rtcp_guard.specs.Tables.{claim_in, claims_in, no_cell, AreRising, IsRankOf, IsGap}
+use Rattle.rtcp_guard.proofs.Orders.{rising_at, rank_found, rank_put, gap_found, gap_put, gap_at}
+
+pub claim_at : (cells : List Cell) (k : ℕ) (d : Cell) (e : Claim) → k < length cells →
+    slice_index_or (claims_in cells) k e ≡ claim_in (slice_index_or cells k d)
+claim_at cells k d e within = get_or-map claim_in cells k d e within
+
+-- Writing what is no claim leaves the claims.
+pub claims_same : (cells : List Cell) (k : ℕ) (d cell : Cell) → claim_in cell ≡ claim_in (slice_index_or cells k d) →
+    claims_in (set cells k cell) ≡ claims_in cells
+claims_same [] k d cell same = refl
+claims_same (x ∷ cells) zero d cell same = ap (λ c. c ∷ claims_in cells) same
+claims_same (x ∷ cells) (suc k) d cell same = ap (λ cs. claim_in x ∷ cs) (claims_same cells k d cell same)
+
+pub claims_inserted : (cells : List Cell) (at : ℕ) (cell : Cell) →
+    claims_in (insert cells at cell) ≡ insert (claims_in cells) at (claim_in cell)
+claims_inserted cells zero cell = refl
+claims_inserted [] (suc at) cell = refl
+claims_inserted (x ∷ cells) (suc at) cell = ap (λ cs. claim_in x ∷ cs) (claims_inserted cells at cell)
+
+pub claims_filtered : (test : Claim → Bool) (cells : List Cell) →
+    claims_in (filter (λ cell. test (claim_in cell)) cells) ≡ filter test (claims_in cells)
+claims_filtered test [] = refl
+claims_filtered test (x ∷ cells) =
+    elim (test (claim_in x)) as (λ b. claims_in (cond b (x ∷ filter (λ cell. test (claim_in cell)) cells)
+    (filter (λ cell. test (claim_in cell)) cells))
+    ≡ cond b (claim_in x ∷ filter test (claims_in cells)) (filter test (claims_in cells))) [
+      | true ↦ ap (λ cs. claim_in x ∷ cs) (claims_filtered test cells)
+      | false ↦ claims_filtered test cells
+    ]
+
+pub as_many : (cells : List Cell) → length (claims_in cells) ≡ length cells
+as_many cells = length-map cells claim_in
+
+pub cell_written : (cells : List Cell) (at : ℕ) (cell : Cell) →
+    claims_in (set cells at cell) ≡ set (claims_in cells) at (claim_in cell)
+cell_written cells at cell = map-set claim_in cells at cell
+
+-- All is written.
+pub over_whole : (n : ℕ) (new old : List Cell) → n ≡ length new → take n (new ++ drop (length new) old) ≡ new
+over_whole n new old same = take_at new (drop (length new) old) n (sym same)
+
+-- ---- Ranks and gaps
+
+pub its_ssrc : (cells : List Cell) (at : ℕ) (d : Cell) (e : Claim) → at < length cells →
+    (slice_index_or (claims_in cells) at e).ssrc ≡ (slice_index_or cells at d).ssrc
+its_ssrc cells at d e within = ap (λ (claim : Claim). claim.ssrc) (claim_at cells at d e within)
+
+pub owner_at_rank : (ssrc : ℕ) (cells : List Cell) (at : ℕ) (cell : Cell) → AreRising (claims_in cells) →
+    IsRankOf ssrc (claims_in cells) at → cell ≡ slice_index_or cells at cell →
+    Some cell.origin ≡ owner_in ssrc (claims_in cells)
+owner_at_rank ssrc cells at cell rising rank read =
+    let within : at < length cells = let it = rank.within in omega (arith, it, as_many cells) in
+    ap (λ (c : Cell). Some c.origin) read
+    ∙ ap (λ (claim : Claim). Some claim.origin) (sym (claim_at cells at cell (claim_in cell) within))
+    ∙ ap (option_map (λ (claim : Claim). claim.origin))
+    (sym (rank_found ssrc (claims_in cells) at (claim_in cell) rising rank.within (rank.its_ssrc (claim_in cell))))
+
+pub owner_at_gap : (ssrc : ℕ) (cells : List Cell) (gap : ℕ) → AreRising (claims_in cells) →
+    IsGap ssrc (claims_in cells) gap → None ≡ owner_in ssrc (claims_in cells)
+owner_at_gap ssrc cells gap rising is =
+    ap (option_map (λ (claim : Claim). claim.origin)) (sym (gap_found ssrc (claims_in cells) gap rising is))
+
+-- A cell of which the SSRC was read is the source's.
+pub rank_read : (ssrc : ℕ) (cells : List Cell) (at : ℕ) (d : Cell) → at < length cells →
+    (slice_index_or cells at d).ssrc ≡ ssrc → IsRankOf ssrc (claims_in cells) at
+rank_read ssrc cells at d within is = record {
+  within = omega (arith, within, as_many cells);
+  its_ssrc = λ e. its_ssrc cells at d e within ∙ is;
+}
+
+pub falls_nowhere : (cells : List Cell) → AreRising (claims_in cells) → IsNonDecreasingBy (λ (cell : Cell). cell.ssrc) cells
+falls_nowhere cells rising i j d order within =
+    let less = rising_at (claims_in cells) i j (claim_in d) rising order (omega (arith, within, as_many cells)) in
+    let one = its_ssrc cells i d (claim_in d) (omega (arith, order, within)) in
+    let other = its_ssrc cells j d (claim_in d) within in
+    omega (arith, less, one, other)
+
+abbrev IsLesser : (ssrc : ℕ) → Cell → Bool
+IsLesser ssrc cell = nat_lt cell.ssrc ssrc
+
+-- Where the SSRCs stop being lesser, and the one there is another, there is a gap.
+pub gap_parted : (ssrc : ℕ) (cells : List Cell) (at : ℕ) → at ≤ length cells →
+    IsPartitionPoint (λ cell. IsLesser ssrc cell ≡ true) (λ cell. IsLesser ssrc cell ≡ false) cells at →
+    ((d : Cell) → at < length cells → (slice_index_or cells at d).ssrc ≡ ssrc → ⊥) →
+    IsGap ssrc (claims_in cells) at
+gap_parted ssrc cells at within parted other =
+    gap_at ssrc (claims_in cells) at (omega (arith, within, as_many cells)) lesser greater
+  where
+    lesser : (k : ℕ) (e : Claim) → k < at → (slice_index_or (claims_in cells) k e).ssrc < ssrc
+    lesser k e early =
+        let is = parted.0 k no_cell (omega arith) early in
+        let less : (slice_index_or cells k no_cell).ssrc < ssrc = grind (arith, nat_tests, is) in
+        let its = its_ssrc cells k no_cell e (omega (arith, early, within)) in
+        omega (arith, less, its)
+
+    greater : (e : Claim) → at < length (claims_in cells) → ssrc < (slice_index_or (claims_in cells) at e).ssrc
+    greater e inside =
+        let inside_too : at < length cells = omega (arith, inside, as_many cells) in
+        let is = parted.1 at no_cell (omega arith) inside_too in
+        let from : ssrc ≤ (slice_index_or cells at no_cell).ssrc = grind (arith, nat_tests, is) in
+        let apart : (slice_index_or cells at no_cell).ssrc ≡ ssrc → ⊥ = other no_cell inside_too in
+        let its = its_ssrc cells at no_cell e inside_too in
+        omega (arith, from, apart, its)
+
+-- ---- Edits
+
+pub written : (cells : List Cell) (at : ℕ) (cell : Cell) (claim : Claim) → AreRising (claims_in cells) →
+    IsRankOf claim.ssrc (claims_in cells) at → claim_in cell ≡ claim → claims_in (set cells at cell) ≡ put claim (claims_in cells)
+written cells at cell claim rising rank is =
+    cell_written cells at cell ∙ ap (set (claims_in cells) at) is
+    ∙ sym (rank_put claim (claims_in cells) at claim rising rank.within (rank.its_ssrc claim))
+
+pub put_in_gap : (cells : List Cell) (gap : ℕ) (cell : Cell) (claim : Claim) → IsGap claim.ssrc (claims_in cells) gap →
+    claim_in cell ≡ claim → claims_in (insert cells gap cell) ≡ put claim (claims_in cells)
+put_in_gap cells gap cell claim is value =
+    claims_inserted cells gap cell ∙ ap (insert (claims_in cells) gap) value ∙ sym (gap_put claim (claims_in cells) gap is)
+
+pub same_count : (origin : ℕ) (cells : List Cell) →
+    length (filter (λ (cell : Cell). cell.origin == origin) cells) ≡ held origin (claims_in cells)
+same_count origin cells =
+    sym (as_many (filter (λ (cell : Cell). cell.origin == origin) cells))
+    ∙ ap length (claims_filtered (is_by origin) cells)

@@ -1,0 +1,30 @@
+-- The closure returns whether a claim stays.
+use Rattle.std.proofs.Common.{◌≡◌, rules, arith, length, nat_le, sym, ap, subst, ◌∙◌}
+use Rattle.std.proofs.lemmas.Fn.{filter_same}
+use Rattle.rtcp_guard.specs.declared.cells.Cell.{Cell}
+use Rattle.rtcp_guard.specs.Claims.{Claim, after_lapse}
+use Rattle.rtcp_guard.specs.Tables.{AreRising, TableValue, claims_in}
+use Rattle.rtcp_guard.proofs.Orders.{rising_filter}
+use Rattle.rtcp_guard.proofs.Putting.{length_filter}
+use Rattle.rtcp_guard.proofs.Rows.{claims_filtered}
+use Rattle.rtcp_guard.proofs.table.ClaimTable.lapse.Goals as goal
+
+left : (c : goal.After-retain) → claims_in c.retain.new.self.items ≡ after_lapse c.args.before (claims_in c.self.inside.cells.items)
+left c =
+    ap claims_in (filter_same _ (λ (cell : Cell). nat_le c.args.before cell.last) _ (λ x b f called. search rules)
+    c.self.inside.cells.items c.retain.new.self.items c.retain.ensures.filtered)
+    ∙ claims_filtered (λ (claim : Claim). nat_le c.args.before claim.last) c.self.inside.cells.items
+
+pub invariant_of-self : goal.invariant_of-self
+invariant_of-self c =
+    let cells = c.self.inside.cells.items in
+    let less = length_filter (λ (claim : Claim). nat_le c.args.before claim.last) (claims_in cells) in
+    let long = ap length (left c) in
+    record {
+      rising = subst AreRising (sym (left c))
+          (rising_filter (λ (claim : Claim). nat_le c.args.before claim.last) (claims_in cells) c.self.invariant.rising);
+      within = omega (arith, less, long, c.self.invariant.within, c.retain.ensures.capacity);
+    }
+
+pub returns-clause-items : goal.returns-clause-items
+returns-clause-items c = left c ∙ ap (λ (t : TableValue). after_lapse c.args.before t.items) c.self.view_is

@@ -1,0 +1,66 @@
+-- Claims in cells side by side, by rising SSRC.
+use Rattle.std.specs.Prelude.{ℕ, zero, suc, ◌≡◌, ◌<◌, ◌≤◌, List, [], ◌∷◌, length, map, slice_index_or, Result, Ok, Err}
+use Rattle.std.specs.List.{AllByRecursion}
+use Rattle.rtcp_guard.specs.Claims.{Claim, held}
+use Rattle.rtcp_guard.specs.Guarding.{limit_of, room_of}
+use Rattle.rtcp_guard.specs.declared.cells.Cell.{Cell}
+use Rattle.rtcp_guard.specs.declared.settings.Settings.{Settings}
+
+abbrev pub claim_in : Cell → Claim
+claim_in cell = record { ssrc = cell.ssrc; origin = cell.origin; last = cell.last }
+
+abbrev pub claims_in : List Cell → List Claim
+claims_in cells = map claim_in cells
+
+-- what is read where there is none
+abbrev pub no_cell : Cell
+no_cell = record { ssrc = 0; hints = []; origin = 0; last = 0 }
+
+-- The claims, and how many there is room for.
+pub record TableValue : Type 0 where
+  pub items : List Claim
+  pub room : ℕ
+
+-- ---- Order
+
+-- each SSRC is above this one
+abbrev pub AreAbove : (ssrc : ℕ) → List Claim → Type 0
+AreAbove ssrc claims = AllByRecursion (λ (claim : Claim). ssrc < claim.ssrc) claims
+
+-- The SSRCs strictly rise.
+abbrev pub AreRising : List Claim → Type 0
+AreRising [] = Unit {0}
+AreRising (claim ∷ rest) = AreAbove claim.ssrc rest × AreRising rest
+
+-- A source is claimed here.
+pub record IsRankOf (ssrc : ℕ) (claims : List Claim) (rank : ℕ) : Type 0 where
+  pub within : rank < length claims
+  pub its_ssrc : (d : Claim) → (slice_index_or claims rank d).ssrc ≡ ssrc
+
+-- A source is not claimed, and its claim would stand here: after each lesser SSRC, and before each greater one.
+abbrev pub IsGap : (ssrc : ℕ) → List Claim → (gap : ℕ) → Type 0
+IsGap ssrc [] zero = Unit {0}
+IsGap ssrc [] (suc gap) = ⊥
+IsGap ssrc (claim ∷ rest) zero = ssrc < claim.ssrc
+IsGap ssrc (claim ∷ rest) (suc gap) = (claim.ssrc < ssrc) × IsGap ssrc rest gap
+
+-- What a search of a source comes to: its rank, or else the gap where its claim would stand.
+abbrev pub Locates : (ssrc : ℕ) → List Claim → Result ℕ ℕ → Type 0
+Locates ssrc claims (Ok rank) = IsRankOf ssrc claims rank
+Locates ssrc claims (Err gap) = IsGap ssrc claims gap
+
+-- ---- What holds at any time
+
+pub record IsTable (claims : List Claim) (room : ℕ) : Type 0 where
+  pub rising : AreRising claims
+  pub within : length claims ≤ room
+
+-- No origin has more sources than it may, nor have all together.
+pub record IsBounded (settings : Settings) (trusted : List ℕ) (claims : List Claim) : Type 0 where
+  pub rising : AreRising claims
+  pub few : (origin : ℕ) → held origin claims ≤ limit_of origin settings trusted
+  pub within : length claims ≤ room_of settings
+
+pub record IsGuard (settings : Settings) (trusted : List ℕ) (claims : List Claim) (room : ℕ) : Type 0 where
+  pub bounded : IsBounded settings trusted claims
+  pub roomy : room ≡ room_of settings

@@ -1,0 +1,87 @@
+//! Cells with a claim and two hints each, the hints, and the search.
+
+ghost use Rattle.std.specs.Prelude.{◌≡◌, ◌==◌, filter, length};
+ghost use Rattle.rtcp_guard.specs.Claims.{claim_by};
+ghost use Rattle.rtcp_guard.specs.Tables.{AreRising, Locates, claim_in, claims_in};
+ghost use Rattle.rtcp_guard.specs.declared.cells.Cell.{Cell};
+
+/// How many hints a cell has.
+const HINTS: usize = 2;
+
+/// An odd number, by which SSRCs spread over the cells, those that lie close together too.
+const SPREAD: u32 = 0x85eb_ca6b;
+
+/// The claim of an origin to a source. The hints take what would be left free between the fields. Those of all cells
+/// are one table, which says where sources were found last. No answer depends on it, only how soon a source is found.
+#[derive(Drop)]
+pub(crate) struct Cell {
+    pub(crate) ssrc: u32,
+    pub(crate) hints: [u16; HINTS],
+    pub(crate) origin: u64,
+    pub(crate) last: u64,
+}
+
+impl Cell {
+    /// A cell with a claim.
+    pub(crate) fn of(ssrc: u32, origin: u64, last: u64) -> Cell
+        ensures { claim_in result ≡ claim_by origin last ssrc }
+    {
+        Cell {
+            ssrc,
+            hints: [0; HINTS],
+            origin,
+            last,
+        }
+    }
+}
+
+/// The rank at which a source, or another one with the same hint, was found last.
+#[inline(always)]
+pub(crate) fn hinted(cells: &[Cell], ssrc: u32) -> usize {
+    let place = place_of(cells.len(), ssrc);
+    let at = place / HINTS;
+    if at < cells.len() {
+        return usize::from(cells[at].hints[place % HINTS]);
+    }
+    usize::MAX
+}
+
+/// Notes the rank of a source.
+#[inline(always)]
+pub(crate) fn note(cells: &mut [Cell], ssrc: u32, rank: usize)
+    ensures { claims_in cells.new ≡ claims_in cells.old }
+{
+    let place = place_of(cells.len(), ssrc);
+    let at = place / HINTS;
+    if at < cells.len() {
+        let cell = &mut cells[at];
+        cell.hints[place % HINTS] = (rank & 0xffff) as u16;
+    }
+}
+
+/// Where the hint at a source lies, by the product of its spread SSRC and the number of hints: that is below the
+/// number.
+#[inline(always)]
+fn place_of(count: usize, ssrc: u32) -> usize {
+    let spread = u64::from(ssrc.wrapping_mul(SPREAD));
+    (spread.wrapping_mul(count as u64) >> 31) as usize
+}
+
+/// The rank of a source, or else that which it would have.
+pub(crate) fn search(cells: &[Cell], ssrc: u32) -> Result<usize, usize>
+    requires { AreRising (claims_in cells.now) }
+    ensures { Locates ssrc (claims_in cells.now) result }
+{
+    let rank = cells.partition_point(|cell| cell.ssrc < ssrc);
+    if rank < cells.len() && cells[rank].ssrc == ssrc {
+        return Ok(rank);
+    }
+    Err(rank)
+}
+
+/// How many sources belong to an origin.
+pub(crate) fn count(cells: &[Cell], origin: u64) -> usize
+    ensures { result ≡ length (filter (λ (cell : Cell). cell.origin == origin) cells.now) }
+{
+    cells.iter().filter(|cell| cell.origin == origin).count()
+}

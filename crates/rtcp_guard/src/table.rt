@@ -1,0 +1,162 @@
+//! The table of claims.
+
+ghost use Rattle.std.specs.Prelude.{◌≡◌, ◌≤◌, ◌<◌, [], length, IfOk, IfSome, set};
+ghost use Rattle.std.specs.List.{insert};
+ghost use Rattle.rtcp_guard.specs.Claims.{after_lapse, claim_by, held, owner_in, put};
+ghost use Rattle.rtcp_guard.specs.Tables.{IsGap, IsRankOf, Locates};
+
+use crate::cells::{Cell, count, hinted, note, search};
+use std::alloc::{AllocError, Global};
+use std::marker::Model;
+
+/// Claims by rising SSRC in one block of memory, which is taken when the table is made: 24 octets each. It finds a
+/// source by a hint or binary search.
+#[derive(Drop)]
+pub(crate) struct ClaimTable {
+    cells: Vec<Cell>,
+}
+
+impl Model for ClaimTable {
+    ghost use Rattle.std.specs.Prelude.{vec_capacity};
+    ghost use Rattle.rtcp_guard.specs.Tables.{IsTable, TableValue, claims_in};
+
+    ghost Value = { TableValue };
+
+    ghost view = { λ t. record { items = claims_in t.cells.items; room = vec_capacity t.cells } };
+
+    ghost invariant = { λ t. IsTable (claims_in t.cells.items) (vec_capacity t.cells) };
+}
+
+impl ClaimTable {
+    /// A table without claims. It takes the memory for all of them here, and none later.
+    ///
+    /// # Errors
+    ///
+    /// There is no memory.
+    pub(crate) fn with_room(alloc: Global, room: usize) -> Result<ClaimTable, AllocError>
+        ensures { IfOk result (λ table. table ≡ record { items = []; room = room }) }
+    {
+        let cells = Vec::with_capacity(alloc, room)?;
+        Ok(ClaimTable { cells })
+    }
+
+    /// How many claims there are.
+    #[inline(always)]
+    pub(crate) fn len(&self) -> usize
+        ensures { result ≡ length self.now.items }
+    {
+        self.cells.len()
+    }
+
+    /// Which origin a source belongs to.
+    pub(crate) fn owner(&self, ssrc: u32) -> Option<u64>
+        ensures { result ≡ owner_in ssrc self.now.items }
+    {
+        match search(&self.cells, ssrc) {
+            Ok(at) => Some(self.cells[at].origin),
+            Err(_) => None,
+        }
+    }
+
+    /// The same, by the hint at the source first, which is made to say where it stands.
+    #[inline(always)]
+    pub(crate) fn owner_hinted(&mut self, ssrc: u32) -> Option<u64>
+        ensures owner { result ≡ owner_in ssrc self.old.items }
+        ensures kept { self.new ≡ self.old }
+    {
+        match self.find(ssrc) {
+            Ok(at) => Some(self.cells[at].origin),
+            Err(_) => None,
+        }
+    }
+
+    /// How many sources belong to an origin.
+    pub(crate) fn count(&self, origin: u64) -> usize
+        ensures { result ≡ held origin self.now.items }
+    {
+        count(&self.cells, origin)
+    }
+
+    /// A source is claimed at a moment, whether it was claimed before or not.
+    #[inline(always)]
+    pub(crate) fn put(&mut self, ssrc: u32, origin: u64, t: u64)
+        requires { length (put (claim_by origin t ssrc) self.old.items) ≤ self.old.room }
+        ensures items { self.new.items ≡ put (claim_by origin t ssrc) self.old.items }
+        ensures room { self.new.room ≡ self.old.room }
+    {
+        match self.find(ssrc) {
+            Ok(at) => self.write(at, ssrc, origin, t),
+            Err(gap) => self.insert(gap, ssrc, origin, t),
+        }
+    }
+
+    /// Lets the claims lapse whose sources were last named before a moment.
+    pub(crate) fn lapse(&mut self, before: u64)
+        ensures items { self.new.items ≡ after_lapse before self.old.items }
+        ensures room { self.new.room ≡ self.old.room }
+    {
+        self.cells.retain(|cell| before <= cell.last);
+    }
+
+    /// The rank of a source, or else the gap where its claim would stand.
+    #[inline(always)]
+    fn find(&mut self, ssrc: u32) -> Result<usize, usize>
+        ensures located { Locates ssrc self.old.items result }
+        ensures kept { self.new ≡ self.old }
+    {
+        if let Some(at) = self.hinted(ssrc) {
+            return Ok(at);
+        }
+        self.find_noting(ssrc)
+    }
+
+    /// The rank of a source, if the hint at it says so.
+    #[inline(always)]
+    fn hinted(&self, ssrc: u32) -> Option<usize>
+        ensures { IfSome result (IsRankOf ssrc self.now.items) }
+    {
+        let rank = hinted(&self.cells, ssrc);
+        if rank < self.cells.len() && self.cells[rank].ssrc == ssrc {
+            return Some(rank);
+        }
+        None
+    }
+
+    /// The same without a look at the hint.
+    #[inline(never)]
+    fn find_noting(&mut self, ssrc: u32) -> Result<usize, usize>
+        ensures located { Locates ssrc self.old.items result }
+        ensures kept { self.new ≡ self.old }
+    {
+        let found = search(&self.cells, ssrc);
+        if let Ok(at) = found {
+            note(&mut self.cells, ssrc, at);
+        }
+        found
+    }
+
+    /// Writes the claim of a rank.
+    #[inline(always)]
+    fn write(&mut self, at: usize, ssrc: u32, origin: u64, t: u64)
+        requires { IsRankOf ssrc self.old.items at }
+        ensures items { self.new.items ≡ put (claim_by origin t ssrc) self.old.items }
+        ensures room { self.new.room ≡ self.old.room }
+    {
+        let cell = &mut self.cells[at];
+        cell.origin = origin;
+        cell.last = t;
+    }
+
+    /// Puts a claim into the gap for it.
+    #[inline(never)]
+    fn insert(&mut self, gap: usize, ssrc: u32, origin: u64, t: u64)
+        requires gap { IsGap ssrc self.old.items gap }
+        requires room { length self.old.items < self.old.room }
+        ensures items { self.new.items ≡ put (claim_by origin t ssrc) self.old.items }
+        ensures room { self.new.room ≡ self.old.room }
+    {
+        let cell = Cell::of(ssrc, origin, t);
+        let _inserted = self.cells.insert(gap, cell);
+        note(&mut self.cells, ssrc, gap);
+    }
+}

@@ -1,0 +1,58 @@
+//! What becomes of a datagram, and counts of what was held back.
+
+ghost use Rattle.std.specs.Prelude.{◌≡◌};
+ghost use Rattle.rtcp_guard.specs.Guarding.{nothing_held_back, one_more};
+
+/// What becomes of a datagram.
+#[derive(Clone, Copy, Debug, PartialEq, Eq)]
+pub enum Verdict {
+    /// It is passed on to the participant.
+    Pass,
+    /// It is held back: it names a source that belongs to another origin (RFC 3550, 8.2).
+    Stranger,
+    /// It is held back: its origin would have more sources than it may, or all origins together would.
+    Crowd,
+}
+
+/// What was held back, by reason. A count that is full stays as it is.
+#[derive(Clone, Copy, Debug, PartialEq, Eq)]
+pub struct HeldBack {
+    /// How many datagrams named a source of another origin.
+    pub strangers: u64,
+    /// How many datagrams named too many sources.
+    pub crowds: u64,
+    /// Where the last datagram came from that named a source of another origin.
+    pub last_stranger: Option<u64>,
+    /// Where the last datagram came from that named too many sources.
+    pub last_crowd: Option<u64>,
+}
+
+impl HeldBack {
+    /// Nothing was held back.
+    pub(crate) fn none() -> HeldBack
+        ensures { result ≡ nothing_held_back }
+    {
+        HeldBack {
+            strangers: 0,
+            crowds: 0,
+            last_stranger: None,
+            last_crowd: None,
+        }
+    }
+
+    /// One more datagram of a stranger was held back.
+    pub(crate) fn count_stranger(&mut self, origin: u64)
+        ensures { self.new ≡ record self.old { strangers = one_more self.old.strangers; last_stranger = Some origin } }
+    {
+        self.strangers = self.strangers.saturating_add(1);
+        self.last_stranger = Some(origin);
+    }
+
+    /// One more datagram with too many sources was held back.
+    pub(crate) fn count_crowd(&mut self, origin: u64)
+        ensures { self.new ≡ record self.old { crowds = one_more self.old.crowds; last_crowd = Some origin } }
+    {
+        self.crowds = self.crowds.saturating_add(1);
+        self.last_crowd = Some(origin);
+    }
+}
