@@ -4,7 +4,7 @@ use Rattle.std.proofs.lemmas.Bool.{eqb-true, or_parts}
 use Rattle.std.proofs.lemmas.Bool.Decides.{nat_tests}
 use Rattle.std.proofs.lemmas.List.Folds.{list_any-append}
 use Rattle.rtcp_guard.specs.Claims.{Claim, claim_by, owner_in, put, with_names, after_lapse, is_by, held, is_of_another, is_strange, before_stranger, is_too_many}
-use Rattle.rtcp_guard.specs.Guarding.{GuardValue, judged, is_trusted, limit_of, room_of, with_trusted}
+use Rattle.rtcp_guard.specs.Guarding.{GuardValue, judged, is_trusted, limit_of, room_of, unless_more}
 use Rattle.rtcp_guard.specs.declared.settings.Settings.{Settings}
 use Rattle.rtcp_guard.specs.declared.verdict.Verdict.{Verdict}
 use Rattle.rtcp_guard.specs.declared.verdict.Verdict.TheVariants.{Pass, Stranger, Crowd}
@@ -41,27 +41,24 @@ none_strange origin (ssrc ∷ rest) claims none =
 pub record Passes (limit room origin moment : ℕ) (names : List ℕ) (claims : List Claim) : Type 0 where
   pub own : is_strange origin names claims ≡ false
   pub enough : is_too_many limit room origin (with_names origin moment names claims) ≡ false
-  pub short : length names ≤ 512
 
 pub when_passed : (limit room origin moment : ℕ) (names : List ℕ) (claims : List Claim) →
     judged limit room origin moment names claims ≡ Pass → Passes limit room origin moment names claims
 when_passed limit room origin moment names claims pass =
     let before : List ℕ = before_stranger origin names claims in
     let many : Bool = is_too_many limit room origin (with_names origin moment before claims) in
-    let parts = cases (nat_lt 512 (length names)) many (is_strange origin names claims) pass in
+    let parts = cases many (is_strange origin names claims) pass in
     record {
-      own = parts.2;
+      own = parts.1;
       enough = ap (λ ns. is_too_many limit room origin (with_names origin moment ns claims))
-          (sym (none_strange origin names claims parts.2)) ∙ parts.1;
-      short = let fits = parts.0 in grind (arith, nat_tests, fits);
+          (sym (none_strange origin names claims parts.1)) ∙ parts.0;
     }
   where
-    cases : (long many strange : Bool) → cond (long || many) Crowd (cond strange Stranger Pass) ≡ Pass →
-        (long ≡ false) × (many ≡ false) × (strange ≡ false)
-    cases true many strange e = absurd cc
-    cases false true strange e = absurd cc
-    cases false false true e = absurd cc
-    cases false false false e = (refl, refl, refl)
+    cases : (many strange : Bool) → cond many Crowd (cond strange Stranger Pass) ≡ Pass →
+        (many ≡ false) × (strange ≡ false)
+    cases true strange e = absurd cc
+    cases false true e = absurd cc
+    cases false false e = (refl, refl)
 
 -- ---- Bounds
 
@@ -140,14 +137,11 @@ bounded_trust settings trusted other claims bounded = record {
   within = bounded.within;
 }
 
--- what passes by the limits of a guard keeps its bounds
-pub bounded_then : (guard : GuardValue) (limit room origin moment : ℕ) (names : List ℕ) →
-    IsBounded guard.settings guard.trusted guard.claims → limit ≡ limit_of origin guard.settings guard.trusted →
-    room ≡ room_of guard.settings → Pass ≡ judged limit room origin moment names guard.claims →
-    IsBounded guard.settings guard.trusted (with_names origin moment names guard.claims)
-bounded_then guard limit room origin moment names bounded its_limit its_room pass =
-    bounded_passing guard.settings guard.trusted origin moment names guard.claims bounded
-    (sym (λ i. judged (its_limit i) (its_room i) origin moment names guard.claims) ∙ sym pass)
+-- What passes with what is left passed without.
+pub pass_before : (more : Bool) (verdict : Verdict) → Pass ≡ unless_more more verdict → verdict ≡ Pass
+pass_before more Pass e = refl
+pass_before more Stranger e = absurd cc
+pass_before more Crowd e = absurd cc
 
 not_true : (b : Bool) → true ≡ not b → b ≡ false
 not_true true e = absurd cc

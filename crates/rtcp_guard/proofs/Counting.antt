@@ -2,7 +2,7 @@
 use Rattle.std.proofs.Common.{◌≡◌, ◌<◌, ◌≤◌, ◌+◌, ◌-◌, ◌==◌, ◌||◌, ◌++◌, ℕ, eqb, min, nat_lt, not, Bool, true, false, cond, List, [], ◌∷◌, length, take, drop, Option, Some, None, option_map, arith, refl, sym, ap, subst, ◌∙◌}
 use Rattle.std.proofs.lemmas.Bool.{eqb-true, or_parts}
 use Rattle.std.proofs.lemmas.Bool.Decides.{nat_tests}
-use Rattle.std.proofs.lemmas.List.{length_push, append-nil, append_assoc}
+use Rattle.std.proofs.lemmas.List.{append-nil, append_assoc}
 use Rattle.std.specs.Option.{option_eq}
 use Rattle.std.proofs.lemmas.List.Folds.{list_any-append}
 use Rattle.rtcp_guard.specs.Claims.{Claim, claim_by, found, owner_in, put, with_names, is_by, held, is_named, is_of_another, is_strange, before_stranger, is_too_many}
@@ -13,13 +13,11 @@ use Rattle.rtcp_guard.specs.Tables.{AreRising}
 use Rattle.rtcp_guard.proofs.Putting.{tally, tally_put, tally_all, is_any, one_if, weight}
 use Rattle.rtcp_guard.proofs.Claiming.{rising_names, names_append, found_names, held_grows, length_grows}
 
--- The names that were seen are the origin's own, or claimed by nobody; the latter are these fresh ones, each once.
-pub record IsCounted (origin moment : ℕ) (claims : List Claim) (seen fresh : List ℕ) : Type 0 where
+-- The names that were seen are the origin's own, or claimed by nobody; of the latter there are so many.
+pub record IsCounted (origin moment : ℕ) (claims : List Claim) (seen : List ℕ) (fresh : ℕ) : Type 0 where
   pub its : (ssrc : ℕ) → is_named ssrc seen ≡ true → is_of_another origin (owner_in ssrc claims) ≡ false
-  pub new : (ssrc : ℕ) → is_named ssrc seen ≡ true → owner_in ssrc claims ≡ None → is_named ssrc fresh ≡ true
-  pub seen_too : (ssrc : ℕ) → is_named ssrc fresh ≡ true → is_named ssrc seen ≡ true
-  pub has : held origin (with_names origin moment seen claims) ≡ held origin claims + length fresh
-  pub long : length (with_names origin moment seen claims) ≡ length claims + length fresh
+  pub has : held origin (with_names origin moment seen claims) ≡ held origin claims + fresh
+  pub long : length (with_names origin moment seen claims) ≡ length claims + fresh
 
 pub is_itself : (n : ℕ) → n == n ≡ true
 is_itself n = grind (arith, nat_tests)
@@ -52,18 +50,16 @@ pub named_last : (n : ℕ) (names : List ℕ) → is_named n (names ++ n ∷ [])
 named_last n names =
     named_more n n names ∙ ap (λ b. is_named n names || (b || false)) (is_itself n) ∙ or_true (is_named n names)
 
-pub counted_none : (origin moment : ℕ) (claims : List Claim) → IsCounted origin moment claims [] []
+pub counted_none : (origin moment : ℕ) (claims : List Claim) → IsCounted origin moment claims [] 0
 counted_none origin moment claims = record {
   its = λ ssrc named. absurd cc;
-  new = λ ssrc named none. absurd cc;
-  seen_too = λ ssrc named. absurd cc;
   has = omega arith;
   long = omega arith;
 }
 
 -- ---- One name more
 
-module _ (origin moment : ℕ) (claims : List Claim) (seen fresh : List ℕ) (n : ℕ) (rising : AreRising claims)
+module _ (origin moment : ℕ) (claims : List Claim) (seen : List ℕ) (fresh n : ℕ) (rising : AreRising claims)
     (so : IsCounted origin moment claims seen fresh) where
   abbrev then : List Claim
   then = with_names origin moment seen claims
@@ -79,12 +75,12 @@ module _ (origin moment : ℕ) (claims : List Claim) (seen fresh : List ℕ) (n 
 
   -- where the source is the origin's already, there are as many as before
   same_held : weight (is_by origin) (found n then) ≡ 1 →
-      held origin (with_names origin moment (seen ++ n ∷ []) claims) ≡ held origin claims + length fresh
+      held origin (with_names origin moment (seen ++ n ∷ []) claims) ≡ held origin claims + fresh
   same_held there = let more = more_then (is_by origin) in let had = so.has in
       omega (arith, more, there, its_own, had)
 
   same_long : weight is_any (found n then) ≡ 1 →
-      length (with_names origin moment (seen ++ n ∷ []) claims) ≡ length claims + length fresh
+      length (with_names origin moment (seen ++ n ∷ []) claims) ≡ length claims + fresh
   same_long there =
       let more = more_then is_any in
       let had = so.long in
@@ -114,67 +110,48 @@ module _ (origin moment : ℕ) (claims : List Claim) (seen fresh : List ℕ) (n 
   counted_own own = record {
     its = of_more (λ ssrc. is_of_another origin (owner_in ssrc claims) ≡ false) n seen so.its
         (ap (is_of_another origin) own ∙ ap not (is_itself origin));
-    new = of_more (λ ssrc. owner_in ssrc claims ≡ None → is_named ssrc fresh ≡ true) n seen so.new
-        (λ none. absurd (not_both (sym own ∙ none)));
-    seen_too = λ ssrc named. named_still ssrc n seen (so.seen_too ssrc named);
     has = same_held (is_origins (found n then) (its_owner own));
     long = same_long (is_there (found n then) (its_owner own));
   }
-    where
-      not_both : Some origin ≡ None → ⊥
-      not_both e = cc
-
-  pub counted_again : owner_in n claims ≡ None → is_named n fresh ≡ true →
+  pub counted_again : owner_in n claims ≡ None → is_named n seen ≡ true →
       IsCounted origin moment claims (seen ++ n ∷ []) fresh
   counted_again none named = record {
     its = of_more (λ ssrc. is_of_another origin (owner_in ssrc claims) ≡ false) n seen so.its
         (ap (is_of_another origin) none);
-    new = of_more (λ ssrc. owner_in ssrc claims ≡ None → is_named ssrc fresh ≡ true) n seen so.new (λ e. named);
-    seen_too = λ ssrc named. named_still ssrc n seen (so.seen_too ssrc named);
     has = same_held (is_origins (found n then) owner);
     long = same_long (is_there (found n then) owner);
   }
     where
       owner : owner_in n then ≡ Some origin
       owner = ap (option_map (λ (claim : Claim). claim.origin)) (found_names origin moment n seen claims
-          ∙ ap (λ b. cond b (Some (claim_by origin moment n)) (found n claims)) (so.seen_too n named))
+          ∙ ap (λ b. cond b (Some (claim_by origin moment n)) (found n claims)) named)
 
   no_owner : (o : Option Claim) → option_map (λ (claim : Claim). claim.origin) o ≡ None → o ≡ None
   no_owner None e = refl
   no_owner (Some claim) e = absurd cc
 
-  pub unseen : owner_in n claims ≡ None → is_named n fresh ≡ false → is_named n seen ≡ false
-  unseen none apart = elim (is_named n seen) as (λ b. is_named n seen ≡ b → b ≡ false) [
-    | true ↦ λ e. sym (so.new n e none) ∙ apart
-    | false ↦ λ e. refl
-  ] refl
-
-  missing_then : owner_in n claims ≡ None → is_named n fresh ≡ false → found n then ≡ None
+  missing_then : owner_in n claims ≡ None → is_named n seen ≡ false → found n then ≡ None
   missing_then none apart = found_names origin moment n seen claims
-      ∙ ap (λ b. cond b (Some (claim_by origin moment n)) (found n claims)) (unseen none apart)
+      ∙ ap (λ b. cond b (Some (claim_by origin moment n)) (found n claims)) apart
       ∙ no_owner (found n claims) none
 
-  pub counted_new : owner_in n claims ≡ None → is_named n fresh ≡ false →
-      IsCounted origin moment claims (seen ++ n ∷ []) (fresh ++ n ∷ [])
+  pub counted_new : owner_in n claims ≡ None → is_named n seen ≡ false →
+      IsCounted origin moment claims (seen ++ n ∷ []) (fresh + 1)
   counted_new none apart = record {
     its = of_more (λ ssrc. is_of_another origin (owner_in ssrc claims) ≡ false) n seen so.its
         (ap (is_of_another origin) none);
-    new = of_more (λ ssrc. owner_in ssrc claims ≡ None → is_named ssrc (fresh ++ n ∷ []) ≡ true) n seen
-        (λ ssrc named e. named_still ssrc n fresh (so.new ssrc named e)) (λ e. named_last n fresh);
-    seen_too = of_more (λ ssrc. is_named ssrc (seen ++ n ∷ []) ≡ true) n fresh
-        (λ ssrc named. named_still ssrc n seen (so.seen_too ssrc named)) (named_last n seen);
     has =
         let more = more_then (is_by origin) in
         let had = so.has in
         let none_there = ap (weight (is_by origin)) (missing_then none apart) in
-        omega (arith, more, none_there, its_own, had, length_push fresh n);
+        omega (arith, more, none_there, its_own, had);
     long =
         let more = more_then is_any in
         let had = so.long in
         let none_there = ap (weight is_any) (missing_then none apart) in
         let all = tally_all (with_names origin moment (seen ++ n ∷ []) claims) in
         let first = tally_all then in
-        omega (arith, more, none_there, had, all, first, length_push fresh n);
+        omega (arith, more, none_there, had, all, first);
   }
 
 -- ---- Verdicts
@@ -199,9 +176,9 @@ strange_more origin claims (n ∷ seen) rest its =
     ∙ strange_more origin claims seen rest
     (λ ssrc named. its ssrc (ap (λ b. n == ssrc || b) named ∙ or_true (n == ssrc)))
 
-module _ (limit room origin moment : ℕ) (claims : List Claim) (seen fresh rest : List ℕ)
+module _ (limit room origin moment : ℕ) (claims : List Claim) (seen : List ℕ) (fresh : ℕ) (rest : List ℕ)
     (so : IsCounted origin moment claims seen fresh) where
-  few_enough : held origin claims + length fresh ≤ limit → length claims + length fresh ≤ room →
+  few_enough : held origin claims + fresh ≤ limit → length claims + fresh ≤ room →
       is_too_many limit room origin (with_names origin moment seen claims) ≡ false
   few_enough few within =
       let has = so.has in
@@ -210,12 +187,11 @@ module _ (limit room origin moment : ℕ) (claims : List Claim) (seen fresh rest
       let other : nat_lt room (length (with_names origin moment seen claims)) ≡ false = grind (arith, nat_tests, long, within) in
       (λ i. one i || other i)
 
-  pub judged_strange : (n : ℕ) → length (seen ++ n ∷ rest) ≤ 512 → held origin claims + length fresh ≤ limit →
-      length claims + length fresh ≤ room → is_of_another origin (owner_in n claims) ≡ true →
+  pub judged_strange : (n : ℕ) → held origin claims + fresh ≤ limit →
+      length claims + fresh ≤ room → is_of_another origin (owner_in n claims) ≡ true →
       Stranger ≡ judged limit room origin moment (seen ++ n ∷ rest) claims
-  judged_strange n short few within strange =
+  judged_strange n few within strange =
       let names : List ℕ = seen ++ n ∷ rest in
-      let fits : nat_lt 512 (length names) ≡ false = grind (arith, nat_tests, short) in
       let stops : before_stranger origin names claims ≡ seen ++ [] = before_more origin claims seen (n ∷ rest) so.its
       ∙ ap (λ b. seen ++ cond b [] (n ∷ before_stranger origin rest claims)) strange in
       let enough : is_too_many limit room origin (with_names origin moment (before_stranger origin names claims) claims) ≡ false
@@ -223,12 +199,12 @@ module _ (limit room origin moment : ℕ) (claims : List Claim) (seen fresh rest
       ∙ ap (is_too_many limit room origin) (names_append origin moment seen [] claims) ∙ few_enough few within in
       let is : is_strange origin names claims ≡ true = strange_more origin claims seen (n ∷ rest) so.its
       ∙ ap (λ b. b || is_strange origin rest claims) strange in
-      sym (λ i. cond (fits i || enough i) Crowd (cond (is i) Stranger Pass))
+      sym (λ i. cond (enough i) Crowd (cond (is i) Stranger Pass))
 
-  pub judged_crowd : AreRising claims → length (seen ++ rest) ≤ 512 →
-      ((held origin claims + length fresh ≤ limit → room < length claims + length fresh)) →
+  pub judged_crowd : AreRising claims →
+      ((held origin claims + fresh ≤ limit → room < length claims + fresh)) →
       Crowd ≡ judged limit room origin moment (seen ++ rest) claims
-  judged_crowd rising short many =
+  judged_crowd rising many =
       let names : List ℕ = seen ++ rest in
       let then : List Claim = with_names origin moment seen claims in
       let more : List ℕ = before_stranger origin rest claims in
@@ -243,8 +219,7 @@ module _ (limit room origin moment : ℕ) (claims : List Claim) (seen fresh rest
       let is : is_too_many limit room origin (with_names origin moment (before_stranger origin names claims) claims) ≡ true
       = ap (λ ns. is_too_many limit room origin (with_names origin moment ns claims)) (before_more origin claims seen rest so.its)
       ∙ ap (is_too_many limit room origin) (names_append origin moment seen more claims) ∙ too in
-      sym (ap (λ b. cond (nat_lt 512 (length names) || b) Crowd (cond (is_strange origin names claims) Stranger Pass)) is
-      ∙ ap (λ b. cond b Crowd (cond (is_strange origin names claims) Stranger Pass)) (or_true (nat_lt 512 (length names))))
+      sym (ap (λ b. cond b Crowd (cond (is_strange origin names claims) Stranger Pass)) is)
     where
       many_one : (h l : ℕ) → (h ≤ limit → room < l) → nat_lt limit h || nat_lt room l ≡ true
       many_one h l over = elim (nat_lt limit h) as (λ b. nat_lt limit h ≡ b → b || nat_lt room l ≡ true) [
@@ -254,11 +229,10 @@ module _ (limit room origin moment : ℕ) (claims : List Claim) (seen fresh rest
       ] refl
 
 -- All names were seen.
-pub judged_pass : (limit room origin moment : ℕ) (claims : List Claim) (names fresh : List ℕ) →
-    IsCounted origin moment claims names fresh → length names ≤ 512 → held origin claims + length fresh ≤ limit →
-    length claims + length fresh ≤ room → Pass ≡ judged limit room origin moment names claims
-judged_pass limit room origin moment claims names fresh so short few within =
-    let fits : nat_lt 512 (length names) ≡ false = grind (arith, nat_tests, short) in
+pub judged_pass : (limit room origin moment : ℕ) (claims : List Claim) (names : List ℕ) (fresh : ℕ) →
+    IsCounted origin moment claims names fresh → held origin claims + fresh ≤ limit →
+    length claims + fresh ≤ room → Pass ≡ judged limit room origin moment names claims
+judged_pass limit room origin moment claims names fresh so few within =
     let nil = append-nil names in
     let all : before_stranger origin names claims ≡ names = ap (λ ns. before_stranger origin ns claims) (sym nil)
     ∙ before_more origin claims names [] so.its ∙ nil in
@@ -267,7 +241,7 @@ judged_pass limit room origin moment claims names fresh so short few within =
     let enough : is_too_many limit room origin (with_names origin moment (before_stranger origin names claims) claims) ≡ false
     = ap (λ ns. is_too_many limit room origin (with_names origin moment ns claims)) all
     ∙ few_enough limit room origin moment claims names fresh [] so few within in
-    sym (λ i. cond (fits i || enough i) Crowd (cond (none i) Stranger Pass))
+    sym (λ i. cond (enough i) Crowd (cond (none i) Stranger Pass))
 
 -- ---- What the calls say
 
@@ -287,7 +261,7 @@ spare_is fresh least known result says so =
       | false ↦ λ e is. is ∙ so (grind (arith, nat_tests, e))
     ] refl says
 
-pub counted_as : (origin moment : ℕ) (claims : List Claim) (seen next fresh more : List ℕ) → next ≡ seen →
+pub counted_as : (origin moment : ℕ) (claims : List Claim) (seen next : List ℕ) (fresh more : ℕ) → next ≡ seen →
     more ≡ fresh → IsCounted origin moment claims seen fresh → IsCounted origin moment claims next more
 counted_as origin moment claims seen next fresh more e f so =
     subst (λ names. IsCounted origin moment claims names more) (sym e)
@@ -302,12 +276,12 @@ other_owner owner origin apart = elim (owner == origin) as (λ b. owner == origi
 -- names that are all the origin's
 pub counted_all : (origin moment : ℕ) (claims : List Claim) (seen names : List ℕ) → AreRising claims →
     ((ssrc : ℕ) → is_named ssrc names ≡ true → owner_in ssrc claims ≡ Some origin) →
-    IsCounted origin moment claims seen [] → IsCounted origin moment claims (seen ++ names) []
+    IsCounted origin moment claims seen 0 → IsCounted origin moment claims (seen ++ names) 0
 counted_all origin moment claims seen [] rising own so =
-    counted_as origin moment claims seen (seen ++ []) [] [] (append-nil seen) refl so
+    counted_as origin moment claims seen (seen ++ []) 0 0 (append-nil seen) refl so
 counted_all origin moment claims seen (n ∷ names) rising own so =
-    counted_as origin moment claims (seen ++ n ∷ [] ++ names) (seen ++ n ∷ names) [] []
+    counted_as origin moment claims (seen ++ n ∷ [] ++ names) (seen ++ n ∷ names) 0 0
     (sym (append_assoc seen (n ∷ []) names)) refl
     (counted_all origin moment claims (seen ++ n ∷ []) names rising
     (λ ssrc named. own ssrc (ap (λ b. n == ssrc || b) named ∙ or_true (n == ssrc)))
-    (counted_own origin moment claims seen [] n rising so (own n (ap (λ b. b || is_named n names) (is_itself n)))))
+    (counted_own origin moment claims seen 0 n rising so (own n (ap (λ b. b || is_named n names) (is_itself n)))))

@@ -5,3 +5,4 @@ pub mod Rows
 pub mod Counting
 pub mod Bounding
 pub mod Expecting
+pub mod Deciding

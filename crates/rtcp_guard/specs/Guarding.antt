@@ -1,5 +1,5 @@
 -- What becomes of each datagram, and what a guard keeps of it (RFC 3550, 8.2).
-use Rattle.std.specs.Prelude.{ℕ, ◌==◌, ◌||◌, ◌++◌, ◌+◌, ◌-◌, ◌*◌, ◌^◌, not, min, max, nat_lt, nat_le, Bool, List, [], ◌∷◌, length, if◌then◌else◌, Option, Some, None}
+use Rattle.std.specs.Prelude.{ℕ, ◌==◌, ◌||◌, ◌++◌, ◌+◌, ◌-◌, ◌*◌, ◌^◌, not, min, max, nat_lt, nat_le, Bool, List, [], ◌∷◌, length, take, if◌then◌else◌, Option, Some, None}
 use Rattle.std.specs.List.{list_any}
 use Rattle.rtcp_guard.specs.Claims.{Claim, claim_by, put, with_names, after_lapse, is_strange, before_stranger, is_too_many}
 use Rattle.rtcp_guard.specs.declared.settings.Settings.{Settings}
@@ -45,17 +45,28 @@ has_too_many origin claims guard =
 -- ---- Verdicts
 
 -- What becomes of a datagram with these names. It is held back where one of them belongs to another origin, and where
--- its own origin would have too many sources by them, or it has more than 512. The names before the first that belongs
--- to another origin say which of both is told.
+-- its own origin would have too many sources by them. The names before the first that belongs to another origin say
+-- which of both is told.
 abbrev pub judged : (limit room origin moment : ℕ) → (names : List ℕ) → List Claim → Verdict
 judged limit room origin moment names claims =
-    if nat_lt 512 (length names)
-    || is_too_many limit room origin (with_names origin moment (before_stranger origin names claims) claims) then Crowd
+    if is_too_many limit room origin (with_names origin moment (before_stranger origin names claims) claims) then Crowd
     else (if is_strange origin names claims then Stranger else Pass)
 
+-- what passes is a crowd where there are more names than are looked at
+abbrev pub unless_more : (more : Bool) → Verdict → Verdict
+unless_more more Pass = if more then Crowd else Pass
+unless_more more Stranger = Stranger
+unless_more more Crowd = Crowd
+
+-- the verdict by these names alone
+abbrev pub verdict_by : (origin moment : ℕ) → (names : List ℕ) → GuardValue → Verdict
+verdict_by origin moment names guard =
+    judged (limit_of origin guard.settings guard.trusted) (room_of guard.settings) origin moment names guard.claims
+
+-- The verdict on a datagram, of which the first 512 names are looked at.
 abbrev pub verdict_on : (origin moment : ℕ) → (names : List ℕ) → GuardValue → Verdict
 verdict_on origin moment names guard =
-    judged (limit_of origin guard.settings guard.trusted) (room_of guard.settings) origin moment names guard.claims
+    unless_more (nat_lt 512 (length names)) (verdict_by origin moment (take 512 names) guard)
 
 -- ---- Steps
 
@@ -73,17 +84,23 @@ pub data GuardStep : Type 0 where
 abbrev pub one_more : ℕ → ℕ
 one_more count = min (count + 1) (2 ^ 64 - 1)
 
+abbrev pub counted : (origin : ℕ) → Verdict → HeldBack → HeldBack
+counted origin Pass held_back = held_back
+counted origin Stranger held_back =
+    record held_back { strangers = one_more held_back.strangers; last_stranger = Some origin }
+counted origin Crowd held_back = record held_back { crowds = one_more held_back.crowds; last_crowd = Some origin }
+
+-- Only what passes claims.
+abbrev pub after_names : (origin moment : ℕ) → (names : List ℕ) → Verdict → List Claim → List Claim
+after_names origin moment names Pass claims = with_names origin moment names claims
+after_names origin moment names Stranger claims = claims
+after_names origin moment names Crowd claims = claims
+
 abbrev pub after_verdict : (origin moment : ℕ) → (names : List ℕ) → Verdict → GuardValue → GuardValue
-after_verdict origin moment names Pass guard =
-    record guard { claims = with_names origin moment names guard.claims }
-after_verdict origin moment names Stranger guard =
+after_verdict origin moment names verdict guard =
     record guard {
-      held_back =
-          record guard.held_back { strangers = one_more guard.held_back.strangers; last_stranger = Some origin };
-    }
-after_verdict origin moment names Crowd guard =
-    record guard {
-      held_back = record guard.held_back { crowds = one_more guard.held_back.crowds; last_crowd = Some origin };
+      claims = after_names origin moment names verdict guard.claims;
+      held_back = counted origin verdict guard.held_back;
     }
 
 -- The claims lapse whose sources were silent for the hold, and for as long as the participant's table keeps them.

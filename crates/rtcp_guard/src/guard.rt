@@ -2,12 +2,12 @@
 
 ghost use Rattle.std.specs.Prelude.{◌≡◌, ◌≤◌, ◌*◌, ℕ, IfOk, length, not};
 ghost use Rattle.rtcp_guard.specs.Claims.{claim_by, held, is_too_many, put, with_names};
-ghost use Rattle.rtcp_guard.specs.Guarding.{after, check_made, datagram_came, is_trusted, limit_of, may_have, may_trust, new_guard, origin_trusted, source_expected, verdict_on};
+ghost use Rattle.rtcp_guard.specs.Guarding.{after, after_verdict, check_made, counted, datagram_came, limit_of, may_have, may_trust, new_guard, origin_trusted, source_expected, unless_more, verdict_by, verdict_on};
 ghost use Rattle.rtcp_guard.specs.Tables.{AreRising};
 ghost use Rattle.rtcp_guard.specs.Naming.{names_of_compound, names_of_packet};
 
 use crate::judging::judge;
-use crate::naming::{Names, PacketNames, of_compound, of_packet};
+use crate::naming::{FewNames, MAX_NAMES, Names, of_compound, of_packet};
 use crate::settings::Settings;
 use crate::table::ClaimTable;
 use crate::verdict::{HeldBack, Verdict};
@@ -66,34 +66,41 @@ impl Guard {
     }
 
     /// A datagram of an origin comes that names these sources. Returns what becomes of it. Where it is passed on, each
-    /// of the sources belongs to the origin, and was last named now; else nothing changes but what was held back.
+    /// of the sources belongs to the origin, and was last named now; else nothing changes but what was held back. Of
+    /// more names than [`MAX_NAMES`] only so many are looked at, and it is not passed on.
     #[inline]
     pub fn arrive(&mut self, names: &[u32], origin: u64, t: u64) -> Verdict
         ensures verdict { result ≡ verdict_on origin t names.now self.old }
         ensures content { self.new ≡ after (datagram_came origin t names.now) self.old }
     {
-        let (limit, room) = (self.limit_of(origin), self.room());
-        let verdict = judge(&mut self.claims, limit, room, origin, names);
-        match verdict {
-            Verdict::Pass => claim_all(&mut self.claims, origin, t, names),
-            Verdict::Stranger => self.held_back.count_stranger(origin),
-            Verdict::Crowd => self.held_back.count_crowd(origin),
+        if names.len() > MAX_NAMES {
+            return self.decide(&names[..MAX_NAMES], true, origin, t);
         }
-        verdict
+        self.decide(names, false, origin, t)
     }
 
     /// A compound of an origin comes, to the participant `own`. It names the sources that its facts speak of
     /// (RFC 3550, 6.1), but the participant's own SSRC, which the guard does not look at. Else as [`Guard::arrive`].
-    pub fn arrive_rtcp(&mut self, compound: &Compound<'_>, origin: u64, t: u64, own: u32) -> Verdict
+    // Few names are gathered where a call has room for them at once; more are not before the first ones pass.
+    pub fn arrive_rtcp(
+        &mut self,
+        compound: &Compound<'_>,
+        origin: u64,
+        t: u64,
+        own: u32,
+    ) -> Verdict
         ensures verdict { result ≡ verdict_on origin t (names_of_compound own compound.now) self.old }
         ensures content { self.new ≡ after (datagram_came origin t (names_of_compound own compound.now)) self.old }
     {
-        let mut names = Names::new();
-        if !of_compound(compound, own, &mut names) {
-            self.held_back.count_crowd(origin);
-            return Verdict::Crowd;
+        let mut names = FewNames::new();
+        if of_compound(compound, own, &mut names) {
+            return self.arrive(names.as_slice(), origin, t);
         }
-        self.arrive(names.as_slice(), origin, t)
+        match self.judge(names.as_slice(), origin) {
+            Verdict::Pass => self.arrive_many(compound, origin, t, own),
+            Verdict::Stranger => self.hold_back(Verdict::Stranger, origin),
+            Verdict::Crowd => self.hold_back(Verdict::Crowd, origin),
+        }
     }
 
     /// An RTP packet of an origin comes, to the participant `own`. It names its SSRC and its CSRCs, which are treated
@@ -103,7 +110,7 @@ impl Guard {
         ensures verdict { result ≡ verdict_on origin t (names_of_packet own head.now) self.old }
         ensures content { self.new ≡ after (datagram_came origin t (names_of_packet own head.now)) self.old }
     {
-        let mut names = PacketNames::new();
+        let mut names = FewNames::new();
         of_packet(head, own, &mut names);
         self.arrive(names.as_slice(), origin, t)
     }
@@ -153,6 +160,52 @@ impl Guard {
         ensures { result ≡ self.now.held_back }
     {
         self.held_back
+    }
+
+    /// The same as [`Guard::arrive_rtcp`], with room for many names.
+    #[inline(never)]
+    fn arrive_many(&mut self, compound: &Compound<'_>, origin: u64, t: u64, own: u32) -> Verdict
+        ensures verdict { result ≡ verdict_on origin t (names_of_compound own compound.now) self.old }
+        ensures content { self.new ≡ after (datagram_came origin t (names_of_compound own compound.now)) self.old }
+    {
+        let mut names = Names::new();
+        let is_all = of_compound(compound, own, &mut names);
+        self.decide(names.as_slice(), !is_all, origin, t)
+    }
+
+    /// What becomes of a datagram with these names, and with more where `more` says so. It is noted.
+    #[inline(always)]
+    fn decide(&mut self, names: &[u32], more: bool, origin: u64, t: u64) -> Verdict
+        ensures verdict { result ≡ unless_more more (verdict_by origin t names.now self.old) }
+        ensures content { self.new ≡ after_verdict origin t names.now result self.old }
+    {
+        let verdict = self.judge(names, origin).unless_more(more);
+        match verdict {
+            Verdict::Pass => claim_all(&mut self.claims, origin, t, names),
+            Verdict::Stranger | Verdict::Crowd => self.held_back.count(verdict, origin),
+        }
+        verdict
+    }
+
+    /// Holds a datagram back.
+    #[inline]
+    fn hold_back(&mut self, verdict: Verdict, origin: u64) -> Verdict
+        ensures verdict { result ≡ verdict }
+        ensures content { self.new ≡ record self.old { held_back = counted origin verdict self.old.held_back } }
+    {
+        self.held_back.count(verdict, origin);
+        verdict
+    }
+
+    /// What becomes of a datagram by these names alone.
+    #[inline(always)]
+    fn judge(&mut self, names: &[u32], origin: u64) -> Verdict
+        ensures verdict { (moment : ℕ) → result ≡ verdict_by origin moment names.now self.old }
+        ensures kept { self.new ≡ self.old }
+        ensures rising { AreRising self.old.claims }
+    {
+        let (limit, room) = (self.limit_of(origin), self.room());
+        judge(&mut self.claims, limit, room, origin, names)
     }
 
     /// How many sources an origin may have.

@@ -5,7 +5,6 @@ ghost use Rattle.rtcp_guard.specs.Claims.{held, is_named, owner_in};
 ghost use Rattle.rtcp_guard.specs.Guarding.{judged};
 ghost use Rattle.rtcp_guard.specs.Tables.{AreRising};
 
-use crate::naming::{MAX_NAMES, Names};
 use crate::table::ClaimTable;
 use crate::verdict::Verdict;
 
@@ -25,9 +24,6 @@ pub(crate) fn judge(
     ensures verdict { (moment : ℕ) → result ≡ judged limit room origin moment names.now claims.old.items }
     ensures kept { claims.new ≡ claims.old }
 {
-    if names.len() > MAX_NAMES {
-        return Verdict::Crowd;
-    }
     if own_all(claims, origin, names) {
         return Verdict::Pass;
     }
@@ -56,12 +52,11 @@ fn judge_each(claims: &ClaimTable, limit: usize, room: usize, origin: u64, names
     requires rising { AreRising claims.now.items }
     requires few { held origin claims.now.items ≤ limit }
     requires within { length claims.now.items ≤ room }
-    requires names { length names.now ≤ MAX_NAMES }
     ensures { (moment : ℕ) → result ≡ judged limit room origin moment names.now claims.now.items }
 {
-    let mut fresh = Names::new();
+    let mut fresh = 0;
     let mut spare = 0;
-    'names: for name in names {
+    'names: for (at, name) in names.iter().enumerate() {
         match claims.owner(*name) {
             Some(owner) => {
                 if owner != origin {
@@ -69,12 +64,12 @@ fn judge_each(claims: &ClaimTable, limit: usize, room: usize, origin: u64, names
                 }
             }
             None => {
-                spare = spare_with(claims, limit, room, origin, fresh.len(), spare);
-                if !fresh.contains(name) {
-                    if fresh.len() >= spare {
+                if !names[..at].contains(name) {
+                    spare = spare_with(claims, limit, room, origin, fresh, spare);
+                    if fresh >= spare {
                         return Verdict::Crowd;
                     }
-                    fresh.push(*name);
+                    fresh += 1;
                 }
             }
         }

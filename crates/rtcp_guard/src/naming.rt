@@ -1,22 +1,31 @@
 //! The sources that a datagram names.
 
-ghost use Rattle.std.specs.Prelude.{◌≡◌, ◌++◌, ◌<◌, ◌+◌, [], length, true, false};
-ghost use Rattle.rtcp_guard.specs.Naming.{but, names_of_facts, names_of_compound, names_of_packet};
+ghost use Rattle.std.specs.Prelude.{◌≡◌, ◌<◌, ◌≤◌, [], length, take, true, false};
+ghost use Rattle.rtcp_guard.specs.Naming.{names_of_compound, names_of_packet};
 
 use arrayvec::ArrayVec;
 use rtcp_wire::{Compound, RtpHead, facts};
 
-/// The most names of a datagram that a guard takes in. A datagram of 1,472 octets has fewer.
+/// The most names of a datagram that a guard looks at. A datagram of 1,472 octets has fewer.
 pub const MAX_NAMES: usize = 512;
 
-/// Room for the names of a datagram.
+/// Room for the names of an RTP packet, its SSRC and up to 15 CSRCs, and for those of most compounds.
+pub(crate) type FewNames = ArrayVec<u32, 16>;
+
+/// Room for all names that a guard looks at.
 pub(crate) type Names = ArrayVec<u32, MAX_NAMES>;
 
-/// Gathers the sources that a compound speaks of, but `own`. Whether there was room for all.
-pub(crate) fn of_compound(compound: &Compound<'_>, own: u32, names: &mut Names) -> bool
+/// Gathers the sources that a compound speaks of, but `own`, as far as there is room. Whether there was for all.
+pub(crate) fn of_compound<const N: usize>(
+    compound: &Compound<'_>,
+    own: u32,
+    names: &mut ArrayVec<u32, N>,
+) -> bool
     requires { names.old.items ≡ [] }
     ensures all { result ≡ true → names.new.items ≡ names_of_compound own compound.now }
-    ensures many { result ≡ false → MAX_NAMES < length (names_of_compound own compound.now) }
+    ensures first { result ≡ false → names.new.items ≡ take N (names_of_compound own compound.now) }
+    ensures many { result ≡ false → N < length (names_of_compound own compound.now) }
+    ensures fits { length names.new.items ≤ N }
 {
     'facts: for fact in facts(compound) {
         let name = fact.ssrc();
@@ -30,11 +39,8 @@ pub(crate) fn of_compound(compound: &Compound<'_>, own: u32, names: &mut Names) 
     true
 }
 
-/// Room for the names of an RTP packet: its SSRC, and up to 15 CSRCs.
-pub(crate) type PacketNames = ArrayVec<u32, 16>;
-
 /// Gathers the SSRC and the CSRCs of an RTP packet, but `own`.
-pub(crate) fn of_packet(head: &RtpHead<'_>, own: u32, names: &mut PacketNames)
+pub(crate) fn of_packet(head: &RtpHead<'_>, own: u32, names: &mut FewNames)
     requires { names.old.items ≡ [] }
     ensures { names.new.items ≡ names_of_packet own head.now }
 {

@@ -1,7 +1,7 @@
 //! What becomes of a datagram, and counts of what was held back.
 
 ghost use Rattle.std.specs.Prelude.{◌≡◌};
-ghost use Rattle.rtcp_guard.specs.Guarding.{nothing_held_back, one_more};
+ghost use Rattle.rtcp_guard.specs.Guarding.{counted, nothing_held_back, unless_more};
 
 /// What becomes of a datagram.
 #[derive(Clone, Copy, Debug, PartialEq, Eq)]
@@ -12,6 +12,19 @@ pub enum Verdict {
     Stranger,
     /// It is held back: its origin would have more sources than it may, or all origins together would.
     Crowd,
+}
+
+impl Verdict {
+    /// What passes is a crowd, where there are more names than were looked at.
+    #[inline(always)]
+    pub(crate) fn unless_more(self, more: bool) -> Verdict
+        ensures { result ≡ unless_more more self }
+    {
+        match self {
+            Verdict::Pass if more => Verdict::Crowd,
+            verdict => verdict,
+        }
+    }
 }
 
 /// What was held back, by reason. A count that is full stays as it is.
@@ -40,19 +53,21 @@ impl HeldBack {
         }
     }
 
-    /// One more datagram of a stranger was held back.
-    pub(crate) fn count_stranger(&mut self, origin: u64)
-        ensures { self.new ≡ record self.old { strangers = one_more self.old.strangers; last_stranger = Some origin } }
+    /// Counts a datagram by what becomes of it, and notes where it came from.
+    #[inline]
+    pub(crate) fn count(&mut self, verdict: Verdict, origin: u64)
+        ensures { self.new ≡ counted origin verdict self.old }
     {
-        self.strangers = self.strangers.saturating_add(1);
-        self.last_stranger = Some(origin);
-    }
-
-    /// One more datagram with too many sources was held back.
-    pub(crate) fn count_crowd(&mut self, origin: u64)
-        ensures { self.new ≡ record self.old { crowds = one_more self.old.crowds; last_crowd = Some origin } }
-    {
-        self.crowds = self.crowds.saturating_add(1);
-        self.last_crowd = Some(origin);
+        match verdict {
+            Verdict::Pass => (),
+            Verdict::Stranger => {
+                self.strangers = self.strangers.saturating_add(1);
+                self.last_stranger = Some(origin);
+            }
+            Verdict::Crowd => {
+                self.crowds = self.crowds.saturating_add(1);
+                self.last_crowd = Some(origin);
+            }
+        }
     }
 }

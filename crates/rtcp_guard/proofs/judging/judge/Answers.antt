@@ -7,7 +7,7 @@ pub returns-then-own_all-clause-verdict : goal.returns-then-own_all-clause-verdi
 returns-then-own_all-clause-verdict c = λ moment.
     let claims = c.args.claims.now.items in
     let names = c.args.names.now in
-    judged_pass c.args.limit c.args.room c.args.origin moment claims names []
+    judged_pass c.args.limit c.args.room c.args.origin moment claims names 0
     (counted_all c.args.origin moment claims [] names c.requires.rising (c.own_all.ensures.own c.if-own_all.true)
-    (counted_none c.args.origin moment claims)) c.if-names-gt-MAX_NAMES.false
+    (counted_none c.args.origin moment claims))
     (omega (arith, c.requires.few)) (omega (arith, c.requires.within))

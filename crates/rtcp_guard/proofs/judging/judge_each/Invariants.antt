@@ -6,9 +6,8 @@ use Rattle.rtcp_guard.proofs.judging.judge_each.Given as goal
 
 abbrev pub invariant-names : goal.invariant-names
 invariant-names l = record {
-  counted : (moment : ℕ) → IsCounted l.origin moment l.claims.items (take l.name-index l.names) l.fresh.items;
-  spare : 0 < length l.fresh.items →
+  counted : (moment : ℕ) → IsCounted l.origin moment l.claims.items (take l.at l.names) l.fresh;
+  spare : 0 < l.fresh →
       l.spare ≡ min (l.limit - held l.origin l.claims.items) (l.room - length l.claims.items);
-  fits : length l.fresh.items ≤ min (l.limit - held l.origin l.claims.items) (l.room - length l.claims.items);
-  room : length l.fresh.items ≤ l.name-index;
+  fits : l.fresh ≤ min (l.limit - held l.origin l.claims.items) (l.room - length l.claims.items);
 }

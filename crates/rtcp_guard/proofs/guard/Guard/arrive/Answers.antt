@@ -1,53 +1,34 @@
--- What passes keeps the bounds.
-use Rattle.std.proofs.Common.{◌≡◌, ◌≤◌, arith, length, sym, ap, subst, ◌∙◌}
-use Rattle.rtcp_guard.specs.Claims.{Claim, with_names}
-use Rattle.rtcp_guard.specs.Guarding.{GuardValue, judged, limit_of, room_of}
-use Rattle.rtcp_guard.specs.Tables.{IsBounded, TableValue}
-use Rattle.rtcp_guard.proofs.Bounding.{bounded_then}
+-- All names are looked at, or the first 512.
+use Rattle.std.proofs.Common.{◌≡◌, ◌≤◌, arith, length, take, true, sym, ap, ◌∙◌}
+use Rattle.std.proofs.lemmas.List.{length-take-le}
+use Rattle.rtcp_guard.specs.Guarding.{after_verdict, unless_more, verdict_by}
+use Rattle.rtcp_guard.proofs.Deciding.{decided_whole, decided_more, held_any, unless_false}
 use Rattle.rtcp_guard.proofs.guard.Guard.arrive.Goals as goal
 
-abbrev value : (c : goal.After-claim_all-arg-1) → GuardValue
-value c = record {
-  settings = c.self.inside.settings;
-  claims = c.self.inside.claims.items;
-  trusted = c.self.inside.trusted.items;
-  held_back = c.self.inside.held_back;
-}
+pub slice_bounds-decide-end : goal.slice_bounds-decide-end
+slice_bounds-decide-end c = sym (length-take-le 512 c.args.names.now (omega (arith, c.if-names-gt-MAX_NAMES.true)))
 
-then_bounded : (c : goal.After-claim_all-arg-1) → IsBounded c.self.inside.settings c.self.inside.trusted.items
-    (with_names c.args.origin c.args.t c.args.names.now c.self.inside.claims.items)
-then_bounded c = bounded_then (value c) c.limit_of-limit.result c.room-room.result c.args.origin c.args.t
-    c.args.names.now c.self.invariant.bounded
-    (c.limit_of-limit.ensures ∙ ap (λ (g : GuardValue). limit_of c.args.origin g.settings g.trusted) (sym c.self.view_is))
-    (c.room-room.ensures ∙ ap (λ (g : GuardValue). room_of g.settings) (sym c.self.view_is))
-    (c.in-Pass.ensures.verdict c.args.t)
+pub returns-then-names-gt-MAX_NAMES-clause-verdict : goal.returns-then-names-gt-MAX_NAMES-clause-verdict
+returns-then-names-gt-MAX_NAMES-clause-verdict c = c.decide.ensures.verdict
+    ∙ sym (decided_more c.args.origin c.args.t c.args.names.now c.args.self.now c.if-names-gt-MAX_NAMES.true)
 
-pub claim_all-requires-clause-room : goal.claim_all-requires-clause-room
-claim_all-requires-clause-room c =
-    let kept = c.judge-verdict.ensures.kept in
-    let within = (then_bounded c).within in
-    let long = ap (λ (t : TableValue). length (with_names c.args.origin c.args.t c.args.names.now t.items)) kept in
-    let wide = ap (λ (t : TableValue). t.room) kept in
-    omega (arith, within, long, wide, c.self.invariant.roomy)
+pub returns-then-names-gt-MAX_NAMES-clause-content : goal.returns-then-names-gt-MAX_NAMES-clause-content
+returns-then-names-gt-MAX_NAMES-clause-content c =
+    let guard = c.args.self.now in
+    let names = c.args.names.now in
+    let origin = c.args.origin in
+    let t = c.args.t in
+    c.decide.ensures.content
+    ∙ ap (λ v. after_verdict origin t (take 512 names) v guard) c.decide.ensures.verdict
+    ∙ held_any origin t (take 512 names) names (verdict_by origin t (take 512 names) guard) guard
+    ∙ ap (λ v. after_verdict origin t names v guard)
+    (sym (decided_more origin t names guard c.if-names-gt-MAX_NAMES.true))
 
-pub invariant_of-self : goal.invariant_of-self
-invariant_of-self c =
-    let settings = c.self.inside.settings in
-    let trusted = c.self.inside.trusted.items in
-    let guard : GuardValue = record {
-      settings = settings;
-      claims = c.self.inside.claims.items;
-      trusted = trusted;
-      held_back = c.self.inside.held_back;
-    } in
-    let kept = c.judge-verdict.ensures.kept in
-    let then = ap (λ (t : TableValue). with_names c.args.origin c.args.t c.args.names.now t.items) kept in
-    record {
-      bounded = subst (IsBounded settings trusted) (sym then ∙ sym c.claim_all.ensures.items)
-          (bounded_then guard c.limit_of-limit.result c.room-room.result c.args.origin c.args.t c.args.names.now
-          c.self.invariant.bounded
-          (c.limit_of-limit.ensures ∙ ap (λ (g : GuardValue). limit_of c.args.origin g.settings g.trusted) (sym c.self.view_is))
-          (c.room-room.ensures ∙ ap (λ (g : GuardValue). room_of g.settings) (sym c.self.view_is))
-          (c.in-Pass.ensures.verdict c.args.t));
-      roomy = c.claim_all.ensures.room ∙ ap (λ (t : TableValue). t.room) kept ∙ c.self.invariant.roomy;
-    }
+pub returns-clause-verdict : goal.returns-clause-verdict
+returns-clause-verdict c = c.decide-2.ensures.verdict
+    ∙ unless_false (verdict_by c.args.origin c.args.t c.args.names.now c.args.self.now)
+    ∙ sym (decided_whole c.args.origin c.args.t c.args.names.now c.args.self.now c.if-names-gt-MAX_NAMES.false)
+
+pub returns-clause-content : goal.returns-clause-content
+returns-clause-content c = c.decide-2.ensures.content
+    ∙ ap (λ v. after_verdict c.args.origin c.args.t c.args.names.now v c.args.self.now) (returns-clause-verdict c)
