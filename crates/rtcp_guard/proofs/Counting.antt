@@ -113,6 +113,7 @@ module _ (origin moment : ℕ) (claims : List Claim) (seen : List ℕ) (fresh n 
     has = same_held (is_origins (found n then) (its_owner own));
     long = same_long (is_there (found n then) (its_owner own));
   }
+
   pub counted_again : owner_in n claims ≡ None → is_named n seen ≡ true →
       IsCounted origin moment claims (seen ++ n ∷ []) fresh
   counted_again none named = record {

@@ -6,3 +6,6 @@ pub mod Counting
 pub mod Bounding
 pub mod Expecting
 pub mod Deciding
+pub mod Owning
+pub mod Interfering
+mod examples

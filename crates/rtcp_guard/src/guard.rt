@@ -82,13 +82,7 @@ impl Guard {
     /// A compound of an origin comes, to the participant `own`. It names the sources that its facts speak of
     /// (RFC 3550, 6.1), but the participant's own SSRC, which the guard does not look at. Else as [`Guard::arrive`].
     // Few names are gathered where a call has room for them at once; more are not before the first ones pass.
-    pub fn arrive_rtcp(
-        &mut self,
-        compound: &Compound<'_>,
-        origin: u64,
-        t: u64,
-        own: u32,
-    ) -> Verdict
+    pub fn arrive_rtcp(&mut self, compound: &Compound<'_>, origin: u64, t: u64, own: u32) -> Verdict
         ensures verdict { result ≡ verdict_on origin t (names_of_compound own compound.now) self.old }
         ensures content { self.new ≡ after (datagram_came origin t (names_of_compound own compound.now)) self.old }
     {

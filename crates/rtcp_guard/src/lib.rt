@@ -20,6 +20,7 @@
 mod cells;
 mod guard;
 mod judging;
+pub mod laws;
 mod naming;
 mod settings;
 mod table;

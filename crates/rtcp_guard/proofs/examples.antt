@@ -1,0 +1,2 @@
+mod GuardRows
+mod WrongRows
