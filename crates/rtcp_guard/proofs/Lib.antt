@@ -9,3 +9,4 @@ pub mod Deciding
 pub mod Owning
 pub mod Interfering
 mod examples
+pub mod Ages

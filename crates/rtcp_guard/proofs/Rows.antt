@@ -1,12 +1,14 @@
 -- Claims in cells.
-use Rattle.std.proofs.Common.{◌≡◌, ◌<◌, ◌≤◌, ◌==◌, ℕ, zero, suc, nat_lt, Bool, true, false, cond, List, [], ◌∷◌, filter, map, length, set, take, drop, ◌++◌, slice_index_or, Option, Some, None, option_map, arith, refl, sym, ap, ◌∙◌}
+use Rattle.std.proofs.Common.{◌≡◌, ◌<◌, ◌≤◌, ◌+◌, ◌==◌, ℕ, zero, suc, nat_lt, Bool, true, false, cond, List, [], ◌∷◌, filter, map, length, set, take, drop, ◌++◌, slice_index_or, Option, Some, None, option_map, arith, refl, sym, ap, ◌∙◌}
 use Rattle.std.specs.List.{insert}
 use Rattle.std.specs.List.Sorted.{IsNonDecreasingBy, IsPartitionPoint}
 use Rattle.std.proofs.lemmas.Bool.Decides.{nat_tests}
-use Rattle.std.proofs.lemmas.List.{get_or-map, length-map, map-set, take_at}
+use Rattle.std.proofs.lemmas.List.{get_or-map, length-append, length-map, map-append, map-set, take_at, take_more}
+use Rattle.std.proofs.lemmas.List.Elements.{filter-append}
 use Rattle.rtcp_guard.specs.declared.cells.Cell.{Cell}
 use Rattle.rtcp_guard.specs.Claims.{Claim, found, owner_in, put, is_by, held}
 use Rattle.rtcp_guard.specs.Tables.{claim_in, claims_in, no_cell, AreRising, IsRankOf, IsGap}
+use Rattle.rtcp_guard.proofs.Putting.{one_if, tally_first}
 use Rattle.rtcp_guard.proofs.Orders.{rising_at, rank_found, rank_put, gap_found, gap_put, gap_at}
 
 pub claim_at : (cells : List Cell) (k : ℕ) (d : Cell) (e : Claim) → k < length cells →
@@ -124,8 +126,20 @@ pub put_in_gap : (cells : List Cell) (gap : ℕ) (cell : Cell) (claim : Claim) �
 put_in_gap cells gap cell claim is value =
     claims_inserted cells gap cell ∙ ap (insert (claims_in cells) gap) value ∙ sym (gap_put claim (claims_in cells) gap is)
 
-pub same_count : (origin : ℕ) (cells : List Cell) →
-    length (filter (λ (cell : Cell). cell.origin == origin) cells) ≡ held origin (claims_in cells)
-same_count origin cells =
-    sym (as_many (filter (λ (cell : Cell). cell.origin == origin) cells))
-    ∙ ap length (claims_filtered (is_by origin) cells)
+-- ---- One cell more
+
+pub claims_more : (cells : List Cell) (k : ℕ) (d : Cell) → k < length cells →
+    claims_in (take (k + 1) cells) ≡ claims_in (take k cells) ++ claim_in (slice_index_or cells k d) ∷ []
+claims_more cells k d within = ap claims_in (take_more cells k d within)
+    ∙ map-append claim_in (take k cells) (slice_index_or cells k d ∷ [])
+
+pub held_more : (origin : ℕ) (cells : List Cell) (k : ℕ) (d : Cell) → k < length cells →
+    held origin (claims_in (take (k + 1) cells))
+    ≡ held origin (claims_in (take k cells)) + one_if ((slice_index_or cells k d).origin == origin)
+held_more origin cells k d within =
+    let cell : Cell = slice_index_or cells k d in
+    let first = tally_first (is_by origin) (claim_in cell) [] in
+    let both = ap length (filter-append (is_by origin) (claims_in (take k cells)) (claim_in cell ∷ []))
+    ∙ length-append (filter (is_by origin) (claims_in (take k cells))) (filter (is_by origin) (claim_in cell ∷ [])) in
+    let more = ap (held origin) (claims_more cells k d within) in
+    omega (arith, first, both, more)

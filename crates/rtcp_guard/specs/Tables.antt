@@ -32,6 +32,10 @@ abbrev pub AreRising : List Claim → Type 0
 AreRising [] = Unit {0}
 AreRising (claim ∷ rest) = AreAbove claim.ssrc rest × AreRising rest
 
+-- each source was last named at this moment or later
+abbrev pub AreSince : (moment : ℕ) → List Claim → Type 0
+AreSince moment claims = AllByRecursion (λ (claim : Claim). moment ≤ claim.last) claims
+
 -- A source is claimed here.
 pub record IsRankOf (ssrc : ℕ) (claims : List Claim) (rank : ℕ) : Type 0 where
   pub within : rank < length claims
@@ -51,8 +55,9 @@ Locates ssrc claims (Err gap) = IsGap ssrc claims gap
 
 -- ---- What holds at any time
 
-pub record IsTable (claims : List Claim) (room : ℕ) : Type 0 where
+pub record IsTable (claims : List Claim) (room oldest : ℕ) : Type 0 where
   pub rising : AreRising claims
+  pub since : AreSince oldest claims
   pub within : length claims ≤ room
 
 -- No origin has more sources than it may, nor have all together.

@@ -1,9 +1,8 @@
 //! Cells with a claim and two hints each, the hints, and the search.
 
-ghost use Rattle.std.specs.Prelude.{◌≡◌, ◌==◌, filter, length};
-ghost use Rattle.rtcp_guard.specs.Claims.{claim_by};
-ghost use Rattle.rtcp_guard.specs.Tables.{AreRising, Locates, claim_in, claims_in};
-ghost use Rattle.rtcp_guard.specs.declared.cells.Cell.{Cell};
+ghost use Rattle.std.specs.Prelude.{◌≡◌, if◌then◌else◌};
+ghost use Rattle.rtcp_guard.specs.Claims.{claim_by, held};
+ghost use Rattle.rtcp_guard.specs.Tables.{AreRising, AreSince, Locates, claim_in, claims_in};
 
 /// How many hints a cell has.
 const HINTS: usize = 2;
@@ -80,8 +79,31 @@ pub(crate) fn search(cells: &[Cell], ssrc: u32) -> Result<usize, usize>
 }
 
 /// How many sources belong to an origin.
+// A sum without a branch: which cells are the origin's cannot be foretold.
 pub(crate) fn count(cells: &[Cell], origin: u64) -> usize
-    ensures { result ≡ length (filter (λ (cell : Cell). cell.origin == origin) cells.now) }
+    ensures { result ≡ held origin (claims_in cells.now) }
 {
-    cells.iter().filter(|cell| cell.origin == origin).count()
+    let mut count = 0;
+    'cells: for cell in cells {
+        count += one_if(cell.origin == origin);
+    }
+    count
+}
+
+#[inline(always)]
+fn one_if(is: bool) -> usize
+    ensures { result ≡ (if is then 1 else 0) }
+{
+    if is { 1 } else { 0 }
+}
+
+/// The earliest moment at which one of the sources was last named, or the latest moment of all where there is none.
+pub(crate) fn oldest(cells: &[Cell]) -> u64
+    ensures { AreSince result (claims_in cells.now) }
+{
+    let mut oldest = u64::MAX;
+    'cells: for cell in cells {
+        oldest = oldest.min(cell.last);
+    }
+    oldest
 }

@@ -5,7 +5,7 @@ ghost use Rattle.std.specs.List.{insert};
 ghost use Rattle.rtcp_guard.specs.Claims.{after_lapse, claim_by, held, owner_in, put};
 ghost use Rattle.rtcp_guard.specs.Tables.{IsGap, IsRankOf, Locates};
 
-use crate::cells::{Cell, count, hinted, note, search};
+use crate::cells::{Cell, count, hinted, note, oldest, search};
 use std::alloc::{AllocError, Global};
 use std::marker::Model;
 
@@ -14,6 +14,8 @@ use std::marker::Model;
 #[derive(Drop)]
 pub(crate) struct ClaimTable {
     cells: Vec<Cell>,
+    /// A moment since which all sources were named: a check that goes by no later one reads no cell.
+    oldest: u64,
 }
 
 impl Model for ClaimTable {
@@ -24,7 +26,7 @@ impl Model for ClaimTable {
 
     ghost view = { λ t. record { items = claims_in t.cells.items; room = vec_capacity t.cells } };
 
-    ghost invariant = { λ t. IsTable (claims_in t.cells.items) (vec_capacity t.cells) };
+    ghost invariant = { λ t. IsTable (claims_in t.cells.items) (vec_capacity t.cells) t.oldest };
 }
 
 impl ClaimTable {
@@ -37,7 +39,10 @@ impl ClaimTable {
         ensures { IfOk result (λ table. table ≡ record { items = []; room = room }) }
     {
         let cells = Vec::with_capacity(alloc, room)?;
-        Ok(ClaimTable { cells })
+        Ok(ClaimTable {
+            cells,
+            oldest: u64::MAX,
+        })
     }
 
     /// How many claims there are.
@@ -95,7 +100,10 @@ impl ClaimTable {
         ensures items { self.new.items ≡ after_lapse before self.old.items }
         ensures room { self.new.room ≡ self.old.room }
     {
-        self.cells.retain(|cell| before <= cell.last);
+        if before > self.oldest {
+            self.cells.retain(|cell| before <= cell.last);
+            self.oldest = oldest(&self.cells);
+        }
     }
 
     /// The rank of a source, or else the gap where its claim would stand.
@@ -145,6 +153,7 @@ impl ClaimTable {
         let cell = &mut self.cells[at];
         cell.origin = origin;
         cell.last = t;
+        self.oldest = self.oldest.min(t);
     }
 
     /// Puts a claim into the gap for it.
@@ -158,5 +167,6 @@ impl ClaimTable {
         let cell = Cell::of(ssrc, origin, t);
         let _inserted = self.cells.insert(gap, cell);
         note(&mut self.cells, ssrc, gap);
+        self.oldest = self.oldest.min(t);
     }
 }

@@ -2,10 +2,9 @@
 use Rattle.std.proofs.Common.{ap, ◌∙◌}
 use Rattle.rtcp_guard.specs.Claims.{held}
 use Rattle.rtcp_guard.specs.Tables.{TableValue, claims_in}
-use Rattle.rtcp_guard.proofs.Rows.{same_count}
 use Rattle.rtcp_guard.proofs.table.ClaimTable.count.Goals as goal
 
 pub returns : goal.returns
-returns c = c.count.ensures ∙ same_count c.args.origin c.deref.result.now
+returns c = c.count.ensures
     ∙ ap (λ cells. held c.args.origin (claims_in cells)) c.deref.ensures.value
     ∙ ap (λ (t : TableValue). held c.args.origin t.items) c.self.view_is

@@ -1,13 +1,14 @@
 -- The claim stands in its gap.
-use Rattle.std.proofs.Common.{◌≡◌, ◌<◌, ◌≤◌, ◌+◌, rules, arith, List, length, if◌then◌else◌, is_ok, true, cond, take, drop, ◌++◌, sym, ap, subst, ◌∙◌}
+use Rattle.std.proofs.Common.{◌≡◌, ◌<◌, ◌≤◌, ◌+◌, rules, arith, List, length, min, if◌then◌else◌, is_ok, true, cond, take, drop, ◌++◌, sym, ap, subst, ◌∙◌}
 use Rattle.std.specs.List.{insert}
 use Rattle.rtcp_guard.specs.declared.cells.Cell.{Cell}
 use Rattle.rtcp_guard.specs.Claims.{Claim, claim_by, put}
-use Rattle.rtcp_guard.specs.Tables.{AreRising, IsGap, TableValue, claims_in}
+use Rattle.rtcp_guard.specs.Tables.{AreRising, AreSince, IsGap, TableValue, claims_in}
+use Rattle.rtcp_guard.proofs.Ages.{since_named}
 use Rattle.rtcp_guard.proofs.Orders.{gap_within, rising_put}
 use Rattle.rtcp_guard.proofs.Rows.{as_many, over_whole, put_in_gap}
 use Rattle.rtcp_guard.proofs.table.ClaimTable.insert.Goals as goal
-use Rattle.rtcp_guard.proofs.table.ClaimTable.insert.Goals.{After-self-1}
+use Rattle.rtcp_guard.proofs.table.ClaimTable.insert.Goals.{After-self-2-1}
 
 pub insert-inserted-requires : goal.insert-inserted-requires
 insert-inserted-requires c =
@@ -15,25 +16,25 @@ insert-inserted-requires c =
     let within = gap_within c.args.ssrc (claims_in c.self.inside.cells.items) c.args.gap gap in
     omega (arith, within, as_many c.self.inside.cells.items, c.self.inside.cells.ok.0)
 
-its_gap : (c : After-self-1) → IsGap c.args.ssrc (claims_in c.self.inside.cells.items) c.args.gap
+its_gap : (c : After-self-2-1) → IsGap c.args.ssrc (claims_in c.self.inside.cells.items) c.args.gap
 its_gap c = subst (λ (t : TableValue). IsGap c.args.ssrc t.items c.args.gap) (sym c.self.view_is) c.requires.gap
 
-has_room : (c : After-self-1) → c.self.inside.cells.len < c.self.inside.cells.cap
+has_room : (c : After-self-2-1) → c.self.inside.cells.len < c.self.inside.cells.cap
 has_room c =
     let room = c.requires.room in
     let long = ap (λ (t : TableValue). length t.items) c.self.view_is in
     let wide = ap (λ (t : TableValue). t.room) c.self.view_is in
     omega (arith, room, long, wide, as_many c.self.inside.cells.items, c.self.inside.cells.ok.0)
 
-its_items : (c : After-self-1) → c.insert-inserted.new.self.items ≡ insert c.self.inside.cells.items c.args.gap c.of-cell.result
+its_items : (c : After-self-2-1) → c.insert-inserted.new.self.items ≡ insert c.self.inside.cells.items c.args.gap c.of-cell.result
 its_items c = c.insert-inserted.ensures.items
     ∙ ap (λ b. cond b (insert c.self.inside.cells.items c.args.gap c.of-cell.result) c.self.inside.cells.items)
     (c.insert-inserted.ensures.succeeds (has_room c))
 
-its_length : (c : After-self-1) → c.insert-inserted.new.self.len ≡ length c.note.new.cells
+its_length : (c : After-self-2-1) → c.insert-inserted.new.self.len ≡ length c.note.new.cells
 its_length c = omega (arith, c.insert-inserted.new.self.ok.0, c.note.auto.cells, c.deref_mut.ensures.len)
 
-then_claims : (c : After-self-1) → claims_in (take c.insert-inserted.new.self.len (c.note.new.cells
+then_claims : (c : After-self-2-1) → claims_in (take c.insert-inserted.new.self.len (c.note.new.cells
     ++ drop (length c.note.new.cells) c.insert-inserted.new.self.items))
     ≡ put (claim_by c.args.origin c.args.t c.args.ssrc) (claims_in c.self.inside.cells.items)
 then_claims c =
@@ -56,6 +57,10 @@ invariant_of-self c =
     record {
       rising = subst AreRising (sym (then_claims c)) (rising_put (claim_by c.args.origin c.args.t c.args.ssrc)
           (claims_in c.self.inside.cells.items) c.self.invariant.rising);
+      since = subst (λ m. AreSince m (claims_in cells)) (sym c.min-self-inside.ensures)
+          (subst (AreSince (min c.self.inside.oldest c.args.t)) (sym (then_claims c))
+          (since_named c.self.inside.oldest (claim_by c.args.origin c.args.t c.args.ssrc)
+          (claims_in c.self.inside.cells.items) c.self.invariant.since));
       within = omega (arith, as_many cells, long, its_length c, more, room, c.insert-inserted.ensures.capacity);
     }
 

@@ -1,18 +1,19 @@
 -- The claim of the rank is written.
-use Rattle.std.proofs.Common.{◌≡◌, rules, arith, length, set, sym, ap, subst, ◌∙◌}
+use Rattle.std.proofs.Common.{◌≡◌, rules, arith, length, min, set, sym, ap, subst, ◌∙◌}
 use Rattle.std.proofs.lemmas.List.{length-set}
 use Rattle.rtcp_guard.specs.declared.cells.Cell.{Cell}
 use Rattle.rtcp_guard.specs.Claims.{Claim, claim_by, put}
-use Rattle.rtcp_guard.specs.Tables.{AreRising, IsRankOf, TableValue, claim_in, claims_in}
+use Rattle.rtcp_guard.specs.Tables.{AreRising, AreSince, IsRankOf, TableValue, claim_in, claims_in}
+use Rattle.rtcp_guard.proofs.Ages.{since_named}
 use Rattle.rtcp_guard.proofs.Orders.{rising_put}
 use Rattle.rtcp_guard.proofs.Rows.{as_many, its_ssrc, written}
 use Rattle.rtcp_guard.proofs.table.ClaimTable.write.Goals as goal
-use Rattle.rtcp_guard.proofs.table.ClaimTable.write.Goals.{After-self-1}
+use Rattle.rtcp_guard.proofs.table.ClaimTable.write.Goals.{After-self-2-1}
 
-abbrev cell_then : (c : After-self-1) → Cell
+abbrev cell_then : (c : After-self-2-1) → Cell
 cell_then c = record { ssrc = c.index_mut-cell.result.now.ssrc; hints = c.index_mut-cell.result.now.hints; origin = c.args.origin; last = c.args.t }
 
-then_claims : (c : After-self-1) → claims_in (set c.self.inside.cells.items c.args.at (cell_then c))
+then_claims : (c : After-self-2-1) → claims_in (set c.self.inside.cells.items c.args.at (cell_then c))
     ≡ put (claim_by c.args.origin c.args.t c.args.ssrc) (claims_in c.self.inside.cells.items)
 then_claims c =
     let cells = c.self.inside.cells.items in
@@ -31,6 +32,10 @@ invariant_of-self c =
     record {
       rising = subst AreRising (sym (then_claims c)) (rising_put (claim_by c.args.origin c.args.t c.args.ssrc)
           (claims_in cells) c.self.invariant.rising);
+      since = subst (λ m. AreSince m (claims_in (set cells c.args.at (cell_then c)))) (sym c.min-self-inside.ensures)
+          (subst (AreSince (min c.self.inside.oldest c.args.t)) (sym (then_claims c))
+          (since_named c.self.inside.oldest (claim_by c.args.origin c.args.t c.args.ssrc) (claims_in cells)
+          c.self.invariant.since));
       within = omega (
         arith,
         c.self.invariant.within,

@@ -1,0 +1,28 @@
+-- One more cell is counted.
+use Rattle.std.proofs.Common.{◌≡◌, ◌≤◌, ◌+◌, ◌==◌, ℕ, Bool, true, false, cond, take, slice_index_or, arith, refl, sym, ap, ◌∙◌}
+use Rattle.std.proofs.lemmas.List.{take_all}
+use Rattle.rtcp_guard.specs.Claims.{held}
+use Rattle.rtcp_guard.specs.Tables.{claims_in, no_cell}
+use Rattle.rtcp_guard.proofs.Putting.{one_if}
+use Rattle.rtcp_guard.proofs.Rows.{held_more}
+use Rattle.rtcp_guard.proofs.cells.count.Goals as goal
+
+few_more : (b : Bool) → one_if b ≤ 1
+few_more true = omega arith
+few_more false = omega arith
+
+pub cells-preserved : goal.cells-preserved
+cells-preserved c =
+    let k = c.cells.cell-index in
+    let cells = c.args.cells.now in
+    let more = held_more c.args.origin cells k no_cell c.cells-test.true in
+    let is : c.one_if-count.result ≡ one_if ((slice_index_or cells k no_cell).origin == c.args.origin) = c.one_if-count.ensures in
+    let one = few_more ((slice_index_or cells k no_cell).origin == c.args.origin) in
+    record {
+      counted = omega (arith, more, is, c.cells.invariant.counted);
+      few = omega (arith, is, one, c.cells.invariant.few);
+    }
+
+pub returns : goal.returns
+returns c = c.cells.invariant.counted
+    ∙ ap (λ cells. held c.args.origin (claims_in cells)) (take_all c.cells.cell-index c.args.cells.now c.cells-test.false)
