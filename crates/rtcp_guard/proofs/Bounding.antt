@@ -1,10 +1,10 @@
 -- No origin ever has more sources than it may.
-use Rattle.std.proofs.Common.{◌≡◌, ◌<◌, ◌≤◌, ◌==◌, ◌||◌, ◌++◌, ◌*◌, ℕ, max, nat_lt, nat_le, not, Bool, true, false, cond, List, [], ◌∷◌, length, arith, refl, sym, ap, subst, ◌∙◌}
+use Rattle.std.proofs.Common.{◌≡◌, ◌<◌, ◌≤◌, ◌==◌, ◌||◌, ◌++◌, ◌*◌, ℕ, Some, max, nat_lt, nat_le, not, Bool, true, false, cond, List, [], ◌∷◌, length, arith, refl, sym, ap, subst, ◌∙◌}
 use Rattle.std.proofs.lemmas.Bool.{eqb-true, or_parts}
 use Rattle.std.proofs.lemmas.Bool.Decides.{nat_tests}
 use Rattle.std.proofs.lemmas.List.Folds.{list_any-append}
-use Rattle.rtcp_guard.specs.Claims.{Claim, claim_by, owner_in, put, with_names, after_lapse, is_by, held, is_of_another, is_strange, before_stranger, is_too_many}
-use Rattle.rtcp_guard.specs.Guarding.{GuardValue, judged, is_trusted, limit_of, room_of, unless_more}
+use Rattle.rtcp_guard.specs.Claims.{Claim, claim_by, owner_in, put, with_names, after_lapse, is_by, is_named, held, is_of_another, is_strange, before_stranger, is_too_many}
+use Rattle.rtcp_guard.specs.Guarding.{GuardValue, judged, is_trusted, limit_of, room_of, unless_more, verdict_by}
 use Rattle.rtcp_guard.specs.declared.settings.Settings.{Settings}
 use Rattle.rtcp_guard.specs.declared.verdict.Verdict.{Verdict}
 use Rattle.rtcp_guard.specs.declared.verdict.Verdict.TheVariants.{Pass, Stranger, Crowd}
@@ -12,6 +12,7 @@ use Rattle.rtcp_guard.specs.Tables.{AreRising, IsBounded}
 use Rattle.rtcp_guard.proofs.Orders.{rising_put, rising_filter}
 use Rattle.rtcp_guard.proofs.Putting.{tally_filter, length_filter, put_shrinks}
 use Rattle.rtcp_guard.proofs.Claiming.{rising_names, others_shrink}
+use Rattle.rtcp_guard.proofs.Counting.{counted_none, counted_all, judged_pass}
 
 pub bounded_lapse : (settings : Settings) (trusted : List ℕ) (before : ℕ) (claims : List Claim) →
     IsBounded settings trusted claims → IsBounded settings trusted (after_lapse before claims)
@@ -157,3 +158,15 @@ bounded_expected guard limit room origin moment ssrc bounded its_limit its_room 
     bounded_put guard.settings guard.trusted (claim_by origin moment ssrc) guard.claims bounded
     (sym (λ i. is_too_many (its_limit i) (its_room i) origin (put (claim_by origin moment ssrc) guard.claims))
     ∙ not_true (is_too_many limit room origin (put (claim_by origin moment ssrc) guard.claims)) may)
+
+-- A datagram that names only the origin's own sources passes.
+pub own_pass : (guard : GuardValue) (origin moment : ℕ) (names : List ℕ) →
+    IsBounded guard.settings guard.trusted guard.claims →
+    ((ssrc : ℕ) → is_named ssrc names ≡ true → owner_in ssrc guard.claims ≡ Some origin) →
+    Pass ≡ verdict_by origin moment names guard
+own_pass guard origin moment names bounded own =
+    let few = bounded.few origin in
+    let within = bounded.within in
+    judged_pass (limit_of origin guard.settings guard.trusted) (room_of guard.settings) origin moment guard.claims names 0
+    (counted_all origin moment guard.claims [] names bounded.rising own (counted_none origin moment guard.claims))
+    (omega (arith, few)) (omega (arith, within))

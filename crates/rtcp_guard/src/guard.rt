@@ -6,7 +6,7 @@ ghost use Rattle.rtcp_guard.specs.Guarding.{after, after_verdict, check_made, co
 ghost use Rattle.rtcp_guard.specs.Tables.{AreRising};
 ghost use Rattle.rtcp_guard.specs.Naming.{names_of_compound, names_of_packet};
 
-use crate::judging::judge;
+use crate::judging::{judge_each, own_all};
 use crate::naming::{FewNames, MAX_NAMES, Names, of_compound, of_packet};
 use crate::settings::Settings;
 use crate::table::ClaimTable;
@@ -192,14 +192,18 @@ impl Guard {
     }
 
     /// What becomes of a datagram by these names alone.
+    // Its own sources alone are the common case, for which no limit is looked up.
     #[inline(always)]
     fn judge(&mut self, names: &[u32], origin: u64) -> Verdict
         ensures verdict { (moment : ℕ) → result ≡ verdict_by origin moment names.now self.old }
         ensures kept { self.new ≡ self.old }
         ensures rising { AreRising self.old.claims }
     {
+        if own_all(&mut self.claims, origin, names) {
+            return Verdict::Pass;
+        }
         let (limit, room) = (self.limit_of(origin), self.room());
-        judge(&mut self.claims, limit, room, origin, names)
+        judge_each(&self.claims, limit, room, origin, names)
     }
 
     /// How many sources an origin may have.

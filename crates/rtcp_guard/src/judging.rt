@@ -8,31 +8,9 @@ ghost use Rattle.rtcp_guard.specs.Tables.{AreRising};
 use crate::table::ClaimTable;
 use crate::verdict::Verdict;
 
-/// What becomes of a datagram of an origin that may have `limit` sources.
-// Its own sources alone are the common case; all else is apart, with the room that it takes.
-#[inline(always)]
-pub(crate) fn judge(
-    claims: &mut ClaimTable,
-    limit: usize,
-    room: usize,
-    origin: u64,
-    names: &[u32],
-) -> Verdict
-    requires rising { AreRising claims.old.items }
-    requires few { held origin claims.old.items ≤ limit }
-    requires within { length claims.old.items ≤ room }
-    ensures verdict { (moment : ℕ) → result ≡ judged limit room origin moment names.now claims.old.items }
-    ensures kept { claims.new ≡ claims.old }
-{
-    if own_all(claims, origin, names) {
-        return Verdict::Pass;
-    }
-    judge_each(claims, limit, room, origin, names)
-}
-
 /// Whether these sources all belong to an origin.
 #[inline(always)]
-fn own_all(claims: &mut ClaimTable, origin: u64, names: &[u32]) -> bool
+pub(crate) fn own_all(claims: &mut ClaimTable, origin: u64, names: &[u32]) -> bool
     ensures own { result ≡ true → (ssrc : ℕ) → is_named ssrc names.now ≡ true →
         owner_in ssrc claims.old.items ≡ Some origin }
     ensures kept { claims.new ≡ claims.old }
@@ -45,10 +23,16 @@ fn own_all(claims: &mut ClaimTable, origin: u64, names: &[u32]) -> bool
     true
 }
 
-/// What becomes of a datagram, by each of its names in turn. The sources of the origin are counted once, at the first
-/// name that is new.
+/// What becomes of a datagram of an origin that may have `limit` sources, by each of its names in turn. The sources of
+/// the origin are counted once, at the first name that is new.
 #[inline(never)]
-fn judge_each(claims: &ClaimTable, limit: usize, room: usize, origin: u64, names: &[u32]) -> Verdict
+pub(crate) fn judge_each(
+    claims: &ClaimTable,
+    limit: usize,
+    room: usize,
+    origin: u64,
+    names: &[u32],
+) -> Verdict
     requires rising { AreRising claims.now.items }
     requires few { held origin claims.now.items ≤ limit }
     requires within { length claims.now.items ≤ room }
