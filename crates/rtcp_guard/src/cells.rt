@@ -1,6 +1,6 @@
 //! Cells with a claim and two hints each, the hints, and the search.
 
-ghost use Rattle.std.specs.Prelude.{◌≡◌, if◌then◌else◌};
+ghost use Rattle.std.specs.Prelude.{◌≡◌, if◌then◌else◌, nat_le};
 ghost use Rattle.rtcp_guard.specs.Claims.{claim_by, held};
 ghost use Rattle.rtcp_guard.specs.Tables.{AreRising, AreSince, Locates, claim_in, claims_in};
 
@@ -31,6 +31,14 @@ impl Cell {
             origin,
             last,
         }
+    }
+
+    /// Whether the source was last named at a moment or later.
+    #[inline(always)]
+    pub(crate) fn is_since(&self, moment: u64) -> bool
+        ensures { result ≡ nat_le moment self.now.last }
+    {
+        moment <= self.last
     }
 }
 

@@ -101,7 +101,7 @@ impl ClaimTable {
         ensures room { self.new.room ≡ self.old.room }
     {
         if before > self.oldest {
-            self.cells.retain(|cell| before <= cell.last);
+            self.cells.retain(|cell| cell.is_since(before));
             self.oldest = oldest(&self.cells);
         }
     }

@@ -44,6 +44,32 @@ fn forged_goodbye(rt: HostRuntime) {
     assert!(rt; guard.arrive_rtcp(&goodbye, 1, 2, OWN) == Verdict::Pass);
 }
 
+/// A compound with more names than a call gathers at once: 31 goodbyes, of which the first 17 are of one source.
+#[test]
+fn many_goodbyes(rt: HostRuntime) {
+    let mut octets = [0u8; 136];
+    octets[0] = 0x80;
+    octets[1] = 201;
+    octets[3] = 1;
+    octets[7] = 1;
+    octets[8] = 0x9f;
+    octets[9] = 203;
+    octets[11] = 31;
+    for (at, octet) in octets.iter_mut().enumerate() {
+        if at >= 12 && at % 4 == 3 {
+            *octet = if at < 80 { 1 } else { 2 };
+        }
+    }
+    let compound = Compound::read(&octets).expect(&rt, "a compound");
+    let guard = Guard::new(rt.alloc(), SETTINGS);
+    let mut guard = guard.expect(&rt, "memory for a guard");
+    assert!(rt; guard.expect(2, 9, 0));
+    assert!(rt; guard.arrive_rtcp(&compound, 1, 1, OWN) == Verdict::Stranger);
+    assert!(rt; guard.expect(2, 1, 2));
+    assert!(rt; guard.arrive_rtcp(&compound, 1, 3, OWN) == Verdict::Pass);
+    assert!(rt; guard.arrive_rtcp(&compound, 2, 4, OWN) == Verdict::Stranger);
+}
+
 /// An RTP packet with a CSRC of another origin is held back; the participant's own SSRC is not looked at.
 #[test]
 fn contributing_source(rt: HostRuntime) {
@@ -128,12 +154,12 @@ fn lapses(rt: HostRuntime) {
     assert!(rt; guard.arrive(&[7], 2, 120) == Verdict::Pass);
 }
 
-/// More names than a guard takes in are a crowd, whose they are.
+/// Of more names than a guard looks at, the first ones say the verdict, unless they pass.
 #[test]
 fn many_names(rt: HostRuntime) {
     let guard = Guard::new(rt.alloc(), SETTINGS);
     let mut guard = guard.expect(&rt, "memory for a guard");
     assert!(rt; guard.arrive(&[7; 512], 1, 0) == Verdict::Pass);
     assert!(rt; guard.arrive(&[7; 513], 1, 0) == Verdict::Crowd);
-    assert!(rt; guard.arrive(&[7; 513], 2, 0) == Verdict::Crowd);
+    assert!(rt; guard.arrive(&[7; 513], 2, 0) == Verdict::Stranger);
 }
