@@ -1,9 +1,9 @@
 -- Since when all sources were named.
-use Rattle.std.proofs.Common.{◌≡◌, ◌<◌, ◌≤◌, ◌+◌, ◌==◌, ◌++◌, ℕ, min, nat_le, Bool, true, false, cond, List, [], ◌∷◌, filter, arith, refl, sym, ap, subst, ◌∙◌}
+use Rattle.std.proofs.Common.{◌≡◌, ◌≤◌, ◌++◌, ℕ, min, nat_le, true, cond, List, [], ◌∷◌, arith, refl, sym, ap, subst, ◌∙◌}
 use Rattle.std.proofs.lemmas.Bool.Decides.{nat_tests}
 use Rattle.rtcp_guard.specs.Claims.{Claim, put, after_lapse}
 use Rattle.rtcp_guard.specs.Tables.{AreSince}
-use Rattle.rtcp_guard.proofs.Orders.{Order, before, same, behind, order, put_before, put_same, put_behind}
+use Rattle.rtcp_guard.proofs.Orders.{before, same, behind, order, put_before, put_same, put_behind}
 
 pub since_earlier : (moment earlier : ℕ) (claims : List Claim) → earlier ≤ moment → AreSince moment claims →
     AreSince earlier claims

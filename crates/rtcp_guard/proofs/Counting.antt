@@ -1,13 +1,12 @@
 -- What is counted of a datagram's names, and the verdict by it.
-use Rattle.std.proofs.Common.{◌≡◌, ◌<◌, ◌≤◌, ◌+◌, ◌-◌, ◌==◌, ◌||◌, ◌++◌, ℕ, eqb, min, nat_lt, not, Bool, true, false, cond, List, [], ◌∷◌, length, take, drop, Option, Some, None, option_map, arith, refl, sym, ap, subst, ◌∙◌}
-use Rattle.std.proofs.lemmas.Bool.{eqb-true, or_parts}
+use Rattle.std.proofs.Common.{◌≡◌, ◌<◌, ◌≤◌, ◌+◌, ◌==◌, ◌||◌, ◌++◌, ℕ, eqb, nat_lt, not, Bool, true, false, cond, List, [], ◌∷◌, length, Option, Some, None, option_map, arith, refl, sym, ap, subst, ◌∙◌}
+use Rattle.std.proofs.lemmas.Bool.{eqb-true}
 use Rattle.std.proofs.lemmas.Bool.Decides.{nat_tests}
 use Rattle.std.proofs.lemmas.List.{append-nil, append_assoc}
 use Rattle.std.specs.Option.{option_eq}
 use Rattle.std.proofs.lemmas.List.Folds.{list_any-append}
-use Rattle.rtcp_guard.specs.Claims.{Claim, claim_by, found, owner_in, put, with_names, is_by, held, is_named, is_of_another, is_strange, before_stranger, is_too_many}
+use Rattle.rtcp_guard.specs.Claims.{Claim, claim_by, found, owner_in, with_names, is_by, held, is_named, is_of_another, is_strange, before_stranger, is_too_many}
 use Rattle.rtcp_guard.specs.Guarding.{judged}
-use Rattle.rtcp_guard.specs.declared.verdict.Verdict.{Verdict}
 use Rattle.rtcp_guard.specs.declared.verdict.Verdict.TheVariants.{Pass, Stranger, Crowd}
 use Rattle.rtcp_guard.specs.Tables.{AreRising}
 use Rattle.rtcp_guard.proofs.Putting.{tally, tally_put, tally_all, is_any, one_if, weight}

@@ -1,6 +1,5 @@
 -- Whether an origin may have a source that is expected of it.
-use Rattle.std.proofs.Common.{◌≡◌, ◌<◌, ◌≤◌, ◌+◌, ◌==◌, ◌||◌, ◌&&◌, ℕ, nat_lt, not, Bool, true, false, cond, List, length, Option, Some, None, option_map, arith, refl, sym, ap, ◌∙◌}
-use Rattle.std.proofs.lemmas.Bool.{eqb-true}
+use Rattle.std.proofs.Common.{◌≡◌, ◌<◌, ◌≤◌, ◌+◌, ◌==◌, ◌||◌, ℕ, nat_lt, not, Bool, true, false, List, length, Option, Some, None, option_map, arith, refl, ap, ◌∙◌}
 use Rattle.std.proofs.lemmas.Bool.Decides.{nat_tests}
 use Rattle.rtcp_guard.specs.Claims.{Claim, claim_by, found, owner_in, put, is_by, held, is_too_many}
 use Rattle.rtcp_guard.specs.Tables.{AreRising}

@@ -1,5 +1,5 @@
 -- One origin speaks for a source, and the others do not interfere.
-use Rattle.std.proofs.Common.{◌≡◌, ◌<◌, ◌≤◌, ◌==◌, ◌&&◌, ◌||◌, ◌++◌, ℕ, nat_lt, nat_le, not, Bool, true, false, cond, List, [], ◌∷◌, length, Option, Some, None, option_map, is_some, arith, refl, sym, ap, subst, ◌∙◌}
+use Rattle.std.proofs.Common.{◌≡◌, ◌≤◌, ◌==◌, ◌&&◌, ◌||◌, ◌++◌, ℕ, nat_lt, nat_le, not, Bool, true, false, cond, List, [], ◌∷◌, length, Option, Some, None, option_map, is_some, arith, refl, sym, ap, ◌∙◌}
 use Rattle.std.proofs.lemmas.Bool.{eqb-true, or_parts}
 use Rattle.std.proofs.lemmas.Bool.Decides.{nat_tests}
 use Rattle.std.proofs.lemmas.List.{append-nil}
@@ -8,8 +8,8 @@ use Rattle.rtcp_guard.specs.declared.verdict.Verdict.{Verdict}
 use Rattle.rtcp_guard.specs.declared.verdict.Verdict.TheVariants.{Pass, Stranger, Crowd}
 use Rattle.rtcp_guard.specs.Claims.{Claim, claim_by, owner_in, put, with_names, is_named, held, is_of_another, is_strange, before_stranger, is_too_many}
 use Rattle.rtcp_guard.specs.Guarding.{GuardStep, datagram_came, check_made, source_expected, origin_trusted, GuardValue, nothing_held_back, after, after_names, before_which, may_have, limit_of, room_of, verdict_on}
-use Rattle.rtcp_guard.specs.Histories.{guard_after, is_pass, is_passed, unless_lapsed, claim_of, owner_of, IsClaimedThroughout, IsNotMoved, Keeps, AreOf, is_others, without, if_passed, passed_about}
-use Rattle.rtcp_guard.proofs.Counting.{before_more, strange_more, is_itself}
+use Rattle.rtcp_guard.specs.Histories.{guard_after, is_pass, is_passed, unless_lapsed, claim_of, owner_of, Keeps, AreOf, is_others, without, if_passed, passed_about}
+use Rattle.rtcp_guard.proofs.Counting.{before_more, strange_more}
 use Rattle.rtcp_guard.proofs.Bounding.{when_passed}
 use Rattle.rtcp_guard.proofs.Deciding.{decided_whole}
 use Rattle.rtcp_guard.proofs.Owning.{passed_whole, owner_after}

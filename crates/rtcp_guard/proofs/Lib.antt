@@ -10,3 +10,4 @@ pub mod Owning
 pub mod Interfering
 mod examples
 pub mod Ages
+pub mod Soles

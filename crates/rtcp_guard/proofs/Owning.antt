@@ -1,18 +1,18 @@
 -- The claims of a guard by its history.
-use Rattle.std.proofs.Common.{◌≡◌, ◌<◌, ◌≤◌, ◌==◌, ◌&&◌, ◌||◌, ◌++◌, ℕ, nat_lt, nat_le, not, Bool, true, false, cond, List, [], ◌∷◌, filter, length, take, Option, Some, None, option_map, is_some, arith, refl, sym, ap, subst, ◌∙◌}
+use Rattle.std.proofs.Common.{◌≡◌, ◌<◌, ◌≤◌, ◌==◌, ◌&&◌, ◌||◌, ◌++◌, ℕ, nat_lt, nat_le, not, Bool, true, false, cond, List, [], ◌∷◌, length, take, Some, None, option_map, arith, refl, sym, ap, subst, ◌∙◌}
 use Rattle.std.proofs.lemmas.Bool.{eqb-true}
 use Rattle.std.proofs.lemmas.Bool.Decides.{nat_tests}
 use Rattle.rtcp_guard.specs.declared.settings.Settings.{Settings}
 use Rattle.rtcp_guard.specs.declared.verdict.Verdict.{Verdict}
 use Rattle.rtcp_guard.specs.declared.verdict.Verdict.TheVariants.{Pass, Stranger, Crowd}
-use Rattle.rtcp_guard.specs.Claims.{Claim, claim_by, found, owner_in, put, with_names, after_lapse, is_named, is_by, held, is_too_many}
-use Rattle.rtcp_guard.specs.Guarding.{GuardStep, datagram_came, check_made, source_expected, origin_trusted, GuardValue, new_guard, after, after_verdict, after_names, before_which, may_have, has_too_many, limit_of, room_of, judged, verdict_by, verdict_on, unless_more, is_trusted, with_trusted}
+use Rattle.rtcp_guard.specs.Claims.{Claim, claim_by, found, owner_in, put, after_lapse, is_named, held}
+use Rattle.rtcp_guard.specs.Guarding.{GuardStep, datagram_came, check_made, source_expected, origin_trusted, GuardValue, after, after_names, before_which, may_have, has_too_many, limit_of, room_of, verdict_by, verdict_on, unless_more, is_trusted}
 use Rattle.rtcp_guard.specs.Histories.{guard_after, StandsAt, is_pass, is_passed, unless_lapsed, claim_of, owner_of}
-use Rattle.rtcp_guard.specs.Tables.{AreAbove, AreRising, IsBounded}
+use Rattle.rtcp_guard.specs.Tables.{AreRising, IsBounded}
 use Rattle.rtcp_guard.proofs.Orders.{missing_above, found_first}
 use Rattle.rtcp_guard.proofs.Putting.{found_put}
 use Rattle.rtcp_guard.proofs.Claiming.{found_names}
-use Rattle.rtcp_guard.proofs.Bounding.{bounded_lapse, bounded_passing, bounded_put, bounded_trust, pass_before}
+use Rattle.rtcp_guard.proofs.Bounding.{bounded_lapse, bounded_passing, bounded_put, bounded_trust}
 use Rattle.rtcp_guard.proofs.Deciding.{decided_whole, decided_more}
 
 -- ---- Settings stay

@@ -1,9 +1,9 @@
 -- How many claims there are once one was put among them, and which.
-use Rattle.std.proofs.Common.{◌≡◌, ◌<◌, ◌≤◌, ◌+◌, ◌==◌, ℕ, Bool, true, false, cond, List, [], ◌∷◌, filter, length, Option, Some, None, arith, refl, sym, ap, subst, ◌∙◌}
+use Rattle.std.proofs.Common.{◌≡◌, ◌≤◌, ◌+◌, ◌==◌, ℕ, Bool, true, false, cond, List, [], ◌∷◌, filter, length, Option, Some, None, arith, refl, sym, ap, ◌∙◌}
 use Rattle.std.proofs.lemmas.Bool.Decides.{nat_tests}
-use Rattle.rtcp_guard.specs.Claims.{Claim, found, put, is_by, held}
+use Rattle.rtcp_guard.specs.Claims.{Claim, found, put}
 use Rattle.rtcp_guard.specs.Tables.{AreRising}
-use Rattle.rtcp_guard.proofs.Orders.{Order, before, same, behind, order, put_before, put_same, put_behind, found_first, found_before, found_behind, missing_above}
+use Rattle.rtcp_guard.proofs.Orders.{before, same, behind, order, put_before, put_same, put_behind, found_first, found_before, found_behind, missing_above}
 
 -- ---- Which
 

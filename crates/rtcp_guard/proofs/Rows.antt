@@ -1,12 +1,12 @@
 -- Claims in cells.
-use Rattle.std.proofs.Common.{◌≡◌, ◌<◌, ◌≤◌, ◌+◌, ◌==◌, ℕ, zero, suc, nat_lt, Bool, true, false, cond, List, [], ◌∷◌, filter, map, length, set, take, drop, ◌++◌, slice_index_or, Option, Some, None, option_map, arith, refl, sym, ap, ◌∙◌}
+use Rattle.std.proofs.Common.{◌≡◌, ◌<◌, ◌≤◌, ◌+◌, ◌==◌, ℕ, zero, suc, nat_lt, Bool, true, false, cond, List, [], ◌∷◌, filter, length, set, take, drop, ◌++◌, slice_index_or, Some, None, option_map, arith, refl, sym, ap, ◌∙◌}
 use Rattle.std.specs.List.{insert}
 use Rattle.std.specs.List.Sorted.{IsNonDecreasingBy, IsPartitionPoint}
 use Rattle.std.proofs.lemmas.Bool.Decides.{nat_tests}
 use Rattle.std.proofs.lemmas.List.{get_or-map, length-append, length-map, map-append, map-set, take_at, take_more}
 use Rattle.std.proofs.lemmas.List.Elements.{filter-append}
 use Rattle.rtcp_guard.specs.declared.cells.Cell.{Cell}
-use Rattle.rtcp_guard.specs.Claims.{Claim, found, owner_in, put, is_by, held}
+use Rattle.rtcp_guard.specs.Claims.{Claim, owner_in, put, is_by, held}
 use Rattle.rtcp_guard.specs.Tables.{claim_in, claims_in, no_cell, AreRising, IsRankOf, IsGap}
 use Rattle.rtcp_guard.proofs.Putting.{one_if, tally_first}
 use Rattle.rtcp_guard.proofs.Orders.{rising_at, rank_found, rank_put, gap_found, gap_put, gap_at}

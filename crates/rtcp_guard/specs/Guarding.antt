@@ -1,5 +1,5 @@
 -- What becomes of each datagram, and what a guard keeps of it (RFC 3550, 8.2).
-use Rattle.std.specs.Prelude.{ℕ, ◌==◌, ◌||◌, ◌++◌, ◌+◌, ◌-◌, ◌*◌, ◌^◌, not, min, max, nat_lt, nat_le, Bool, List, [], ◌∷◌, length, take, if◌then◌else◌, Option, Some, None}
+use Rattle.std.specs.Prelude.{ℕ, ◌==◌, ◌||◌, ◌++◌, ◌+◌, ◌-◌, ◌*◌, ◌^◌, not, min, max, nat_lt, nat_le, Bool, List, [], ◌∷◌, length, take, if◌then◌else◌, Some, None}
 use Rattle.std.specs.List.{list_any}
 use Rattle.rtcp_guard.specs.Claims.{Claim, claim_by, put, with_names, after_lapse, is_strange, before_stranger, is_too_many}
 use Rattle.rtcp_guard.specs.declared.settings.Settings.{Settings}

@@ -1,5 +1,5 @@
 -- A guard over its history, the newest step first, and who owns a source by it (RFC 3550, 8.2).
-use Rattle.std.specs.Prelude.{ℕ, ◌≡◌, ◌==◌, ◌&&◌, ◌++◌, not, min, nat_le, Bool, true, false, List, [], ◌∷◌, if◌then◌else◌, Option, Some, None, option_map, is_some}
+use Rattle.std.specs.Prelude.{ℕ, ◌≡◌, ◌==◌, ◌&&◌, ◌++◌, not, nat_le, Bool, true, false, List, [], ◌∷◌, if◌then◌else◌, Option, Some, None, option_map, is_some}
 use Rattle.rtcp_guard.specs.declared.settings.Settings.{Settings}
 use Rattle.rtcp_guard.specs.declared.verdict.Verdict.{Verdict}
 use Rattle.rtcp_guard.specs.declared.verdict.Verdict.TheVariants.{Pass, Stranger, Crowd}

@@ -1,10 +1,10 @@
 //! The guard.
 
-ghost use Rattle.std.specs.Prelude.{◌≡◌, ◌≤◌, ◌*◌, ℕ, IfOk, length, not};
+ghost use Rattle.std.specs.Prelude.{◌≡◌, ◌≤◌, ◌*◌, ℕ, [], ◌∷◌, IfOk, length, not};
 ghost use Rattle.rtcp_guard.specs.Claims.{claim_by, held, is_too_many, put, with_names};
 ghost use Rattle.rtcp_guard.specs.Guarding.{after, after_verdict, check_made, counted, datagram_came, limit_of, may_have, may_trust, new_guard, origin_trusted, source_expected, unless_more, verdict_by, verdict_on};
 ghost use Rattle.rtcp_guard.specs.Tables.{AreRising};
-ghost use Rattle.rtcp_guard.specs.Naming.{names_of_compound, names_of_packet};
+ghost use Rattle.rtcp_guard.specs.Naming.{but, names_of_compound, names_of_packet};
 
 use crate::judging::{judge_each, own_all};
 use crate::naming::{FewNames, MAX_NAMES, Names, of_compound, of_packet};
@@ -81,11 +81,15 @@ impl Guard {
 
     /// A compound of an origin comes, to the participant `own`. It names the sources that its facts speak of
     /// (RFC 3550, 6.1), but the participant's own SSRC, which the guard does not look at. Else as [`Guard::arrive`].
-    // Few names are gathered where a call has room for them at once; more are not before the first ones pass.
+    // Of a compound about one source no fact is read. Few names are gathered where a call has room for them at once;
+    // more are not before the first ones pass.
     pub fn arrive_rtcp(&mut self, compound: &Compound<'_>, origin: u64, t: u64, own: u32) -> Verdict
         ensures verdict { result ≡ verdict_on origin t (names_of_compound own compound.now) self.old }
         ensures content { self.new ≡ after (datagram_came origin t (names_of_compound own compound.now)) self.old }
     {
+        if let Some(source) = compound.sole() {
+            return self.arrive_sole(source.ssrc, origin, t, own);
+        }
         let mut names = FewNames::new();
         if of_compound(compound, own, &mut names) {
             return self.arrive(names.as_slice(), origin, t);
@@ -154,6 +158,18 @@ impl Guard {
         ensures { result ≡ self.now.held_back }
     {
         self.held_back
+    }
+
+    /// A datagram that names one source.
+    #[inline(always)]
+    fn arrive_sole(&mut self, ssrc: u32, origin: u64, t: u64, own: u32) -> Verdict
+        ensures verdict { result ≡ verdict_on origin t (but own (ssrc ∷ [])) self.old }
+        ensures content { self.new ≡ after (datagram_came origin t (but own (ssrc ∷ []))) self.old }
+    {
+        if ssrc == own {
+            return self.arrive(&[], origin, t);
+        }
+        self.arrive(&[ssrc], origin, t)
     }
 
     /// The same as [`Guard::arrive_rtcp`], with room for many names.

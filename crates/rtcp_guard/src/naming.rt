@@ -15,7 +15,7 @@ pub(crate) type FewNames = ArrayVec<u32, 16>;
 /// Room for all names that a guard looks at.
 pub(crate) type Names = ArrayVec<u32, MAX_NAMES>;
 
-/// Gathers the sources that a compound speaks of, but `own`, as far as there is room. Whether there was for all.
+/// Gathers the sources that a compound speaks of, each once in a row, but `own`, as far as there is room. Whether there was for all.
 pub(crate) fn of_compound<const N: usize>(
     compound: &Compound<'_>,
     own: u32,
@@ -27,13 +27,15 @@ pub(crate) fn of_compound<const N: usize>(
     ensures many { result ≡ false → N < length (names_of_compound own compound.now) }
     ensures fits { length names.new.items ≤ N }
 {
+    let mut last = None;
     'facts: for fact in facts(compound) {
         let name = fact.ssrc();
-        if name != own {
+        if name != own && last != Some(name) {
             if names.is_full() {
                 return false;
             }
             names.push(name);
+            last = Some(name);
         }
     }
     true

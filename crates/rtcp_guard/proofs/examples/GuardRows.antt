@@ -1,7 +1,6 @@
 -- Rows of histories, the newest step first, and what is said of them. Each computes.
-use Rattle.std.proofs.Common.{◌≡◌, ℕ, true, false, List, [], ◌∷◌, Some, None, refl}
+use Rattle.std.proofs.Common.{◌≡◌, List, [], ◌∷◌, Some, None, refl}
 use Rattle.rtcp_guard.specs.declared.settings.Settings.{Settings}
-use Rattle.rtcp_guard.specs.declared.verdict.HeldBack.{HeldBack}
 use Rattle.rtcp_guard.specs.declared.verdict.Verdict.TheVariants.{Pass, Stranger, Crowd}
 use Rattle.rtcp_guard.specs.Guarding.{GuardStep, datagram_came, check_made, source_expected, origin_trusted, verdict_on}
 use Rattle.rtcp_guard.specs.Histories.{guard_after, owner_of, passed_about}

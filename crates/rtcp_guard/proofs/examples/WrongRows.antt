@@ -1,10 +1,10 @@
 -- What would be wrong: each statement here is a law with a bound that is reached or without one of its premises, and
 -- there is a history of which it does not hold.
-use Rattle.std.proofs.Common.{◌≡◌, ◌<◌, ◌≤◌, ◌+◌, ◌++◌, ℕ, true, false, List, [], ◌∷◌, length, Option, Some, None, refl, arith}
+use Rattle.std.proofs.Common.{◌≡◌, ◌<◌, ◌≤◌, ◌+◌, ◌++◌, ℕ, List, [], ◌∷◌, Option, Some, None, refl, arith}
 use Rattle.rtcp_guard.specs.declared.settings.Settings.{Settings}
-use Rattle.rtcp_guard.specs.declared.verdict.Verdict.TheVariants.{Pass, Stranger, Crowd}
-use Rattle.rtcp_guard.specs.Claims.{held, is_named, is_of_another, owner_in, with_names}
-use Rattle.rtcp_guard.specs.Guarding.{GuardStep, datagram_came, check_made, source_expected, GuardValue, after, limit_of, new_guard, verdict_on}
+use Rattle.rtcp_guard.specs.declared.verdict.Verdict.TheVariants.{Pass, Crowd}
+use Rattle.rtcp_guard.specs.Claims.{held, with_names}
+use Rattle.rtcp_guard.specs.Guarding.{GuardStep, datagram_came, check_made, source_expected, GuardValue, limit_of, new_guard, verdict_on}
 use Rattle.rtcp_guard.specs.Histories.{guard_after, owner_of, passed_about, without, IsClaimedThroughout, IsNotMoved}
 use Rattle.rtcp_guard.proofs.examples.GuardRows.{small, named_by_one}
 

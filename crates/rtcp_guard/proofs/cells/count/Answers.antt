@@ -1,5 +1,5 @@
 -- One more cell is counted.
-use Rattle.std.proofs.Common.{◌≡◌, ◌≤◌, ◌+◌, ◌==◌, ℕ, Bool, true, false, cond, take, slice_index_or, arith, refl, sym, ap, ◌∙◌}
+use Rattle.std.proofs.Common.{◌≡◌, ◌≤◌, ◌==◌, Bool, true, false, slice_index_or, arith, ap, ◌∙◌}
 use Rattle.std.proofs.lemmas.List.{take_all}
 use Rattle.rtcp_guard.specs.Claims.{held}
 use Rattle.rtcp_guard.specs.Tables.{claims_in, no_cell}

@@ -1,5 +1,5 @@
 -- One more cell is read.
-use Rattle.std.proofs.Common.{◌≡◌, ◌≤◌, min, take, slice_index_or, arith, sym, ap, subst, ◌∙◌}
+use Rattle.std.proofs.Common.{take, slice_index_or, arith, sym, subst}
 use Rattle.std.proofs.lemmas.List.{take_all}
 use Rattle.rtcp_guard.specs.Tables.{AreSince, claim_in, claims_in, no_cell}
 use Rattle.rtcp_guard.proofs.Ages.{since_earlier, since_push}

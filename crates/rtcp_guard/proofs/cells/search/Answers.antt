@@ -1,10 +1,10 @@
 -- The cells before the rank are lesser, and the one there is another's.
-use Rattle.std.proofs.Common.{rules, arith, ◌≡◌, ◌<◌, ℕ, nat_lt, length, slice_index_or, refl, sym, ap, ◌∙◌}
+use Rattle.std.proofs.Common.{rules, arith, nat_lt, ap, ◌∙◌}
 use Rattle.std.proofs.lemmas.List.{get_or_default}
 use Rattle.std.proofs.lemmas.List.Sorted.{IsPartitionPoint-from_clause, IsPartitionedBy-ltb}
 use Rattle.rtcp_guard.specs.declared.cells.Cell.{Cell}
 use Rattle.rtcp_guard.specs.Tables.{no_cell}
-use Rattle.rtcp_guard.proofs.Rows.{falls_nowhere, gap_parted, rank_read}
+use Rattle.rtcp_guard.proofs.Rows.{falls_nowhere, gap_parted}
 use Rattle.rtcp_guard.proofs.cells.search.Goals as goal
 use Rattle.rtcp_guard.proofs.cells.search.Goals.{else-rank-cells-via-then-rank-cells+else-cells-rank, else-rank-cells-via-else-rank-cells}
 

@@ -1,5 +1,5 @@
 -- One more name is put among the claims.
-use Rattle.std.proofs.Common.{◌≡◌, ◌≤◌, ◌+◌, ◌∷◌, arith, length, drop, get_or, sym, ap, subst, ◌∙◌}
+use Rattle.std.proofs.Common.{◌≡◌, ◌+◌, arith, length, drop, get_or, sym, ap, subst, ◌∙◌}
 use Rattle.std.proofs.lemmas.List.{at_drop_more, at_drop_all}
 use Rattle.rtcp_guard.specs.Claims.{claim_by, put, with_names}
 use Rattle.rtcp_guard.specs.Tables.{AreRising}

@@ -1,5 +1,5 @@
 -- By whose the source is, one more is counted or not.
-use Rattle.std.proofs.Common.{◌≡◌, ◌==◌, ◌≤◌, nat_lt, true, false, Some, None, ℕ, arith, sym, ap, ◌∙◌}
+use Rattle.std.proofs.Common.{◌≡◌, ◌==◌, nat_lt, true, false, Some, ℕ, arith, sym, ap, ◌∙◌}
 use Rattle.std.proofs.lemmas.Bool.Decides.{nat_tests}
 use Rattle.rtcp_guard.proofs.Expecting.{may_keep, may_move, may_join, may_not_join}
 use Rattle.rtcp_guard.proofs.guard.may_put.Goals as goal

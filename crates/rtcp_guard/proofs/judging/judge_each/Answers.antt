@@ -1,7 +1,7 @@
 -- Each name that is seen is counted, and the first that is not passed says the verdict.
-use Rattle.std.proofs.Common.{◌≡◌, ◌<◌, ◌≤◌, ◌+◌, ◌-◌, ◌++◌, ◌∷◌, [], ℕ, length, take, drop, get_or, min, true, false, Some, arith, sym, ap, subst, ◌∙◌}
+use Rattle.std.proofs.Common.{◌≡◌, ◌<◌, ◌≤◌, ◌+◌, ◌-◌, ◌++◌, ◌∷◌, [], ℕ, length, take, drop, get_or, min, true, Some, arith, sym, ap, subst, ◌∙◌}
 use Rattle.std.proofs.lemmas.List.{take_more, take-append-drop, drop_more, take_all}
-use Rattle.rtcp_guard.specs.Claims.{is_named, is_of_another, owner_in, held}
+use Rattle.rtcp_guard.specs.Claims.{is_of_another, owner_in, held}
 use Rattle.rtcp_guard.specs.Guarding.{judged}
 use Rattle.rtcp_guard.proofs.Counting.{IsCounted, counted_as, counted_own, counted_again, counted_new, judged_strange, judged_crowd, judged_pass, other_owner, spare_is}
 use Rattle.rtcp_guard.proofs.judging.judge_each.Goals as goal

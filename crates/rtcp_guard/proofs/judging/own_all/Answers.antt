@@ -1,5 +1,5 @@
 -- One more source belongs to the origin.
-use Rattle.std.proofs.Common.{◌≡◌, ◌+◌, ◌++◌, ◌∷◌, [], ℕ, Some, Option, true, false, not, take, get_or, rules, tests, refl, sym, ap, subst, ◌∙◌}
+use Rattle.std.proofs.Common.{◌≡◌, Some, take, get_or, sym, ap, ◌∙◌}
 use Rattle.std.proofs.lemmas.List.{take_more}
 use Rattle.rtcp_guard.specs.Claims.{is_named, owner_in}
 use Rattle.rtcp_guard.specs.Tables.{TableValue}

@@ -1,10 +1,10 @@
 -- The names so far and those that are left are all names.
 use Rattle.std.proofs.Common.{◌≡◌, ◌≤◌, ◌++◌, length}
-use Rattle.rtcp_guard.specs.Naming.{names_of_facts, names_of_compound}
+use Rattle.rtcp_guard.specs.Naming.{names_after, names_of_compound}
 use Rattle.rtcp_guard.proofs.naming.of_compound.Given as goal
 
 abbrev pub invariant-facts : goal.invariant-facts
 invariant-facts g l = record {
-  goes_on : l.names.items ++ names_of_facts l.own l.fact-iterator ≡ names_of_compound l.own l.compound;
+  goes_on : l.names.items ++ names_after l.own l.last l.fact-iterator ≡ names_of_compound l.own l.compound;
   fits : length l.names.items ≤ g.row.N;
 }

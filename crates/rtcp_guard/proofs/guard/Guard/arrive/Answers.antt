@@ -1,7 +1,7 @@
 -- All names are looked at, or the first 512.
-use Rattle.std.proofs.Common.{◌≡◌, ◌≤◌, arith, length, take, true, sym, ap, ◌∙◌}
+use Rattle.std.proofs.Common.{arith, take, sym, ap, ◌∙◌}
 use Rattle.std.proofs.lemmas.List.{length-take-le}
-use Rattle.rtcp_guard.specs.Guarding.{after_verdict, unless_more, verdict_by}
+use Rattle.rtcp_guard.specs.Guarding.{after_verdict, verdict_by}
 use Rattle.rtcp_guard.proofs.Deciding.{decided_whole, decided_more, held_any, unless_false}
 use Rattle.rtcp_guard.proofs.guard.Guard.arrive.Goals as goal
 

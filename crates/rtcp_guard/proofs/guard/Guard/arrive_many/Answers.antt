@@ -1,5 +1,5 @@
 -- All names were gathered, or the first 512.
-use Rattle.std.proofs.Common.{◌≡◌, ◌<◌, ◌≤◌, ℕ, Bool, true, false, not, cond, List, length, take, refl, sym, ap, subst, ◌∙◌}
+use Rattle.std.proofs.Common.{◌≡◌, ◌<◌, ◌≤◌, ℕ, Bool, true, false, not, List, length, take, refl, sym, ap, subst, ◌∙◌}
 use Rattle.rtcp_guard.specs.Guarding.{GuardValue, after_verdict, unless_more, verdict_by, verdict_on}
 use Rattle.rtcp_guard.specs.Naming.{names_of_compound}
 use Rattle.rtcp_guard.specs.declared.verdict.Verdict.{Verdict}

@@ -1,8 +1,7 @@
 -- What passes keeps the bounds.
-use Rattle.std.proofs.Common.{◌≡◌, ◌≤◌, arith, length, sym, ap, subst, ◌∙◌}
-use Rattle.rtcp_guard.specs.Claims.{with_names}
+use Rattle.std.proofs.Common.{◌≡◌, arith, sym, ap, subst, ◌∙◌}
 use Rattle.rtcp_guard.specs.Guarding.{GuardValue, verdict_by}
-use Rattle.rtcp_guard.specs.Tables.{IsBounded, TableValue}
+use Rattle.rtcp_guard.specs.Tables.{IsBounded}
 use Rattle.rtcp_guard.specs.declared.verdict.Verdict.TheVariants.{Pass}
 use Rattle.rtcp_guard.proofs.Bounding.{bounded_passing, pass_before}
 use Rattle.rtcp_guard.proofs.guard.Guard.decide.Goals as goal

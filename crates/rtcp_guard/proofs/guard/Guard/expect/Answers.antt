@@ -1,5 +1,5 @@
 -- A source that the origin may have keeps the bounds.
-use Rattle.std.proofs.Common.{◌≡◌, ◌≤◌, arith, length, sym, ap, subst, ◌∙◌}
+use Rattle.std.proofs.Common.{sym, ap, subst, ◌∙◌}
 use Rattle.rtcp_guard.specs.Guarding.{GuardValue, limit_of, room_of}
 use Rattle.rtcp_guard.specs.Tables.{IsBounded}
 use Rattle.rtcp_guard.proofs.Bounding.{bounded_expected}

@@ -1,5 +1,5 @@
 -- The origin's own sources are as few as before.
-use Rattle.std.proofs.Common.{◌≡◌, sym, ap, ◌∙◌}
+use Rattle.std.proofs.Common.{ap, ◌∙◌}
 use Rattle.rtcp_guard.specs.Guarding.{GuardValue, verdict_by}
 use Rattle.rtcp_guard.proofs.Bounding.{own_pass}
 use Rattle.rtcp_guard.proofs.guard.Guard.judge.Goals as goal

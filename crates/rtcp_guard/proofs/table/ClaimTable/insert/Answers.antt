@@ -1,8 +1,7 @@
 -- The claim stands in its gap.
-use Rattle.std.proofs.Common.{◌≡◌, ◌<◌, ◌≤◌, ◌+◌, rules, arith, List, length, min, if◌then◌else◌, is_ok, true, cond, take, drop, ◌++◌, sym, ap, subst, ◌∙◌}
+use Rattle.std.proofs.Common.{◌≡◌, ◌<◌, ◌+◌, arith, length, min, cond, take, drop, ◌++◌, sym, ap, subst, ◌∙◌}
 use Rattle.std.specs.List.{insert}
-use Rattle.rtcp_guard.specs.declared.cells.Cell.{Cell}
-use Rattle.rtcp_guard.specs.Claims.{Claim, claim_by, put}
+use Rattle.rtcp_guard.specs.Claims.{claim_by, put}
 use Rattle.rtcp_guard.specs.Tables.{AreRising, AreSince, IsGap, TableValue, claims_in}
 use Rattle.rtcp_guard.proofs.Ages.{since_named}
 use Rattle.rtcp_guard.proofs.Orders.{gap_within, rising_put}

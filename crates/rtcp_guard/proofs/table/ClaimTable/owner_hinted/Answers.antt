@@ -1,7 +1,7 @@
 -- The claim of the rank is the source's, and in a gap there is none.
 use Rattle.std.proofs.Common.{sym, ap, subst, ◌∙◌}
 use Rattle.rtcp_guard.specs.Claims.{owner_in}
-use Rattle.rtcp_guard.specs.Tables.{IsGap, IsRankOf, TableValue, claims_in}
+use Rattle.rtcp_guard.specs.Tables.{IsGap, IsRankOf, TableValue}
 use Rattle.rtcp_guard.proofs.Rows.{owner_at_rank, owner_at_gap}
 use Rattle.rtcp_guard.proofs.table.ClaimTable.owner_hinted.Goals as goal
 use Rattle.rtcp_guard.proofs.table.ClaimTable.owner_hinted.Goals.{in-Ok, in-Err}

@@ -1,8 +1,8 @@
 -- The claim of the rank is written.
-use Rattle.std.proofs.Common.{◌≡◌, rules, arith, length, min, set, sym, ap, subst, ◌∙◌}
+use Rattle.std.proofs.Common.{◌≡◌, arith, min, set, sym, ap, subst, ◌∙◌}
 use Rattle.std.proofs.lemmas.List.{length-set}
 use Rattle.rtcp_guard.specs.declared.cells.Cell.{Cell}
-use Rattle.rtcp_guard.specs.Claims.{Claim, claim_by, put}
+use Rattle.rtcp_guard.specs.Claims.{claim_by, put}
 use Rattle.rtcp_guard.specs.Tables.{AreRising, AreSince, IsRankOf, TableValue, claim_in, claims_in}
 use Rattle.rtcp_guard.proofs.Ages.{since_named}
 use Rattle.rtcp_guard.proofs.Orders.{rising_put}
