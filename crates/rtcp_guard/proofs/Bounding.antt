@@ -80,13 +80,14 @@ bounded_where settings trusted origin claims next bounded rising enough fewer =
     let parts = too_many_parts (limit_of origin settings trusted) (room_of settings) origin next enough in
     record {
       rising = rising;
-      few = λ other. elim (origin == other) as (λ b. origin == other ≡ b → held other next ≤ limit_of other settings trusted) [
-        | true ↦ λ e. subst (λ o. held o next ≤ limit_of o settings trusted) (eqb-true origin other e) parts.0
-        | false ↦ λ e.
-            let less = fewer other e in
-            let few = bounded.few other in
-            omega (arith, less, few)
-      ] refl;
+      few = λ other. elim (origin == other) as (λ b. origin == other ≡ b →
+          held other next ≤ limit_of other settings trusted) [
+            | true ↦ λ e. subst (λ o. held o next ≤ limit_of o settings trusted) (eqb-true origin other e) parts.0
+            | false ↦ λ e.
+                let less = fewer other e in
+                let few = bounded.few other in
+                omega (arith, less, few)
+          ] refl;
       within = parts.1;
     }
 
@@ -167,6 +168,7 @@ pub own_pass : (guard : GuardValue) (origin moment : ℕ) (names : List ℕ) →
 own_pass guard origin moment names bounded own =
     let few = bounded.few origin in
     let within = bounded.within in
-    judged_pass (limit_of origin guard.settings guard.trusted) (room_of guard.settings) origin moment guard.claims names 0
+    judged_pass (limit_of origin guard.settings guard.trusted) (room_of guard.settings) origin moment guard.claims names
+    0
     (counted_all origin moment guard.claims [] names bounded.rising own (counted_none origin moment guard.claims))
     (omega (arith, few)) (omega (arith, within))

@@ -12,7 +12,8 @@ module _ (origin moment : ℕ) where
       AreRising (with_names origin moment names claims)
   rising_names [] claims rising = rising
   rising_names (ssrc ∷ rest) claims rising =
-      rising_names rest (put (claim_by origin moment ssrc) claims) (rising_put (claim_by origin moment ssrc) claims rising)
+      rising_names rest (put (claim_by origin moment ssrc) claims)
+      (rising_put (claim_by origin moment ssrc) claims rising)
 
   pub names_append : (names more : List ℕ) (claims : List Claim) → with_names origin moment (names ++ more) claims
       ≡ with_names origin moment more (with_names origin moment names claims)

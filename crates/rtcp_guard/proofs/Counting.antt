@@ -183,8 +183,10 @@ module _ (limit room origin moment : ℕ) (claims : List Claim) (seen : List ℕ
   few_enough few within =
       let has = so.has in
       let long = so.long in
-      let one : nat_lt limit (held origin (with_names origin moment seen claims)) ≡ false = grind (arith, nat_tests, has, few) in
-      let other : nat_lt room (length (with_names origin moment seen claims)) ≡ false = grind (arith, nat_tests, long, within) in
+      let one : nat_lt limit (held origin (with_names origin moment seen claims)) ≡ false =
+      grind (arith, nat_tests, has, few) in
+      let other : nat_lt room (length (with_names origin moment seen claims)) ≡ false =
+      grind (arith, nat_tests, long, within) in
       (λ i. one i || other i)
 
   pub judged_strange : (n : ℕ) → held origin claims + fresh ≤ limit →
@@ -194,7 +196,8 @@ module _ (limit room origin moment : ℕ) (claims : List Claim) (seen : List ℕ
       let names : List ℕ = seen ++ n ∷ rest in
       let stops : before_stranger origin names claims ≡ seen ++ [] = before_more origin claims seen (n ∷ rest) so.its
       ∙ ap (λ b. seen ++ cond b [] (n ∷ before_stranger origin rest claims)) strange in
-      let enough : is_too_many limit room origin (with_names origin moment (before_stranger origin names claims) claims) ≡ false
+      let enough : is_too_many limit room origin (with_names origin moment (before_stranger origin names claims) claims)
+      ≡ false
       = ap (λ ns. is_too_many limit room origin (with_names origin moment ns claims)) stops
       ∙ ap (is_too_many limit room origin) (names_append origin moment seen [] claims) ∙ few_enough few within in
       let is : is_strange origin names claims ≡ true = strange_more origin claims seen (n ∷ rest) so.its
@@ -216,8 +219,10 @@ module _ (limit room origin moment : ℕ) (claims : List Claim) (seen : List ℕ
       let too : is_too_many limit room origin (with_names origin moment more then) ≡ true =
       many_one (held origin (with_names origin moment more then)) (length (with_names origin moment more then))
       (λ few. let over = many (omega (arith, few, grows, has)) in omega (arith, over, longer, long)) in
-      let is : is_too_many limit room origin (with_names origin moment (before_stranger origin names claims) claims) ≡ true
-      = ap (λ ns. is_too_many limit room origin (with_names origin moment ns claims)) (before_more origin claims seen rest so.its)
+      let is : is_too_many limit room origin (with_names origin moment (before_stranger origin names claims) claims)
+      ≡ true
+      = ap (λ ns. is_too_many limit room origin (with_names origin moment ns claims))
+      (before_more origin claims seen rest so.its)
       ∙ ap (is_too_many limit room origin) (names_append origin moment seen more claims) ∙ too in
       sym (ap (λ b. cond b Crowd (cond (is_strange origin names claims) Stranger Pass)) is)
     where
@@ -238,7 +243,8 @@ judged_pass limit room origin moment claims names fresh so few within =
     ∙ before_more origin claims names [] so.its ∙ nil in
     let none : is_strange origin names claims ≡ false = ap (λ ns. is_strange origin ns claims) (sym nil)
     ∙ strange_more origin claims names [] so.its in
-    let enough : is_too_many limit room origin (with_names origin moment (before_stranger origin names claims) claims) ≡ false
+    let enough : is_too_many limit room origin (with_names origin moment (before_stranger origin names claims) claims)
+    ≡ false
     = ap (λ ns. is_too_many limit room origin (with_names origin moment ns claims)) all
     ∙ few_enough limit room origin moment claims names fresh [] so few within in
     sym (λ i. cond (enough i) Crowd (cond (none i) Stranger Pass))

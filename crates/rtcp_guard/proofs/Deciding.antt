@@ -77,7 +77,8 @@ still_many limit room origin moment more claims rising many =
     grown : (h l h' l' : ℕ) → h ≤ h' → l ≤ l' → nat_lt limit h || nat_lt room l ≡ true →
         nat_lt limit h' || nat_lt room l' ≡ true
     grown h l h' l' more longer is =
-        elim (nat_lt limit h) as (λ b. nat_lt limit h ≡ b → b || nat_lt room l ≡ true → nat_lt limit h' || nat_lt room l' ≡ true) [
+        elim (nat_lt limit h) as (λ b. nat_lt limit h ≡ b → b || nat_lt room l ≡ true →
+        nat_lt limit h' || nat_lt room l' ≡ true) [
           | true ↦ λ e is.
               let less : limit < h = grind (arith, nat_tests, e) in
               let then : limit < h' = omega (arith, less, more) in
@@ -109,7 +110,8 @@ module _ (limit room origin moment : ℕ) (claims : List Claim) (xs ys : List �
       judged limit room origin moment (xs ++ ys) claims ≡ Stranger
   part_strange is =
       let parts = when_strange (many xs) (is_strange origin xs claims) is in
-      let fewer : many (xs ++ ys) ≡ false = ap (λ ns. is_too_many limit room origin (with_names origin moment ns claims))
+      let fewer : many (xs ++ ys) ≡ false =
+      ap (λ ns. is_too_many limit room origin (with_names origin moment ns claims))
       (before_first origin claims xs ys parts.1) ∙ parts.0 in
       let strange : is_strange origin (xs ++ ys) claims ≡ true =
       list_any-append (λ ssrc. is_of_another origin (owner_in ssrc claims)) xs ys

@@ -33,7 +33,8 @@ few_pass guard origin moment names short own few within =
     ∙ strange_more origin claims names [] own in
     let one : nat_lt limit (held origin then) ≡ false = grind (arith, nat_tests, few) in
     let other : nat_lt room (length then) ≡ false = grind (arith, nat_tests, within) in
-    let enough : is_too_many limit room origin (with_names origin moment (before_stranger origin names claims) claims) ≡ false
+    let enough : is_too_many limit room origin (with_names origin moment (before_stranger origin names claims) claims)
+    ≡ false
     = ap (λ ns. is_too_many limit room origin (with_names origin moment ns claims)) all ∙ (λ i. one i || other i) in
     decided_whole origin moment names guard short ∙ (λ i. cond (enough i) Crowd (cond (none i) Stranger Pass))
 
@@ -63,7 +64,8 @@ passed_is_own settings origin moment names earlier ssrc owner owns named passes 
     let pass : verdict_on origin moment names guard ≡ Pass = when_pass (verdict_on origin moment names guard) passes in
     let own = (when_passed (limit_of origin guard.settings guard.trusted) (room_of guard.settings) origin moment names
     guard.claims (passed_whole origin moment names guard pass).1).own in
-    let is : is_of_another origin (owner_in ssrc guard.claims) ≡ false = each_own origin ssrc names guard.claims own named in
+    let is : is_of_another origin (owner_in ssrc guard.claims) ≡ false = each_own origin ssrc names guard.claims own
+    named in
     let its : owner_in ssrc guard.claims ≡ Some owner = owner_after settings earlier ssrc ∙ owns in
     let same : not (owner == origin) ≡ false = sym (ap (is_of_another origin) its) ∙ is in
     elim (owner == origin) as (λ b. owner == origin ≡ b → not b ≡ false → origin ≡ owner) [
@@ -74,7 +76,8 @@ passed_is_own settings origin moment names earlier ssrc owner owns named passes 
 -- ---- The owner stays
 
 module _ (settings : Settings) (ssrc owner : ℕ) where
-  pub keeps_before : (step : GuardStep) (newer older : List GuardStep) → Keeps settings ssrc owner (step ∷ newer) older →
+  pub keeps_before : (step : GuardStep) (newer older : List GuardStep) →
+      Keeps settings ssrc owner (step ∷ newer) older →
       Keeps settings ssrc owner newer older
   keeps_before (datagram_came origin moment names) newer older keeps =
       record { owns = keeps.owns; claimed = keeps.claimed.1; unmoved = keeps.unmoved }
@@ -89,7 +92,8 @@ module _ (settings : Settings) (ssrc owner : ℕ) where
       option_map (λ (claim : Claim). claim.origin) o ≡ Some owner →
       option_map (λ (claim : Claim). claim.origin) (unless_lapsed before o) ≡ Some owner
   still_there before None is e = absurd cc
-  still_there before (Some claim) is e = elim (nat_le before claim.last) as (λ b. is_some (cond b (Some claim) None) ≡ true →
+  still_there before (Some claim) is e =
+      elim (nat_le before claim.last) as (λ b. is_some (cond b (Some claim) None) ≡ true →
       option_map (λ (claim : Claim). claim.origin) (cond b (Some claim) None) ≡ Some owner) [
         | true ↦ λ is. e
         | false ↦ λ is. absurd cc
@@ -120,7 +124,8 @@ module _ (settings : Settings) (ssrc owner : ℕ) where
       (owner_stays newer older (keeps_before (check_made moment silent) newer older keeps))
   owner_stays (source_expected other origin moment ∷ newer) older keeps =
       ap (λ b. option_map (λ (claim : Claim). claim.origin) (cond (b && may_have other origin moment
-      (guard_after settings (newer ++ older))) (Some (claim_by origin moment ssrc)) (claim_of settings ssrc (newer ++ older))))
+      (guard_after settings (newer ++ older))) (Some (claim_by origin moment ssrc))
+      (claim_of settings ssrc (newer ++ older))))
       keeps.unmoved.0
       ∙ owner_stays newer older (keeps_before (source_expected other origin moment) newer older keeps)
   owner_stays (origin_trusted origin ∷ newer) older keeps =
@@ -169,9 +174,11 @@ module _ (settings : Settings) (ssrc owner : ℕ) where
       is_passed settings origin moment names earlier ≡ false
   held_back origin moment names earlier owns others =
       let parts = both (not (origin == owner)) (is_named ssrc names) others in
-      elim (is_passed settings origin moment names earlier) as (λ b. is_passed settings origin moment names earlier ≡ b → b ≡ false) [
+      elim (is_passed settings origin moment names earlier) as (λ b. is_passed settings origin moment names earlier
+      ≡ b → b ≡ false) [
         | true ↦ λ passes.
-            let same : origin ≡ owner = passed_is_own settings origin moment names earlier ssrc owner owns parts.1 passes in
+            let same : origin ≡ owner = passed_is_own settings origin moment names earlier ssrc owner owns parts.1
+            passes in
             let is : origin == owner ≡ true = grind (arith, nat_tests, same) in
             absurd (never (sym (ap not is) ∙ parts.0))
         | false ↦ λ e. refl
@@ -191,7 +198,11 @@ module _ (settings : Settings) (ssrc owner : ℕ) where
       is_others ssrc owner step ≡ true →
       core (after step (guard_after settings earlier)) ≡ core (guard_after settings earlier)
   others_change_nothing (datagram_came origin moment names) earlier owns others =
-      ap (λ (claims : List Claim). record (guard_after settings earlier) { claims = claims; held_back = nothing_held_back })
+      ap (λ (claims : List Claim). record (guard_after settings earlier) {
+        claims = claims;
+        held_back =
+            nothing_held_back;
+      })
       (names_held origin moment names (verdict_on origin moment names (guard_after settings earlier))
       (guard_after settings earlier).claims (held_back origin moment names earlier owns others))
   others_change_nothing (check_made moment silent) earlier owns others = absurd cc

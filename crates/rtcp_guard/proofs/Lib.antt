@@ -1,13 +1,30 @@
+-- A map of the proofs. Beside these modules, a folder of the name of a file of src/ has the proofs of its functions.
+
+-- Claims by rising SSRC: where a source stands, and what is put among them.
 pub mod Orders
+-- How many claims pass a test once one was put among them, and which are found.
 pub mod Putting
+-- The same once an origin named sources.
 pub mod Claiming
-pub mod Rows
-pub mod Counting
-pub mod Bounding
-pub mod Expecting
-pub mod Deciding
-pub mod Owning
-pub mod Interfering
-mod examples
+-- Since when all sources were named.
 pub mod Ages
+-- The cells in which claims lie.
+pub mod Rows
+-- A datagram's names, counted, and the verdict by them.
+pub mod Counting
+-- The verdict by the first names of a datagram.
+pub mod Deciding
+-- No origin has more sources than it may.
+pub mod Bounding
+-- What the host may expect.
+pub mod Expecting
+-- Compounds that are about one source.
 pub mod Soles
+-- Who owns a source by the history.
+pub mod Owning
+-- One origin speaks for a source, and the others do not interfere.
+pub mod Interfering
+-- An origin that names only the same few sources.
+pub mod Fewness
+-- Rows of histories, and what would be wrong of them.
+mod examples

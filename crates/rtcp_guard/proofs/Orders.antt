@@ -29,7 +29,8 @@ module _ (claim first : Claim) (rest : List Claim) where
   pub put_before : first.ssrc < claim.ssrc → put claim (first ∷ rest) ≡ first ∷ put claim rest
   put_before less =
       let is : nat_lt first.ssrc claim.ssrc ≡ true = grind (arith, nat_tests, less) in
-      ap (λ b. cond b (first ∷ put claim rest) (cond (first.ssrc == claim.ssrc) (claim ∷ rest) (claim ∷ first ∷ rest))) is
+      ap (λ b. cond b (first ∷ put claim rest) (cond (first.ssrc == claim.ssrc) (claim ∷ rest) (claim ∷ first ∷ rest)))
+      is
 
   pub put_same : first.ssrc ≡ claim.ssrc → put claim (first ∷ rest) ≡ claim ∷ rest
   put_same e =

@@ -131,13 +131,15 @@ found_lapse before ssrc (first ∷ rest) rising =
       | true ↦ λ e.
           let same : first.ssrc ≡ ssrc = eqb-true first.ssrc ssrc e in
           let none : found ssrc rest ≡ None = missing_above ssrc first.ssrc rest (omega (arith, same)) rising.0 in
-          elim (nat_le before first.last) as (λ b. found ssrc (cond b (first ∷ after_lapse before rest) (after_lapse before rest))
+          elim (nat_le before first.last) as (λ b. found ssrc
+          (cond b (first ∷ after_lapse before rest) (after_lapse before rest))
           ≡ cond b (Some first) None) [
             | true ↦ found_first ssrc first (after_lapse before rest) same
             | false ↦ found_lapse before ssrc rest rising.1 ∙ ap (unless_lapsed before) none
           ]
       | false ↦ λ e.
-          elim (nat_le before first.last) as (λ b. found ssrc (cond b (first ∷ after_lapse before rest) (after_lapse before rest))
+          elim (nat_le before first.last) as (λ b. found ssrc
+          (cond b (first ∷ after_lapse before rest) (after_lapse before rest))
           ≡ unless_lapsed before (found ssrc rest)) [
             | true ↦ ap (λ (b : Bool). cond b (Some first) (found ssrc (after_lapse before rest))) e
                 ∙ found_lapse before ssrc rest rising.1
@@ -170,7 +172,8 @@ found_verdict origin moment ssrc names Crowd claims =
 
 found_expected : (ssrc other origin moment : ℕ) (guard : GuardValue) →
     found ssrc (after (source_expected other origin moment) guard).claims
-    ≡ cond (other == ssrc && may_have other origin moment guard) (Some (claim_by origin moment ssrc)) (found ssrc guard.claims)
+    ≡ cond (other == ssrc && may_have other origin moment guard) (Some (claim_by origin moment ssrc))
+    (found ssrc guard.claims)
 found_expected ssrc other origin moment guard =
     elim (may_have other origin moment guard) as (λ b. found ssrc (cond b (record guard {
       claims = put (claim_by origin
@@ -178,7 +181,8 @@ found_expected ssrc other origin moment guard =
     }) guard).claims
     ≡ cond (other == ssrc && b) (Some (claim_by origin moment ssrc)) (found ssrc guard.claims)) [
       | true ↦ found_put ssrc (claim_by origin moment other) guard.claims
-          ∙ elim (other == ssrc) as (λ b. other == ssrc ≡ b → cond b (Some (claim_by origin moment other)) (found ssrc guard.claims)
+          ∙ elim (other == ssrc) as (λ b. other == ssrc ≡ b →
+          cond b (Some (claim_by origin moment other)) (found ssrc guard.claims)
           ≡ cond (b && true) (Some (claim_by origin moment ssrc)) (found ssrc guard.claims)) [
             | true ↦ λ e. ap (λ s. Some (claim_by origin moment s)) (eqb-true other ssrc e)
             | false ↦ λ e. refl
@@ -201,7 +205,8 @@ found_after settings (datagram_came origin moment names ∷ earlier) ssrc =
 found_after settings (check_made moment silent ∷ earlier) ssrc =
     found_lapse (before_which moment silent (guard_after settings earlier).settings) ssrc
     (guard_after settings earlier).claims (rising_after settings earlier)
-    ∙ (λ i. unless_lapsed (before_which moment silent (its_settings settings earlier i)) (found_after settings earlier ssrc i))
+    ∙ (λ i. unless_lapsed (before_which moment silent (its_settings settings earlier i))
+    (found_after settings earlier ssrc i))
 found_after settings (source_expected other origin moment ∷ earlier) ssrc =
     found_expected ssrc other origin moment (guard_after settings earlier)
     ∙ ap (λ o. cond (other == ssrc && may_have other origin moment (guard_after settings earlier))

@@ -52,7 +52,8 @@ weight test (Some claim) = one_if (test claim)
 pub tally_first : (test : Claim → Bool) (first : Claim) (rest : List Claim) →
     tally test (first ∷ rest) ≡ one_if (test first) + tally test rest
 tally_first test first rest =
-    elim (test first) as (λ b. length (cond b (first ∷ filter test rest) (filter test rest)) ≡ one_if b + tally test rest) [
+    elim (test first) as (λ b. length (cond b (first ∷ filter test rest) (filter test rest)) ≡ one_if b + tally test
+    rest) [
       | true ↦ omega arith
       | false ↦ omega arith
     ]

@@ -79,7 +79,8 @@ rank_read ssrc cells at d within is = record {
   its_ssrc = λ e. its_ssrc cells at d e within ∙ is;
 }
 
-pub falls_nowhere : (cells : List Cell) → AreRising (claims_in cells) → IsNonDecreasingBy (λ (cell : Cell). cell.ssrc) cells
+pub falls_nowhere : (cells : List Cell) → AreRising (claims_in cells) →
+    IsNonDecreasingBy (λ (cell : Cell). cell.ssrc) cells
 falls_nowhere cells rising i j d order within =
     let less = rising_at (claims_in cells) i j (claim_in d) rising order (omega (arith, within, as_many cells)) in
     let one = its_ssrc cells i d (claim_in d) (omega (arith, order, within)) in
@@ -116,7 +117,8 @@ gap_parted ssrc cells at within parted other =
 -- ---- Edits
 
 pub written : (cells : List Cell) (at : ℕ) (cell : Cell) (claim : Claim) → AreRising (claims_in cells) →
-    IsRankOf claim.ssrc (claims_in cells) at → claim_in cell ≡ claim → claims_in (set cells at cell) ≡ put claim (claims_in cells)
+    IsRankOf claim.ssrc (claims_in cells) at → claim_in cell ≡ claim →
+    claims_in (set cells at cell) ≡ put claim (claims_in cells)
 written cells at cell claim rising rank is =
     cell_written cells at cell ∙ ap (set (claims_in cells) at) is
     ∙ sym (rank_put claim (claims_in cells) at claim rising rank.within (rank.its_ssrc claim))
@@ -124,7 +126,8 @@ written cells at cell claim rising rank is =
 pub put_in_gap : (cells : List Cell) (gap : ℕ) (cell : Cell) (claim : Claim) → IsGap claim.ssrc (claims_in cells) gap →
     claim_in cell ≡ claim → claims_in (insert cells gap cell) ≡ put claim (claims_in cells)
 put_in_gap cells gap cell claim is value =
-    claims_inserted cells gap cell ∙ ap (insert (claims_in cells) gap) value ∙ sym (gap_put claim (claims_in cells) gap is)
+    claims_inserted cells gap cell ∙ ap (insert (claims_in cells) gap) value
+    ∙ sym (gap_put claim (claims_in cells) gap is)
 
 -- ---- One cell more
 

@@ -1,5 +1,6 @@
 -- A guard over its history, the newest step first, and who owns a source by it (RFC 3550, 8.2).
 use Rattle.std.specs.Prelude.{ℕ, ◌≡◌, ◌==◌, ◌&&◌, ◌++◌, not, nat_le, Bool, true, false, List, [], ◌∷◌, if◌then◌else◌, Option, Some, None, option_map, is_some}
+use Rattle.std.specs.List.{list_all}
 use Rattle.rtcp_guard.specs.declared.settings.Settings.{Settings}
 use Rattle.rtcp_guard.specs.declared.verdict.Verdict.{Verdict}
 use Rattle.rtcp_guard.specs.declared.verdict.Verdict.TheVariants.{Pass, Stranger, Crowd}
@@ -42,7 +43,8 @@ claim_of settings ssrc (datagram_came origin moment names ∷ earlier) =
 claim_of settings ssrc (check_made moment silent ∷ earlier) =
     unless_lapsed (before_which moment silent settings) (claim_of settings ssrc earlier)
 claim_of settings ssrc (source_expected other origin moment ∷ earlier) =
-    if other == ssrc && may_have other origin moment (guard_after settings earlier) then Some (claim_by origin moment ssrc)
+    if other == ssrc && may_have other origin moment (guard_after settings earlier) then Some
+    (claim_by origin moment ssrc)
     else claim_of settings ssrc earlier
 claim_of settings ssrc (origin_trusted origin ∷ earlier) = claim_of settings ssrc earlier
 
@@ -81,6 +83,21 @@ AreOf settings ssrc owner (datagram_came origin moment names ∷ newer) older =
 AreOf settings ssrc owner (check_made moment silent ∷ newer) older = AreOf settings ssrc owner newer older
 AreOf settings ssrc owner (source_expected other origin moment ∷ newer) older = AreOf settings ssrc owner newer older
 AreOf settings ssrc owner (origin_trusted origin ∷ newer) older = AreOf settings ssrc owner newer older
+
+-- ---- What an origin says
+
+abbrev pub are_among : (few names : List ℕ) → Bool
+are_among few names = list_all (λ name. is_named name few) names
+
+-- An origin names only these sources, and is expected to have no other.
+abbrev pub NamesOnly : (origin : ℕ) → (few : List ℕ) → List GuardStep → Type 0
+NamesOnly origin few [] = Unit {0}
+NamesOnly origin few (datagram_came other moment names ∷ earlier) =
+    (other ≡ origin → are_among few names ≡ true) × NamesOnly origin few earlier
+NamesOnly origin few (check_made moment silent ∷ earlier) = NamesOnly origin few earlier
+NamesOnly origin few (source_expected ssrc other moment ∷ earlier) =
+    (other ≡ origin → is_named ssrc few ≡ true) × NamesOnly origin few earlier
+NamesOnly origin few (origin_trusted other ∷ earlier) = NamesOnly origin few earlier
 
 -- ---- What others say of a source
 

@@ -128,8 +128,8 @@ impl Guard {
         true
     }
 
-    /// Trusts an origin with as many sources as [`Settings::trusted_names`] says. Returns whether it is trusted: at most
-    /// [`MAX_TRUSTED`] are.
+    /// Trusts an origin with as many sources as [`Settings::trusted_names`] says. Returns whether it is trusted: at
+    /// most [`MAX_TRUSTED`] are.
     pub fn trust(&mut self, origin: u64) -> bool
         ensures result { result ≡ may_trust origin self.old.trusted }
         ensures content { self.new ≡ after (origin_trusted origin) self.old }

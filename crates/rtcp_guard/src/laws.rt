@@ -3,7 +3,7 @@
 ghost use Rattle.std.specs.Prelude.{◌≡◌, ◌≤◌, ◌++◌, ℕ, List, [], ◌∷◌, length, true, false};
 ghost use Rattle.rtcp_guard.specs.Claims.{found, held, is_named, is_of_another, owner_in, with_names};
 ghost use Rattle.rtcp_guard.specs.Guarding.{GuardStep, GuardValue, after, limit_of, new_guard, room_of, verdict_on};
-ghost use Rattle.rtcp_guard.specs.Histories.{AreOf, Keeps, StandsAt, claim_of, guard_after, owner_of, passed_about, without};
+ghost use Rattle.rtcp_guard.specs.Histories.{AreOf, Keeps, NamesOnly, StandsAt, are_among, claim_of, guard_after, is_passed, owner_of, passed_about, without};
 ghost use Rattle.rtcp_guard.specs.declared.settings.Settings.{Settings};
 ghost use Rattle.rtcp_guard.specs.declared.verdict.Verdict.TheVariants.{Pass};
 
@@ -40,6 +40,18 @@ pub fn few_own_sources_pass()
         held origin (with_names origin moment names guard.claims) ≤ limit_of origin guard.settings guard.trusted →
         length (with_names origin moment names guard.claims) ≤ room_of guard.settings →
         verdict_on origin moment names guard ≡ Pass }
+{}
+
+/// An origin that ever names only the same few sources, as many as it may, and none of another origin, is never held
+/// back, as long as there is room for all.
+pub fn few_sources_always_pass()
+    ensures { (settings : Settings) (history : List GuardStep) (origin moment : ℕ) (few names : List ℕ) →
+        NamesOnly origin few history → are_among few names ≡ true → length few ≤ settings.names →
+        length names ≤ 512 →
+        ((ssrc : ℕ) → is_named ssrc names ≡ true →
+        is_of_another origin (owner_of settings ssrc history) ≡ false) →
+        length (with_names origin moment names (guard_after settings history).claims) ≤ room_of settings →
+        is_passed settings origin moment names history ≡ true }
 {}
 
 /// As long as an origin keeps a source, all datagrams that are passed on and name it come from that origin, and it

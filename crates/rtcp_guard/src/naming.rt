@@ -15,7 +15,8 @@ pub(crate) type FewNames = ArrayVec<u32, 16>;
 /// Room for all names that a guard looks at.
 pub(crate) type Names = ArrayVec<u32, MAX_NAMES>;
 
-/// Gathers the sources that a compound speaks of, each once in a row, but `own`, as far as there is room. Whether there was for all.
+/// Gathers the sources that a compound speaks of, each once in a row, but `own`, as far as there is room. Whether there
+/// was for all.
 pub(crate) fn of_compound<const N: usize>(
     compound: &Compound<'_>,
     own: u32,

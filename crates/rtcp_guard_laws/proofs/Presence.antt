@@ -19,7 +19,8 @@ unmarked_before ssrc [] none = refl
 unmarked_before ssrc (step ∷ earlier) none =
     ap (λ (m : Option ℕ). cond (is_some m) (before_mark ssrc earlier) (step ∷ earlier)) none
 
-still_unmarked : (ssrc : ℕ) (step : TraceStep) (mark : Option ℕ) → is_some (mark_at ssrc step mark) ≡ false → mark ≡ None
+still_unmarked : (ssrc : ℕ) (step : TraceStep) (mark : Option ℕ) → is_some (mark_at ssrc step mark) ≡ false →
+    mark ≡ None
 still_unmarked ssrc step (Some mark) none = absurd cc
 still_unmarked ssrc step None none = refl
 
@@ -33,7 +34,8 @@ sighted ssrc b step earlier by before =
       | false ↦ λ unmarked.
           let whole : before_mark ssrc earlier ≡ earlier = unmarked_before ssrc earlier
           (still_unmarked ssrc step (mark_of ssrc earlier) unmarked) in
-          let named : last_naming ssrc earlier ≤ b = subst (λ (stay : List TraceStep). last_naming ssrc stay ≤ b) whole before in
+          let named : last_naming ssrc earlier ≤ b = subst (λ (stay : List TraceStep). last_naming ssrc stay ≤ b) whole
+          before in
           elim (is_naming ssrc step) as (λ n. is_naming ssrc step ≡ n →
           cond n (step_moment step) (last_naming ssrc earlier) ≤ b) [
             | true ↦ λ e. by e
@@ -66,7 +68,8 @@ module _ (capacity ssrc : ℕ) where
         | false ↦ λ e is. absurd cc
       ] refl is
   sees_step b step named others (Some old) by before stay is =
-      elim (ends_stay ssrc step old) as (λ e. cond e None (Some (step ∷ old)) ≡ Some stay → last_sighting ssrc stay ≤ b) [
+      elim (ends_stay ssrc step old) as (λ e. cond e None (Some (step ∷ old)) ≡ Some stay →
+      last_sighting ssrc stay ≤ b) [
         | true ↦ λ is. absurd cc
         | false ↦ λ is.
             let same : step ∷ old ≡ stay = cc in
@@ -125,7 +128,8 @@ module _ (capacity ssrc : ℕ) where
   unnamed_are_other named [] unnamed all = tt
   unnamed_are_other named (fact ∷ rest) unnamed all = (
     elim (subject fact == ssrc) as (λ s. subject fact == ssrc ≡ s → s ≡ false) [
-      | true ↦ λ e. absurd (let no : true ≡ false = sym all.0 ∙ ap (λ (s : ℕ). is_named s named) (eqb-true (subject fact) ssrc e) ∙ unnamed in cc)
+      | true ↦ λ e. absurd (let no : true ≡ false = sym all.0
+          ∙ ap (λ (s : ℕ). is_named s named) (eqb-true (subject fact) ssrc e) ∙ unnamed in cc)
       | false ↦ λ e. refl
     ] refl,
     unnamed_are_other named rest unnamed all.1,
@@ -140,7 +144,8 @@ module _ (capacity ssrc : ℕ) where
   removed_late horizons b named others (Some old) late before =
       let seen : last_sighting ssrc old ≤ b = before old refl in
       let silent : nat_lt (last_sighting ssrc old) horizons.silent ≡ true = grind (arith, nat_tests, late, seen) in
-      ap (λ (s : Bool). cond (s || is_before (mark_of ssrc old) horizons.gone) None (Some (check_made horizons ∷ old))) silent
+      ap (λ (s : Bool). cond (s || is_before (mark_of ssrc old) horizons.gone) None (Some (check_made horizons ∷ old)))
+      silent
 
   -- ---- All steps
 
@@ -160,7 +165,8 @@ module _ (capacity ssrc : ℕ) where
       (stay_of capacity (with_facts facts moment trace) ssrc)
   goes_told origin moment now named facts trace claim past all goes =
       elim (is_named ssrc named) as (λ n. is_named ssrc named ≡ n →
-      Goes moment (cond (n && true) (Some (claim_by origin moment ssrc)) claim) (stay_of capacity (with_facts facts moment trace) ssrc)) [
+      Goes moment (cond (n && true) (Some (claim_by origin moment ssrc)) claim)
+      (stay_of capacity (with_facts facts moment trace) ssrc)) [
         | true ↦ λ e. (
           omega arith,
           sees_facts moment moment facts trace (omega arith)
@@ -180,7 +186,8 @@ module _ (capacity ssrc : ℕ) where
       now ≤ moment → Goes now claim o →
       Goes moment (cond (is_named ssrc named && false) (Some (claim_by origin moment ssrc)) claim) o
   goes_held origin moment now named claim o past goes =
-      elim (is_named ssrc named) as (λ n. Goes moment (cond (n && false) (Some (claim_by origin moment ssrc)) claim) o) [
+      elim (is_named ssrc named) as (λ n. Goes moment (cond (n && false) (Some (claim_by origin moment ssrc)) claim)
+      o) [
         | true ↦ later now moment claim o past goes
         | false ↦ later now moment claim o past goes
       ]
@@ -206,7 +213,8 @@ module _ (capacity ssrc : ℕ) where
   goes_expected false origin moment now (Some claim) o past goes =
       (let by = goes.0 in omega (arith, by, past), goes.1)
 
-  quiet_check : (horizons : Horizons) (b : ℕ) → is_naming ssrc (check_made horizons) ≡ true → step_moment (check_made horizons) ≤ b
+  quiet_check : (horizons : Horizons) (b : ℕ) → is_naming ssrc (check_made horizons) ≡ true →
+      step_moment (check_made horizons) ≤ b
   quiet_check horizons b e = absurd cc
 
   goes_checked : (horizons : Horizons) (before now : ℕ) (trace : List TraceStep) (claim : Option Claim) →
@@ -224,7 +232,8 @@ module _ (capacity ssrc : ℕ) where
         )
         | false ↦ λ e.
             let late : claim.last < horizons.silent = grind (arith, nat_tests, e, order) in
-            removed_late horizons claim.last (names trace) (stay_of capacity trace) (stay_of capacity trace ssrc) late goes.1
+            removed_late horizons claim.last (names trace) (stay_of capacity trace) (stay_of capacity trace ssrc) late
+            goes.1
       ] refl
 
   goes_quietly : (step : TraceStep) (now : ℕ) (trace : List TraceStep) (claim : Option Claim) →
@@ -242,7 +251,8 @@ module _ (capacity ssrc : ℕ) where
       Goes (latest joint) (claim_of settings ssrc (steps_of joint)) (stay_of capacity (trace_of settings joint) ssrc)
   goes_on settings [] order = refl
   goes_on settings (arrived origin moment named facts ∷ earlier) order =
-      goes_arrived (is_passed settings origin moment named (steps_of earlier)) origin moment (latest earlier) named facts
+      goes_arrived (is_passed settings origin moment named (steps_of earlier)) origin moment (latest earlier) named
+      facts
       (trace_of settings earlier) (claim_of settings ssrc (steps_of earlier)) order.0 order.1.0
       (goes_on settings earlier order.1.1)
   goes_on settings (checked horizons moment silent ∷ earlier) order =
@@ -256,7 +266,8 @@ module _ (capacity ssrc : ℕ) where
       goes_quietly (source_forgotten other) (latest earlier) (trace_of settings earlier)
       (claim_of settings ssrc (steps_of earlier)) refl (goes_on settings earlier order)
   goes_on settings (expected other origin moment ∷ earlier) order =
-      goes_expected (other == ssrc && may_have other origin moment (guard_after settings (steps_of earlier))) origin moment
+      goes_expected (other == ssrc && may_have other origin moment (guard_after settings (steps_of earlier))) origin
+      moment
       (latest earlier) (claim_of settings ssrc (steps_of earlier)) (stay_of capacity (trace_of settings earlier) ssrc)
       order.0 (goes_on settings earlier order.1)
   goes_on settings (trusted origin ∷ earlier) order = goes_on settings earlier order

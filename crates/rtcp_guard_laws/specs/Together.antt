@@ -33,7 +33,8 @@ steps_of (trusted origin ∷ earlier) = origin_trusted origin ∷ steps_of earli
 abbrev pub trace_of : Settings → List JointStep → List TraceStep
 trace_of settings [] = []
 trace_of settings (arrived origin moment names facts ∷ earlier) =
-    if is_passed settings origin moment names (steps_of earlier) then with_facts facts moment (trace_of settings earlier)
+    if is_passed settings origin moment names (steps_of earlier) then with_facts facts moment
+    (trace_of settings earlier)
     else trace_of settings earlier
 trace_of settings (checked horizons moment silent ∷ earlier) = table_checked horizons ∷ trace_of settings earlier
 trace_of settings (reported ssrc ∷ earlier) = block_made_of ssrc ∷ trace_of settings earlier

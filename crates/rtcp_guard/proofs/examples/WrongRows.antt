@@ -1,11 +1,11 @@
 -- What would be wrong: each statement here is a law with a bound that is reached or without one of its premises, and
 -- there is a history of which it does not hold.
-use Rattle.std.proofs.Common.{◌≡◌, ◌<◌, ◌≤◌, ◌+◌, ◌++◌, ℕ, List, [], ◌∷◌, Option, Some, None, refl, arith}
+use Rattle.std.proofs.Common.{◌≡◌, ◌<◌, ◌≤◌, ◌+◌, ◌++◌, ℕ, true, false, List, [], ◌∷◌, length, Option, Some, None, refl, arith}
 use Rattle.rtcp_guard.specs.declared.settings.Settings.{Settings}
 use Rattle.rtcp_guard.specs.declared.verdict.Verdict.TheVariants.{Pass, Crowd}
 use Rattle.rtcp_guard.specs.Claims.{held, with_names}
 use Rattle.rtcp_guard.specs.Guarding.{GuardStep, datagram_came, check_made, source_expected, GuardValue, limit_of, new_guard, verdict_on}
-use Rattle.rtcp_guard.specs.Histories.{guard_after, owner_of, passed_about, without, IsClaimedThroughout, IsNotMoved}
+use Rattle.rtcp_guard.specs.Histories.{NamesOnly, are_among, guard_after, is_passed, owner_of, passed_about, without, IsClaimedThroughout, IsNotMoved}
 use Rattle.rtcp_guard.proofs.examples.GuardRows.{small, named_by_one}
 
 abbrev by : ℕ → Option ℕ
@@ -38,7 +38,8 @@ has_it_forever : ((settings : Settings) (ssrc owner : ℕ) (newer older : List G
     owner_of settings ssrc older ≡ Some owner → IsNotMoved ssrc newer →
     owner_of settings ssrc (newer ++ older) ≡ Some owner) → ⊥
 has_it_forever law =
-    let one : by 2 ≡ by 1 = law small 7 1 (datagram_came 2 20 (7 ∷ []) ∷ check_made 11 11 ∷ []) named_by_one refl tt in cc
+    let one : by 2 ≡ by 1 = law small 7 1 (datagram_came 2 20 (7 ∷ []) ∷ check_made 11 11 ∷ []) named_by_one refl tt in
+    cc
 
 -- Signalling moves it.
 never_moved : ((settings : Settings) (ssrc owner : ℕ) (newer older : List GuardStep) →
@@ -59,4 +60,12 @@ nobody_interferes : ((settings : Settings) (ssrc owner : ℕ) (one another older
     passed_about settings ssrc one older ≡ passed_about settings ssrc another older) → ⊥
 nobody_interferes law =
     let same : datagram_came 2 0 (7 ∷ []) ∷ [] ≡ datagram_came 1 5 (7 ∷ []) ∷ [] =
-    law small 7 1 (datagram_came 1 5 (7 ∷ []) ∷ datagram_came 2 0 (7 ∷ []) ∷ []) (datagram_came 1 5 (7 ∷ []) ∷ []) [] refl in cc
+    law small 7 1 (datagram_came 1 5 (7 ∷ []) ∷ datagram_came 2 0 (7 ∷ []) ∷ []) (datagram_came 1 5 (7 ∷ []) ∷ []) []
+    refl in cc
+
+-- With one source more than it may have, an origin is not always let through.
+one_more_always_passes : ((settings : Settings) (history : List GuardStep) (origin moment : ℕ) (few names : List ℕ) →
+    NamesOnly origin few history → are_among few names ≡ true → length few ≤ settings.names + 1 →
+    is_passed settings origin moment names history ≡ true) → ⊥
+one_more_always_passes law =
+    let passes : false ≡ true = law small [] 1 0 (7 ∷ 8 ∷ 9 ∷ []) (7 ∷ 8 ∷ 9 ∷ []) tt refl (omega arith) in cc

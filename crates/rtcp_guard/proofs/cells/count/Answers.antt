@@ -16,7 +16,8 @@ cells-preserved c =
     let k = c.cells.cell-index in
     let cells = c.args.cells.now in
     let more = held_more c.args.origin cells k no_cell c.cells-test.true in
-    let is : c.one_if-count.result ≡ one_if ((slice_index_or cells k no_cell).origin == c.args.origin) = c.one_if-count.ensures in
+    let is : c.one_if-count.result ≡ one_if ((slice_index_or cells k no_cell).origin == c.args.origin) =
+    c.one_if-count.ensures in
     let one = few_more ((slice_index_or cells k no_cell).origin == c.args.origin) in
     record {
       counted = omega (arith, more, is, c.cells.invariant.counted);
@@ -25,4 +26,5 @@ cells-preserved c =
 
 pub returns : goal.returns
 returns c = c.cells.invariant.counted
-    ∙ ap (λ cells. held c.args.origin (claims_in cells)) (take_all c.cells.cell-index c.args.cells.now c.cells-test.false)
+    ∙ ap (λ cells. held c.args.origin (claims_in cells))
+    (take_all c.cells.cell-index c.args.cells.now c.cells-test.false)

@@ -9,7 +9,8 @@ use Rattle.rtcp_guard.proofs.guard.Guard.arrive_rtcp.Goals as goal
 
 pub returns-in-Stranger-clause-verdict : goal.returns-in-Stranger-clause-verdict
 returns-in-Stranger-clause-verdict c = c.hold_back.ensures.verdict
-    ∙ first_strange c.args.origin c.args.t 16 (names_of_compound c.args.own c.args.compound.now) c.args.self.now (omega arith)
+    ∙ first_strange c.args.origin c.args.t 16 (names_of_compound c.args.own c.args.compound.now) c.args.self.now
+    (omega arith)
     (c.in-Stranger.ensures.verdict c.args.t
     ∙ ap (λ ns. verdict_by c.args.origin c.args.t ns c.args.self.now)
     (c.as_slice-2.ensures.value ∙ c.of_compound.ensures.first c.if-of_compound.false))
@@ -24,7 +25,8 @@ returns-in-Stranger-clause-content c =
 
 pub returns-in-Crowd-clause-verdict : goal.returns-in-Crowd-clause-verdict
 returns-in-Crowd-clause-verdict c = c.hold_back-in-Crowd.ensures.verdict
-    ∙ first_crowd c.args.origin c.args.t 16 (names_of_compound c.args.own c.args.compound.now) c.args.self.now (omega arith) c.judge.ensures.rising
+    ∙ first_crowd c.args.origin c.args.t 16 (names_of_compound c.args.own c.args.compound.now) c.args.self.now
+    (omega arith) c.judge.ensures.rising
     (c.in-Crowd.ensures.verdict c.args.t
     ∙ ap (λ ns. verdict_by c.args.origin c.args.t ns c.args.self.now)
     (c.as_slice-2.ensures.value ∙ c.of_compound.ensures.first c.if-of_compound.false))

@@ -19,7 +19,8 @@ invariant_of-self c =
       bounded = subst (IsBounded settings trusted) (sym c.put.ensures.items)
           (bounded_expected guard c.limit_of-limit.result c.room-room.result c.args.origin c.args.t c.args.ssrc
           c.self.invariant.bounded
-          (c.limit_of-limit.ensures ∙ ap (λ (g : GuardValue). limit_of c.args.origin g.settings g.trusted) (sym c.self.view_is))
+          (c.limit_of-limit.ensures ∙ ap (λ (g : GuardValue). limit_of c.args.origin g.settings g.trusted)
+          (sym c.self.view_is))
           (c.room-room.ensures ∙ ap (λ (g : GuardValue). room_of g.settings) (sym c.self.view_is))
           (c.if-not-may_put.ensures c.args.t));
       roomy = c.put.ensures.room ∙ c.self.invariant.roomy;

@@ -25,7 +25,8 @@ has_room c =
     let wide = ap (λ (t : TableValue). t.room) c.self.view_is in
     omega (arith, room, long, wide, as_many c.self.inside.cells.items, c.self.inside.cells.ok.0)
 
-its_items : (c : After-self-2-1) → c.insert-inserted.new.self.items ≡ insert c.self.inside.cells.items c.args.gap c.of-cell.result
+its_items : (c : After-self-2-1) → c.insert-inserted.new.self.items ≡ insert c.self.inside.cells.items c.args.gap
+    c.of-cell.result
 its_items c = c.insert-inserted.ensures.items
     ∙ ap (λ b. cond b (insert c.self.inside.cells.items c.args.gap c.of-cell.result) c.self.inside.cells.items)
     (c.insert-inserted.ensures.succeeds (has_room c))

@@ -24,14 +24,16 @@ invariant_of-self c =
     let long = ap length (left c) in
     record {
       rising = subst AreRising (sym (left c))
-          (rising_filter (λ (claim : Claim). nat_le c.args.before claim.last) (claims_in cells) c.self.invariant.rising);
+          (rising_filter (λ (claim : Claim). nat_le c.args.before claim.last) (claims_in cells)
+          c.self.invariant.rising);
       since = subst (λ cells. AreSince c.oldest-self-inside.result (claims_in cells)) c.deref.ensures.value
           c.oldest-self-inside.ensures;
       within = omega (arith, less, long, c.self.invariant.within, c.retain.ensures.capacity);
     }
 
 pub returns-then-before-self-clause-items : goal.returns-then-before-self-clause-items
-returns-then-before-self-clause-items c = left c ∙ ap (λ (t : TableValue). after_lapse c.args.before t.items) c.self.view_is
+returns-then-before-self-clause-items c = left c ∙ ap (λ (t : TableValue). after_lapse c.args.before t.items)
+    c.self.view_is
 
 pub returns-else-before-self-clause-items : goal.returns-else-before-self-clause-items
 returns-else-before-self-clause-items c =

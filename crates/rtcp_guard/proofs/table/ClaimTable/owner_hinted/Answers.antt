@@ -12,11 +12,13 @@ returns-clause-owner c =
     elim c.match-find.branch [
       | in-Ok w ↦ w.result-is
           ∙ owner_at_rank c.args.ssrc c.self.inside.cells.items w.in-Ok.at w.index.result.now c.self.invariant.rising
-          (subst (λ (t : TableValue). IsRankOf c.args.ssrc t.items w.in-Ok.at) (sym same ∙ sym c.self.view_is) w.in-Ok.ensures.located)
+          (subst (λ (t : TableValue). IsRankOf c.args.ssrc t.items w.in-Ok.at) (sym same ∙ sym c.self.view_is)
+          w.in-Ok.ensures.located)
           w.index.ensures
           ∙ ap (λ (t : TableValue). owner_in c.args.ssrc t.items) (c.self.view_is ∙ same)
       | in-Err w ↦ w.result-is
           ∙ owner_at_gap c.args.ssrc c.self.inside.cells.items w.in-Err.field-0 c.self.invariant.rising
-          (subst (λ (t : TableValue). IsGap c.args.ssrc t.items w.in-Err.field-0) (sym same ∙ sym c.self.view_is) w.in-Err.ensures.located)
+          (subst (λ (t : TableValue). IsGap c.args.ssrc t.items w.in-Err.field-0) (sym same ∙ sym c.self.view_is)
+          w.in-Err.ensures.located)
           ∙ ap (λ (t : TableValue). owner_in c.args.ssrc t.items) (c.self.view_is ∙ same)
     ]

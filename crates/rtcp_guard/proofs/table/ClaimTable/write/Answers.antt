@@ -11,17 +11,25 @@ use Rattle.rtcp_guard.proofs.table.ClaimTable.write.Goals as goal
 use Rattle.rtcp_guard.proofs.table.ClaimTable.write.Goals.{After-self-2-1}
 
 abbrev cell_then : (c : After-self-2-1) → Cell
-cell_then c = record { ssrc = c.index_mut-cell.result.now.ssrc; hints = c.index_mut-cell.result.now.hints; origin = c.args.origin; last = c.args.t }
+cell_then c = record {
+  ssrc = c.index_mut-cell.result.now.ssrc;
+  hints = c.index_mut-cell.result.now.hints;
+  origin = c.args.origin;
+  last = c.args.t;
+}
 
 then_claims : (c : After-self-2-1) → claims_in (set c.self.inside.cells.items c.args.at (cell_then c))
     ≡ put (claim_by c.args.origin c.args.t c.args.ssrc) (claims_in c.self.inside.cells.items)
 then_claims c =
     let cells = c.self.inside.cells.items in
-    let rank : IsRankOf c.args.ssrc (claims_in cells) c.args.at = subst (λ (t : TableValue). IsRankOf c.args.ssrc t.items c.args.at) (sym c.self.view_is) c.requires in
+    let rank : IsRankOf c.args.ssrc (claims_in cells) c.args.at =
+    subst (λ (t : TableValue). IsRankOf c.args.ssrc t.items c.args.at) (sym c.self.view_is) c.requires in
     let its = rank.its_ssrc (claim_in c.index_mut-cell.result.now) in
     let within = rank.within in
-    let same : c.index_mut-cell.result.now.ssrc ≡ c.args.ssrc = ap (λ (cell : Cell). cell.ssrc) c.index_mut-cell.ensures.value
-    ∙ sym (its_ssrc cells c.args.at c.index_mut-cell.result.now (claim_in c.index_mut-cell.result.now) (omega (arith, within, as_many cells)))
+    let same : c.index_mut-cell.result.now.ssrc ≡ c.args.ssrc =
+    ap (λ (cell : Cell). cell.ssrc) c.index_mut-cell.ensures.value
+    ∙ sym (its_ssrc cells c.args.at c.index_mut-cell.result.now (claim_in c.index_mut-cell.result.now)
+    (omega (arith, within, as_many cells)))
     ∙ its in
     written cells c.args.at (cell_then c) (claim_by c.args.origin c.args.t c.args.ssrc) c.self.invariant.rising rank
     (ap (λ s. claim_by c.args.origin c.args.t s) same)
