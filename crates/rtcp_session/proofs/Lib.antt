@@ -42,3 +42,4 @@ mod Announcing
 mod Delivering
 mod Delivered
 mod Introduced
+mod Falling

@@ -4,3 +4,4 @@ pub mod Waits
 pub mod Joins
 pub mod BackoffByes
 pub mod Deliveries
+pub mod Falls

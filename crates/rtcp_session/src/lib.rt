@@ -4,5 +4,6 @@
 #![tactic(auto)]
 
 pub mod delivery_laws;
+pub mod fall_laws;
 pub mod laws;
 pub mod session_laws;
