@@ -16,9 +16,12 @@
 -- kept is a member. `Introduced` does so by the laws of rtcp_engine on who is heard. `Delivering` counts these, and
 -- `Delivered` has the clauses.
 --
+-- Falls: `Falling` goes from tick to tick, a longest wait apart: each brings a report, or a fall came since the one
+-- before.
+--
 -- `examples` has small sessions. Among them are a turnover, in which at most two wait at a time and each counts two,
--- and a pair whose reports come 300 milliseconds late. The modules `WrongRows`, `DeliveryWrongs`, `JoinRows` and
--- `LeaveRows` disprove claims that are a little stronger.
+-- and a pair whose reports come 300 milliseconds late. The modules `WrongRows`, `DeliveryWrongs`, `JoinRows`,
+-- `LeaveRows` and `FallRows` disprove claims that are a little stronger.
 mod Deciding
 mod Loads
 mod Hearing

@@ -5,3 +5,4 @@ mod JoinRows
 mod LeaveRows
 mod WrongRows
 mod DeliveryWrongs
+mod FallRows

@@ -1,6 +1,6 @@
 //! What all participants of a session send together: they do not flood it with control traffic (RFC 3550, 6.2, 6.3).
 //! There is nothing to call: each law is an empty function whose postcondition is the law, and `specs/` has the
-//! definitions that it uses (`Windows`, `Crowds`, `Waits`, `Joins`, `BackoffByes`, `Deliveries`).
+//! definitions that it uses (`Windows`, `Crowds`, `Waits`, `Joins`, `BackoffByes`, `Deliveries`, `Falls`).
 #![tactic(auto)]
 
 pub mod delivery_laws;
