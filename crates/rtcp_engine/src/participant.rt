@@ -293,7 +293,7 @@ impl<T: MemberTable> Participant<T> {
         answer_with(reply, &octets)
     }
 
-    /// WritesReply that another source is gone, as its host knows by other means, such as signalling. Its entry goes as if
+    /// Tells that another source is gone, as its host knows by other means, such as signalling. Its entry goes as if
     /// the source had been silent for too long at the moment `now` (RFC 3550, 6.3.5): it is no member and no sender any
     /// more, the members are counted again (6.3.4), and there is room for another source. Named again, it comes as a
     /// new one.

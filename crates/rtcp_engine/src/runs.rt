@@ -23,7 +23,7 @@ pub struct Ran {
     pub stopped: bool,
 }
 
-/// WritesReply a participant events, one after the other, and hands each answer, step or refusal, to a sink. It ends
+/// Tells a participant events, one after the other, and hands each answer, step or refusal, to a sink. It ends
 /// with the last event, or where the sink takes no more.
 ///
 /// Its contract is the promise of this library, for whatever the events are and whatever was told before: the
