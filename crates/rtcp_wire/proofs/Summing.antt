@@ -1,6 +1,6 @@
 -- The summary of what was passed, and of what is left: together they say what all says. A lemma for each step of the
 -- tests.
-use Rattle.std.proofs.Common.{◌≡◌, ℕ, zero, suc, ◌+◌, ◌-◌, ◌<◌, ◌==◌, ◌&&◌, ◌||◌, Bool, true, false, List, [], ◌∷◌, ◌++◌, length, take, drop, refl, sym, ap, subst, ◌∙◌, append_assoc, arith}
+use Rattle.std.proofs.Common.{◌≡◌, ℕ, suc, ◌+◌, ◌-◌, ◌<◌, ◌==◌, ◌&&◌, ◌||◌, Bool, true, false, List, [], ◌∷◌, ◌++◌, length, take, drop, refl, sym, ap, subst, ◌∙◌, append_assoc, arith}
 use Rattle.std.specs.List.{list_all, list_any}
 use Rattle.std.proofs.lemmas.Bool.{eq-eqb, ne_eqb}
 use Rattle.std.proofs.lemmas.List.{nil_from_length}
@@ -12,7 +12,7 @@ use Rattle.rtcp_wire.specs.Parts.{TakesPrefix}
 use Rattle.rtcp_wire.specs.Summaries.{gives_name, names, keeps_to, all_keep_to, Adds, AddsChunk, AddsPacket, SumsUp}
 use Rattle.rtcp_wire.specs.Validity.{PassesItems, IsSomeChunk}
 use Rattle.rtcp_wire.specs.Values.{ItemValue, ChunkValue, RtcpPacket, sdes}
-use Rattle.rtcp_wire.specs.Walks.{items_after, chunk_in, chunk_size, chunks_in, packet_in, packets_in, values_in}
+use Rattle.rtcp_wire.specs.Walks.{items_after, chunk_in, chunk_size, chunks_in, packet_in, packets_in}
 use Rattle.rtcp_wire.proofs.PacketOrFault.{TakesPacket}
 use Rattle.rtcp_wire.proofs.Prefixes.{length_parts}
 use Rattle.rtcp_wire.proofs.ReadingWalks.{first_item, after_chunk, packet_read, first_packet}
@@ -167,22 +167,6 @@ all_chunks_summed ssrc count turns body left old now h all is_first =
     adds_all old now (list_all (λ (chunk : ChunkValue). chunk.id == ssrc) (chunks_in count body))
     (list_any gives_name (chunks_in count body))
     (subst (λ (n : ℕ). LeavesChunks ssrc old now (chunks_in count body) (chunks_in n left)) no_more h)
-
--- ---- Bodies
-
-pub as_many : {A : Type 0} (size : ℕ) (value : List ℕ → A) (count : ℕ) (octets : List ℕ) →
-    length (values_in size value count octets) ≡ count
-as_many size value zero octets = refl
-as_many size value (suc count) octets = ap suc (as_many size value count (drop size octets))
-
--- A packet keeps to the source by this alone, and gives no name.
-pub body_kept : (old new : Summary) (is_kept : Bool) (ssrc : ℕ) (is_first : Bool) (packet : RtcpPacket) →
-    is_kept ≡ keeps_to ssrc is_first packet → new.is_sole ≡ (old.is_sole && is_kept) → new.is_named ≡ old.is_named →
-    AddsPacket ssrc is_first old new packet
-body_kept old new is_kept ssrc is_first packet keeps sole named = record {
-  sole = sole ∙ ap (λ (b : Bool). old.is_sole && b) keeps;
-  named = λ some. or_left old.is_named (names packet) (sym named ∙ some);
-}
 
 -- ---- Packets
 
