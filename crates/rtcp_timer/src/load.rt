@@ -47,7 +47,15 @@ pub fn interval(load: &Load) -> u64
     ensures exact { result ≡ interval_of load.now }
     ensures bounded { result < 2 ^ 49 }
 {
-    minimum(load.initial).max(share_interval(load))
+    let minimum = minimum(load.initial);
+    let share = share_of(load);
+    let parts = SECOND * share.sharers * load.avg as u64;
+    let rate = PARTS as u64 * share.bandwidth;
+    // Compared first: where few members share much, the minimum is longer, and nothing is divided.
+    if parts <= minimum * rate {
+        return minimum;
+    }
+    parts.div_ceil(rate)
 }
 
 /// The least interval, in microseconds: half as long as long as the participant has sent no report, `initial` (RFC
@@ -57,20 +65,6 @@ pub fn minimum(initial: bool) -> u64
     ensures { result ≡ minimum_of initial }
 {
     if initial { INITIAL_MINIMUM } else { MINIMUM }
-}
-
-/// The interval for the participant's part of the bandwidth, whatever the minimum.
-fn share_interval(load: &Load) -> u64
-    requires members_fit { load.now.members ≤ 65535 }
-    requires average_fits { load.now.avg ≤ 256 * 65563 }
-    requires some_for_senders { 16 ≤ load.now.sender_bw }
-    requires some_for_others { 16 ≤ load.now.receiver_bw }
-    ensures exact { result ≡ interval_at_share (sharers_of load.now) load.now }
-    ensures bounded { result < 2 ^ 49 }
-{
-    let share = share_of(load);
-    let parts = SECOND * share.sharers * load.avg as u64;
-    parts.div_ceil(PARTS as u64 * share.bandwidth)
 }
 
 /// A part of the bandwidth.
