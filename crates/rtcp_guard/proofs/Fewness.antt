@@ -1,15 +1,13 @@
 -- An origin that names only the same few sources.
-use Rattle.std.proofs.Common.{◌≡◌, ◌<◌, ◌≤◌, ◌+◌, ◌==◌, ◌&&◌, ◌||◌, ℕ, max, nat_le, not, Bool, true, false, cond, List, [], ◌∷◌, filter, length, Option, Some, None, option_map, arith, refl, sym, ap, subst, ◌∙◌}
-use Rattle.std.specs.List.{list_all}
+use Rattle.std.proofs.Common.{◌≡◌, ◌≤◌, ◌+◌, ◌==◌, ◌&&◌, ◌||◌, ℕ, max, nat_le, not, Bool, true, false, cond, List, [], ◌∷◌, filter, length, Option, Some, None, option_map, arith, refl, sym, ap, subst, ◌∙◌}
 use Rattle.std.proofs.lemmas.Bool.{eqb-true}
 use Rattle.std.proofs.lemmas.Bool.Decides.{nat_tests}
 use Rattle.rtcp_guard.specs.declared.settings.Settings.{Settings}
-use Rattle.rtcp_guard.specs.declared.verdict.Verdict.TheVariants.{Pass}
 use Rattle.rtcp_guard.specs.Claims.{Claim, claim_by, found, owner_in, with_names, is_by, held, is_named, is_of_another}
-use Rattle.rtcp_guard.specs.Guarding.{GuardStep, datagram_came, check_made, source_expected, origin_trusted, GuardValue, before_which, is_trusted, limit_of, may_have, room_of, verdict_on}
+use Rattle.rtcp_guard.specs.Guarding.{GuardStep, datagram_came, check_made, source_expected, origin_trusted, GuardValue, before_which, is_trusted, limit_of, may_have, room_of}
 use Rattle.rtcp_guard.specs.Histories.{guard_after, is_pass, is_passed, unless_lapsed, claim_of, owner_of, are_among, NamesOnly}
 use Rattle.rtcp_guard.specs.Tables.{AreRising}
-use Rattle.rtcp_guard.proofs.Orders.{Order, before, same, behind, order, found_first, found_before, found_behind, missing_above}
+use Rattle.rtcp_guard.proofs.Orders.{before, same, behind, order, found_first, found_before, found_behind, missing_above}
 use Rattle.rtcp_guard.proofs.Putting.{tally_first, one_if}
 use Rattle.rtcp_guard.proofs.Claiming.{rising_names, found_names}
 use Rattle.rtcp_guard.proofs.Owning.{its_settings, rising_after, owner_after}

@@ -1,9 +1,11 @@
 -- Claims in cells.
-use Rattle.std.proofs.Common.{◌≡◌, ◌<◌, ◌≤◌, ◌+◌, ◌==◌, ℕ, zero, suc, nat_lt, Bool, true, false, cond, List, [], ◌∷◌, filter, length, set, take, drop, ◌++◌, slice_index_or, Some, None, option_map, arith, refl, sym, ap, ◌∙◌}
+use Rattle.std.proofs.Common.{◌≡◌, ◌<◌, ◌≤◌, ◌+◌, ◌==◌, ℕ, zero, suc, nat_lt, Bool, true, false, cond, List, [], ◌∷◌, filter, length, set, take, drop, ◌++◌, slice_index_or, Some, None, option_map, arith, refl, sym, ap, ◌∙◌, ◌-◌}
 use Rattle.std.specs.List.{insert}
 use Rattle.std.specs.List.Sorted.{IsNonDecreasingBy, IsPartitionPoint}
 use Rattle.std.proofs.lemmas.Bool.Decides.{nat_tests}
-use Rattle.std.proofs.lemmas.List.{get_or-map, length-append, length-map, map-append, map-set, take_at, take_more}
+use Rattle.std.proofs.lemmas.List.{append-nil, drop_all, drop-append-le, get_or-map, length-append, length-drop, length-map, length_push, map-append, map-set, take_all, take_at, take-append-le, take_more}
+use Rattle.std.proofs.Math.Seq.{drop-append_seam}
+use borrow.Rule.Slice.PartMut.{mid_of, put_mid}
 use Rattle.std.proofs.lemmas.List.Elements.{filter-append}
 use Rattle.rtcp_guard.specs.declared.cells.Cell.{Cell}
 use Rattle.rtcp_guard.specs.Claims.{Claim, owner_in, put, is_by, held}
@@ -128,6 +130,26 @@ pub put_in_gap : (cells : List Cell) (gap : ℕ) (cell : Cell) (claim : Claim) �
 put_in_gap cells gap cell claim is value =
     claims_inserted cells gap cell ∙ ap (insert (claims_in cells) gap) value
     ∙ sym (gap_put claim (claims_in cells) gap is)
+
+-- ---- The last comes to a rank
+
+-- After `xs[at..].rotate_right(1)`: k is how many there are from `at` on, and ys what they are then.
+pub last_moved : {X : Type 0} (xs others : List X) (x : X) (at k : ℕ) (ys : List X) → xs ≡ others ++ x ∷ [] →
+    at ≤ length others → k ≡ length xs - at →
+    ys ≡ drop (length (mid_of at k xs) - 1) (mid_of at k xs) ++ take (length (mid_of at k xs) - 1) (mid_of at k xs) →
+    put_mid at k xs ys ≡ insert others at x
+last_moved xs others x at k ys all within many turned =
+    let back : List _ = drop at others in
+    let longer = length-drop at xs in
+    let part : mid_of at k xs ≡ back ++ x ∷ [] = take_all k (drop at xs) (omega (arith, longer, many))
+    ∙ ap (drop at) all ∙ drop-append-le at others (x ∷ []) within in
+    let one_more = length_push back x in
+    let last : length (mid_of at k xs) - 1 ≡ length back = ap (λ l. length l - 1) part ∙ omega (arith, one_more) in
+    let is : ys ≡ x ∷ back = turned ∙ (λ i. drop (last i) (part i) ++ take (last i) (part i))
+    ∙ (λ i. drop-append_seam back (x ∷ []) i ++ take_at back (x ∷ []) (length back) refl i) in
+    let front : take at xs ≡ take at others = ap (take at) all ∙ take-append-le at others (x ∷ []) within in
+    let none : drop k (drop at xs) ≡ [] = drop_all k (drop at xs) (omega (arith, longer, many)) in
+    (λ i. front i ++ (is i ++ none i)) ∙ ap (λ l. take at others ++ l) (append-nil (x ∷ back))
 
 -- ---- One cell more
 

@@ -1,8 +1,10 @@
 //! Cells with a claim and two hints each, the hints, and the search.
 
-ghost use Rattle.std.specs.Prelude.{◌≡◌, if◌then◌else◌, nat_le};
+ghost use Rattle.std.specs.Prelude.{◌≡◌, ◌<◌, ◌≤◌, ◌++◌, ◌∷◌, [], List, if◌then◌else◌, length, nat_le};
+ghost use Rattle.std.specs.List.{insert};
 ghost use Rattle.rtcp_guard.specs.Claims.{claim_by, held};
 ghost use Rattle.rtcp_guard.specs.Tables.{AreRising, AreSince, Locates, claim_in, claims_in};
+ghost use Rattle.rtcp_guard.specs.declared.cells.Cell.{Cell as CellValue};
 
 /// How many hints a cell has.
 const HINTS: usize = 2;
@@ -72,6 +74,17 @@ pub(crate) fn note(cells: &mut [Cell], ssrc: u32, rank: usize)
 fn place_of(count: usize, ssrc: u32) -> usize {
     let spread = u64::from(ssrc.wrapping_mul(SPREAD));
     (spread.wrapping_mul(count as u64) >> 31) as usize
+}
+
+/// Moves the last cell, that of a source, to a rank, and those from that rank on by one. The rank is noted.
+// As one block of memory: `Vec::insert` moves one cell after the other.
+pub(crate) fn settle_last(cells: &mut [Cell], rank: usize, ssrc: u32)
+    requires { rank < length cells.old }
+    ensures { (others : List CellValue) (last : CellValue) → rank ≤ length others →
+        cells.old ≡ others ++ last ∷ [] → claims_in cells.new ≡ claims_in (insert others rank last) }
+{
+    cells[rank..].rotate_right(1);
+    note(cells, ssrc, rank);
 }
 
 /// The rank of a source, or else that which it would have.

@@ -5,7 +5,7 @@ ghost use Rattle.std.specs.List.{insert};
 ghost use Rattle.rtcp_guard.specs.Claims.{after_lapse, claim_by, held, owner_in, put};
 ghost use Rattle.rtcp_guard.specs.Tables.{IsGap, IsRankOf, Locates};
 
-use crate::cells::{Cell, count, hinted, note, oldest, search};
+use crate::cells::{Cell, count, hinted, note, oldest, search, settle_last};
 use std::alloc::{AllocError, Global};
 use std::marker::Model;
 
@@ -164,9 +164,9 @@ impl ClaimTable {
         ensures items { self.new.items ≡ put (claim_by origin t ssrc) self.old.items }
         ensures room { self.new.room ≡ self.old.room }
     {
-        let cell = Cell::of(ssrc, origin, t);
-        let _inserted = self.cells.insert(gap, cell);
-        note(&mut self.cells, ssrc, gap);
+        let end = self.cells.len();
+        let _inserted = self.cells.insert(end, Cell::of(ssrc, origin, t));
+        settle_last(&mut self.cells, gap, ssrc);
         self.oldest = self.oldest.min(t);
     }
 }

@@ -1,6 +1,7 @@
--- The claim stands in its gap.
-use Rattle.std.proofs.Common.{◌≡◌, ◌<◌, ◌+◌, arith, length, min, cond, take, drop, ◌++◌, sym, ap, subst, ◌∙◌}
+-- The claim comes to its gap.
+use Rattle.std.proofs.Common.{◌≡◌, ◌<◌, ◌≤◌, ◌+◌, [], ◌∷◌, arith, length, min, cond, take, drop, ◌++◌, sym, ap, subst, ◌∙◌}
 use Rattle.std.specs.List.{insert}
+use Rattle.std.proofs.lemmas.List.Edits.{insert_end}
 use Rattle.rtcp_guard.specs.Claims.{claim_by, put}
 use Rattle.rtcp_guard.specs.Tables.{AreRising, AreSince, IsGap, TableValue, claims_in}
 use Rattle.rtcp_guard.proofs.Ages.{since_named}
@@ -8,12 +9,6 @@ use Rattle.rtcp_guard.proofs.Orders.{gap_within, rising_put}
 use Rattle.rtcp_guard.proofs.Rows.{as_many, over_whole, put_in_gap}
 use Rattle.rtcp_guard.proofs.table.ClaimTable.insert.Goals as goal
 use Rattle.rtcp_guard.proofs.table.ClaimTable.insert.Goals.{After-self-2-1}
-
-pub insert-inserted-requires : goal.insert-inserted-requires
-insert-inserted-requires c =
-    let gap = subst (λ (t : TableValue). IsGap c.args.ssrc t.items c.args.gap) (sym c.self.view_is) c.requires.gap in
-    let within = gap_within c.args.ssrc (claims_in c.self.inside.cells.items) c.args.gap gap in
-    omega (arith, within, as_many c.self.inside.cells.items, c.self.inside.cells.ok.0)
 
 its_gap : (c : After-self-2-1) → IsGap c.args.ssrc (claims_in c.self.inside.cells.items) c.args.gap
 its_gap c = subst (λ (t : TableValue). IsGap c.args.ssrc t.items c.args.gap) (sym c.self.view_is) c.requires.gap
@@ -25,30 +20,52 @@ has_room c =
     let wide = ap (λ (t : TableValue). t.room) c.self.view_is in
     omega (arith, room, long, wide, as_many c.self.inside.cells.items, c.self.inside.cells.ok.0)
 
-its_items : (c : After-self-2-1) → c.insert-inserted.new.self.items ≡ insert c.self.inside.cells.items c.args.gap
-    c.of-cell.result
+its_end : (c : After-self-2-1) → c.len-end.result ≡ length c.self.inside.cells.items
+its_end c = omega (arith, c.len-end.ensures, c.self.inside.cells.ok.0)
+
+its_items : (c : After-self-2-1) → c.insert-inserted.new.self.items ≡ c.self.inside.cells.items ++ c.of.result ∷ []
 its_items c = c.insert-inserted.ensures.items
-    ∙ ap (λ b. cond b (insert c.self.inside.cells.items c.args.gap c.of-cell.result) c.self.inside.cells.items)
+    ∙ ap (λ b. cond b (insert c.self.inside.cells.items c.len-end.result c.of.result) c.self.inside.cells.items)
     (c.insert-inserted.ensures.succeeds (has_room c))
+    ∙ ap (λ n. insert c.self.inside.cells.items n c.of.result) (its_end c)
+    ∙ insert_end c.self.inside.cells.items c.of.result
 
-its_length : (c : After-self-2-1) → c.insert-inserted.new.self.len ≡ length c.note.new.cells
-its_length c = omega (arith, c.insert-inserted.new.self.ok.0, c.note.auto.cells, c.deref_mut.ensures.len)
+gap_inside : (c : After-self-2-1) → c.args.gap ≤ length c.self.inside.cells.items
+gap_inside c = let within = gap_within c.args.ssrc (claims_in c.self.inside.cells.items) c.args.gap (its_gap c) in
+    omega (arith, within, as_many c.self.inside.cells.items)
 
-then_claims : (c : After-self-2-1) → claims_in (take c.insert-inserted.new.self.len (c.note.new.cells
-    ++ drop (length c.note.new.cells) c.insert-inserted.new.self.items))
+pub settle_last-requires : goal.settle_last-requires
+settle_last-requires c =
+    let cells = c.self.inside.cells in
+    let gap = subst (λ (t : TableValue). IsGap c.args.ssrc t.items c.args.gap) (sym c.self.view_is) c.requires.gap in
+    let within = gap_within c.args.ssrc (claims_in cells.items) c.args.gap gap in
+    let long = ap (λ (t : TableValue). length t.items) c.self.view_is in
+    let wide = ap (λ (t : TableValue). t.room) c.self.view_is in
+    let has_room : cells.len < cells.cap = omega
+    (arith, c.requires.room, long, wide, as_many cells.items, cells.ok.0) in
+    let more : c.insert-inserted.new.self.len ≡ cells.len + 1 = c.insert-inserted.ensures.len
+    ∙ ap (λ b. cond b (cells.len + 1) cells.len) (c.insert-inserted.ensures.succeeds has_room) in
+    omega (arith, within, as_many cells.items, cells.ok.0, more, c.deref_mut.ensures.len)
+
+its_length : (c : After-self-2-1) → c.insert-inserted.new.self.len ≡ length c.settle_last.new.cells
+its_length c = omega (arith, c.insert-inserted.new.self.ok.0, c.settle_last.auto.cells, c.deref_mut.ensures.len)
+
+then_claims : (c : After-self-2-1) → claims_in (take c.insert-inserted.new.self.len (c.settle_last.new.cells
+    ++ drop (length c.settle_last.new.cells) c.insert-inserted.new.self.items))
     ≡ put (claim_by c.args.origin c.args.t c.args.ssrc) (claims_in c.self.inside.cells.items)
 then_claims c =
-    ap claims_in (over_whole c.insert-inserted.new.self.len c.note.new.cells c.insert-inserted.new.self.items
+    ap claims_in (over_whole c.insert-inserted.new.self.len c.settle_last.new.cells c.insert-inserted.new.self.items
     (its_length c))
-    ∙ c.note.ensures ∙ ap claims_in (c.deref_mut.ensures.value ∙ its_items c)
-    ∙ put_in_gap c.self.inside.cells.items c.args.gap c.of-cell.result
-    (claim_by c.args.origin c.args.t c.args.ssrc) (its_gap c) c.of-cell.ensures
+    ∙ c.settle_last.ensures c.self.inside.cells.items c.of.result (gap_inside c)
+    (c.deref_mut.ensures.value ∙ its_items c)
+    ∙ put_in_gap c.self.inside.cells.items c.args.gap c.of.result
+    (claim_by c.args.origin c.args.t c.args.ssrc) (its_gap c) c.of.ensures
 
 pub invariant_of-self : goal.invariant_of-self
 invariant_of-self c =
-    let cells = take c.insert-inserted.new.self.len (c.note.new.cells
-    ++ drop (length c.note.new.cells) c.insert-inserted.new.self.items) in
-    let long = ap length (over_whole c.insert-inserted.new.self.len c.note.new.cells c.insert-inserted.new.self.items
+    let cells = take c.insert-inserted.new.self.len (c.settle_last.new.cells
+    ++ drop (length c.settle_last.new.cells) c.insert-inserted.new.self.items) in
+    let long = ap length (over_whole c.insert-inserted.new.self.len c.settle_last.new.cells c.insert-inserted.new.self.items
     (its_length c)) in
     let more : c.insert-inserted.new.self.len ≡ c.self.inside.cells.len + 1 = c.insert-inserted.ensures.len
     ∙ ap (λ b. cond b (c.self.inside.cells.len + 1) c.self.inside.cells.len)
