@@ -258,15 +258,6 @@ is_some_of (Some y) x e = elim (y == x) as (λ b. y == x ≡ b → false ≡ not
   | false ↦ λ is e. absurd cc
 ] refl e
 
--- the spare room is counted at the first new source, and known then
-pub spare_is : (fresh least known result : ℕ) → result ≡ cond (fresh == 0) least known → (0 < fresh → known ≡ least) →
-    result ≡ least
-spare_is fresh least known result says so =
-    elim (fresh == 0) as (λ b. fresh == 0 ≡ b → result ≡ cond b least known → result ≡ least) [
-      | true ↦ λ e is. is
-      | false ↦ λ e is. is ∙ so (grind (arith, nat_tests, e))
-    ] refl says
-
 pub counted_as : (origin moment : ℕ) (claims : List Claim) (seen next : List ℕ) (fresh more : ℕ) → next ≡ seen →
     more ≡ fresh → IsCounted origin moment claims seen fresh → IsCounted origin moment claims next more
 counted_as origin moment claims seen next fresh more e f so =

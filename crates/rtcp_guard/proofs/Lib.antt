@@ -12,6 +12,10 @@ pub mod Ages
 pub mod Rows
 -- A datagram's names, counted, and the verdict by them.
 pub mod Counting
+-- The new sources among a datagram's names, each once.
+pub mod Gathering
+-- How many sources belong to an origin, once counted.
+pub mod Tallying
 -- The verdict by the first names of a datagram.
 pub mod Deciding
 -- No origin has more sources than it may.

@@ -1,5 +1,5 @@
 -- Which origin a source belongs to (RFC 3550, 8.2): claims, by rising SSRC.
-use Rattle.std.specs.Prelude.{ℕ, ◌==◌, ◌||◌, not, nat_lt, nat_le, Bool, false, List, [], ◌∷◌, length, filter, if◌then◌else◌, Option, Some, None, option_map}
+use Rattle.std.specs.Prelude.{ℕ, ◌≡◌, ◌==◌, ◌||◌, not, nat_lt, nat_le, Bool, true, false, List, [], ◌∷◌, length, filter, if◌then◌else◌, Option, Some, None, option_map}
 use Rattle.std.specs.List.{list_any}
 
 pub record Claim : Type 0 where
@@ -48,6 +48,10 @@ held origin claims = length (filter (is_by origin) claims)
 -- whether a datagram with these names names a source
 abbrev pub is_named : (ssrc : ℕ) → (names : List ℕ) → Bool
 is_named ssrc names = list_any (λ name. name == ssrc) names
+
+-- Each of these names is a source of an origin.
+abbrev pub AreOwn : (origin : ℕ) → (names : List ℕ) → List Claim → Type 0
+AreOwn origin names claims = (ssrc : ℕ) → is_named ssrc names ≡ true → owner_in ssrc claims ≡ Some origin
 
 -- ---- What is held back
 

@@ -1,10 +1,11 @@
 -- Claims in cells side by side, by rising SSRC.
-use Rattle.std.specs.Prelude.{ℕ, zero, suc, ◌≡◌, ◌<◌, ◌≤◌, List, [], ◌∷◌, length, map, slice_index_or, Result, Ok, Err}
+use Rattle.std.specs.Prelude.{ℕ, zero, suc, ◌≡◌, ◌<◌, ◌≤◌, ◌-◌, min, List, [], ◌∷◌, length, map, slice_index_or, Result, Ok, Err}
 use Rattle.std.specs.List.{AllByRecursion}
 use Rattle.rtcp_guard.specs.Claims.{Claim, held}
 use Rattle.rtcp_guard.specs.Guarding.{limit_of, room_of}
 use Rattle.rtcp_guard.specs.declared.cells.Cell.{Cell}
 use Rattle.rtcp_guard.specs.declared.settings.Settings.{Settings}
+use Rattle.rtcp_guard.specs.declared.tallies.Tally.{Tally}
 
 abbrev pub claim_in : Cell → Claim
 claim_in cell = record { ssrc = cell.ssrc; origin = cell.origin; last = cell.last }
@@ -53,11 +54,24 @@ abbrev pub Locates : (ssrc : ℕ) → List Claim → Result ℕ ℕ → Type 0
 Locates ssrc claims (Ok rank) = IsRankOf ssrc claims rank
 Locates ssrc claims (Err gap) = IsGap ssrc claims gap
 
+-- ---- Counts
+
+-- As many sources belong to each of these origins as its tally says.
+abbrev pub AreTallies : List Claim → List Tally → Type 0
+AreTallies claims tallies = AllByRecursion (λ (tally : Tally). tally.count ≡ held tally.origin claims) tallies
+
+-- So many sources more an origin may have that has no more than it may.
+pub record IsSpare (limit room origin : ℕ) (claims : List Claim) (spare : ℕ) : Type 0 where
+  pub few : held origin claims ≤ limit
+  pub within : length claims ≤ room
+  pub least : spare ≡ min (limit - held origin claims) (room - length claims)
+
 -- ---- What holds at any time
 
-pub record IsTable (claims : List Claim) (room oldest : ℕ) : Type 0 where
+pub record IsTable (claims : List Claim) (room oldest : ℕ) (tallies : List Tally) : Type 0 where
   pub rising : AreRising claims
   pub since : AreSince oldest claims
+  pub counted : AreTallies claims tallies
   pub within : length claims ≤ room
 
 -- No origin has more sources than it may, nor have all together.

@@ -6,7 +6,7 @@ ghost use Rattle.rtcp_guard.specs.Guarding.{after, after_verdict, check_made, co
 ghost use Rattle.rtcp_guard.specs.Tables.{AreRising};
 ghost use Rattle.rtcp_guard.specs.Naming.{but, names_of_compound, names_of_packet};
 
-use crate::judging::{judge_each, own_all};
+use crate::judging::{judge_rest, own_first};
 use crate::naming::{FewNames, MAX_NAMES, Names, of_compound, of_packet};
 use crate::settings::Settings;
 use crate::table::ClaimTable;
@@ -121,7 +121,7 @@ impl Guard {
         ensures content { self.new ≡ after (source_expected ssrc origin t) self.old }
     {
         let (limit, room) = (self.limit_of(origin), self.room());
-        if !may_put(&self.claims, limit, room, ssrc, origin) {
+        if !may_put(&mut self.claims, limit, room, ssrc, origin) {
             return false;
         }
         self.claims.put(ssrc, origin, t);
@@ -186,6 +186,7 @@ impl Guard {
     /// What becomes of a datagram with these names, and with more where `more` says so. It is noted.
     #[inline(always)]
     fn decide(&mut self, names: &[u32], more: bool, origin: u64, t: u64) -> Verdict
+        requires { length names.now ≤ 512 }
         ensures verdict { result ≡ unless_more more (verdict_by origin t names.now self.old) }
         ensures content { self.new ≡ after_verdict origin t names.now result self.old }
     {
@@ -211,15 +212,17 @@ impl Guard {
     // Its own sources alone are the common case, for which no limit is looked up.
     #[inline(always)]
     fn judge(&mut self, names: &[u32], origin: u64) -> Verdict
+        requires { length names.now ≤ 512 }
         ensures verdict { (moment : ℕ) → result ≡ verdict_by origin moment names.now self.old }
         ensures kept { self.new ≡ self.old }
         ensures rising { AreRising self.old.claims }
     {
-        if own_all(&mut self.claims, origin, names) {
+        let own = own_first(&mut self.claims, origin, names);
+        if own == names.len() {
             return Verdict::Pass;
         }
         let (limit, room) = (self.limit_of(origin), self.room());
-        judge_each(&self.claims, limit, room, origin, names)
+        judge_rest(&mut self.claims, limit, room, origin, names.split_at(own).1)
     }
 
     /// How many sources an origin may have.
@@ -244,12 +247,13 @@ impl Guard {
 }
 
 /// Whether an origin may have one source more, or has it already.
-fn may_put(claims: &ClaimTable, limit: usize, room: usize, ssrc: u32, origin: u64) -> bool
-    requires rising { AreRising claims.now.items }
-    requires few { held origin claims.now.items ≤ limit }
-    requires within { length claims.now.items ≤ room }
-    ensures { (moment : ℕ) → result ≡ not (is_too_many limit room origin
-        (put (claim_by origin moment ssrc) claims.now.items)) }
+fn may_put(claims: &mut ClaimTable, limit: usize, room: usize, ssrc: u32, origin: u64) -> bool
+    requires rising { AreRising claims.old.items }
+    requires few { held origin claims.old.items ≤ limit }
+    requires within { length claims.old.items ≤ room }
+    ensures result { (moment : ℕ) → result ≡ not (is_too_many limit room origin
+        (put (claim_by origin moment ssrc) claims.old.items)) }
+    ensures kept { claims.new ≡ claims.old }
 {
     match claims.owner(ssrc) {
         Some(owner) => owner == origin || claims.count(origin) < limit,

@@ -24,6 +24,7 @@ pub mod laws;
 mod naming;
 mod settings;
 mod table;
+mod tallies;
 mod verdict;
 
 pub use guard::{Guard, MAX_TRUSTED};

@@ -6,6 +6,7 @@ ghost use Rattle.rtcp_guard.specs.Claims.{after_lapse, claim_by, held, owner_in,
 ghost use Rattle.rtcp_guard.specs.Tables.{IsGap, IsRankOf, Locates};
 
 use crate::cells::{Cell, count, hinted, note, oldest, search, settle_last};
+use crate::tallies::Tallies;
 use std::alloc::{AllocError, Global};
 use std::marker::Model;
 
@@ -16,6 +17,7 @@ pub(crate) struct ClaimTable {
     cells: Vec<Cell>,
     /// A moment since which all sources were named: a check that goes by no later one reads no cell.
     oldest: u64,
+    tallies: Tallies,
 }
 
 impl Model for ClaimTable {
@@ -26,7 +28,7 @@ impl Model for ClaimTable {
 
     ghost view = { λ t. record { items = claims_in t.cells.items; room = vec_capacity t.cells } };
 
-    ghost invariant = { λ t. IsTable (claims_in t.cells.items) (vec_capacity t.cells) t.oldest };
+    ghost invariant = { λ t. IsTable (claims_in t.cells.items) (vec_capacity t.cells) t.oldest t.tallies.kept.items };
 }
 
 impl ClaimTable {
@@ -42,6 +44,7 @@ impl ClaimTable {
         Ok(ClaimTable {
             cells,
             oldest: u64::MAX,
+            tallies: Tallies::none(),
         })
     }
 
@@ -75,11 +78,17 @@ impl ClaimTable {
         }
     }
 
-    /// How many sources belong to an origin.
-    pub(crate) fn count(&self, origin: u64) -> usize
-        ensures { result ≡ held origin self.now.items }
+    /// How many sources belong to an origin. All claims are read where that is not known from the last time.
+    pub(crate) fn count(&mut self, origin: u64) -> usize
+        ensures count { result ≡ held origin self.old.items }
+        ensures kept { self.new ≡ self.old }
     {
-        count(&self.cells, origin)
+        if let Some(count) = self.tallies.of(origin) {
+            return count;
+        }
+        let count = count(&self.cells, origin);
+        self.tallies.keep(origin, count);
+        count
     }
 
     /// A source is claimed at a moment, whether it was claimed before or not.
@@ -103,6 +112,7 @@ impl ClaimTable {
         if before > self.oldest {
             self.cells.retain(|cell| cell.is_since(before));
             self.oldest = oldest(&self.cells);
+            self.tallies.forget();
         }
     }
 
@@ -151,9 +161,11 @@ impl ClaimTable {
         ensures room { self.new.room ≡ self.old.room }
     {
         let cell = &mut self.cells[at];
+        let is_moved = cell.origin != origin;
         cell.origin = origin;
         cell.last = t;
         self.oldest = self.oldest.min(t);
+        self.tallies.forget_if(is_moved);
     }
 
     /// Puts a claim into the gap for it.
@@ -168,5 +180,6 @@ impl ClaimTable {
         let _inserted = self.cells.insert(end, Cell::of(ssrc, origin, t));
         settle_last(&mut self.cells, gap, ssrc);
         self.oldest = self.oldest.min(t);
+        self.tallies.forget();
     }
 }

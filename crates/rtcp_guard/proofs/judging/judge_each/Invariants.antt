@@ -1,13 +1,13 @@
--- What is counted of the names that were looked at.
-use Rattle.std.proofs.Common.{◌≡◌, ◌<◌, ◌≤◌, ◌-◌, ℕ, length, min, take}
-use Rattle.rtcp_guard.specs.Claims.{held}
-use Rattle.rtcp_guard.proofs.Counting.{IsCounted}
+-- The new sources of the names that were looked at.
+use Rattle.std.proofs.Common.{◌≤◌, ◌++◌, ℕ, List, length, take}
+use Rattle.rtcp_guard.specs.Claims.{AreOwn}
+use Rattle.rtcp_guard.proofs.Gathering.{AreNew}
 use Rattle.rtcp_guard.proofs.judging.judge_each.Given as goal
 
 abbrev pub invariant-names : goal.invariant-names
 invariant-names l = record {
-  counted : (moment : ℕ) → IsCounted l.origin moment l.claims.items (take l.at l.names) l.fresh;
-  spare : 0 < l.fresh →
-      l.spare ≡ min (l.limit - held l.origin l.claims.items) (l.room - length l.claims.items);
-  fits : l.fresh ≤ min (l.limit - held l.origin l.claims.items) (l.room - length l.claims.items);
+  new : (own : List ℕ) → AreOwn l.origin own l.claims.items →
+      AreNew l.origin l.claims.items (own ++ take l.name-index l.names) l.fresh.items;
+  fits : length l.fresh.items ≤ l.spare;
+  few : length l.fresh.items ≤ l.name-index;
 }

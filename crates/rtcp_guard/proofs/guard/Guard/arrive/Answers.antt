@@ -8,6 +8,12 @@ use Rattle.rtcp_guard.proofs.guard.Guard.arrive.Goals as goal
 pub slice_bounds-decide-end : goal.slice_bounds-decide-end
 slice_bounds-decide-end c = sym (length-take-le 512 c.args.names.now (omega (arith, c.if-names-gt-MAX_NAMES.true)))
 
+pub decide-requires : goal.decide-requires
+decide-requires c = omega (
+  arith,
+  length-take-le 512 c.args.names.now (omega (arith, c.if-names-gt-MAX_NAMES.true)),
+)
+
 pub returns-then-names-gt-MAX_NAMES-clause-verdict : goal.returns-then-names-gt-MAX_NAMES-clause-verdict
 returns-then-names-gt-MAX_NAMES-clause-verdict c = c.decide.ensures.verdict
     ∙ sym (decided_more c.args.origin c.args.t c.args.names.now c.args.self.now c.if-names-gt-MAX_NAMES.true)

@@ -1,11 +1,13 @@
 -- The origin's own sources are as few as before.
-use Rattle.std.proofs.Common.{ap, ◌∙◌}
+use Rattle.std.proofs.Common.{arith, ap, subst, ◌∙◌}
+use Rattle.std.proofs.lemmas.List.{take_all}
+use Rattle.rtcp_guard.specs.Claims.{AreOwn}
 use Rattle.rtcp_guard.specs.Guarding.{GuardValue, verdict_by}
 use Rattle.rtcp_guard.proofs.Bounding.{own_pass}
 use Rattle.rtcp_guard.proofs.guard.Guard.judge.Goals as goal
 
-pub returns-then-own_all-clause-verdict : goal.returns-then-own_all-clause-verdict
-returns-then-own_all-clause-verdict c = λ moment.
+pub returns-then-own-names-clause-verdict : goal.returns-then-own-names-clause-verdict
+returns-then-own-names-clause-verdict c = λ moment.
     let guard : GuardValue = record {
       settings = c.self.inside.settings;
       claims = c.self.inside.claims.items;
@@ -13,5 +15,6 @@ returns-then-own_all-clause-verdict c = λ moment.
       held_back = c.self.inside.held_back;
     } in
     own_pass guard c.args.origin moment c.args.names.now c.self.invariant.bounded
-    (c.own_all.ensures.own c.if-own_all.true)
+    (subst (λ names. AreOwn c.args.origin names c.self.inside.claims.items)
+    (take_all c.own_first-own.result c.args.names.now (omega (arith, c.if-own-names.true))) c.own_first-own.ensures.own)
     ∙ ap (verdict_by c.args.origin moment c.args.names.now) c.self.view_is

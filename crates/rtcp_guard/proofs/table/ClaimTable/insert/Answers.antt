@@ -3,34 +3,34 @@ use Rattle.std.proofs.Common.{◌≡◌, ◌<◌, ◌≤◌, ◌+◌, [], ◌∷
 use Rattle.std.specs.List.{insert}
 use Rattle.std.proofs.lemmas.List.Edits.{insert_end}
 use Rattle.rtcp_guard.specs.Claims.{claim_by, put}
-use Rattle.rtcp_guard.specs.Tables.{AreRising, AreSince, IsGap, TableValue, claims_in}
+use Rattle.rtcp_guard.specs.Tables.{AreRising, AreSince, AreTallies, IsGap, TableValue, claims_in}
 use Rattle.rtcp_guard.proofs.Ages.{since_named}
 use Rattle.rtcp_guard.proofs.Orders.{gap_within, rising_put}
 use Rattle.rtcp_guard.proofs.Rows.{as_many, over_whole, put_in_gap}
 use Rattle.rtcp_guard.proofs.table.ClaimTable.insert.Goals as goal
-use Rattle.rtcp_guard.proofs.table.ClaimTable.insert.Goals.{After-self-2-1}
+use Rattle.rtcp_guard.proofs.table.ClaimTable.insert.Goals.{After-forget}
 
-its_gap : (c : After-self-2-1) → IsGap c.args.ssrc (claims_in c.self.inside.cells.items) c.args.gap
+its_gap : (c : After-forget) → IsGap c.args.ssrc (claims_in c.self.inside.cells.items) c.args.gap
 its_gap c = subst (λ (t : TableValue). IsGap c.args.ssrc t.items c.args.gap) (sym c.self.view_is) c.requires.gap
 
-has_room : (c : After-self-2-1) → c.self.inside.cells.len < c.self.inside.cells.cap
+has_room : (c : After-forget) → c.self.inside.cells.len < c.self.inside.cells.cap
 has_room c =
     let room = c.requires.room in
     let long = ap (λ (t : TableValue). length t.items) c.self.view_is in
     let wide = ap (λ (t : TableValue). t.room) c.self.view_is in
     omega (arith, room, long, wide, as_many c.self.inside.cells.items, c.self.inside.cells.ok.0)
 
-its_end : (c : After-self-2-1) → c.len-end.result ≡ length c.self.inside.cells.items
+its_end : (c : After-forget) → c.len-end.result ≡ length c.self.inside.cells.items
 its_end c = omega (arith, c.len-end.ensures, c.self.inside.cells.ok.0)
 
-its_items : (c : After-self-2-1) → c.insert-inserted.new.self.items ≡ c.self.inside.cells.items ++ c.of.result ∷ []
+its_items : (c : After-forget) → c.insert-inserted.new.self.items ≡ c.self.inside.cells.items ++ c.of.result ∷ []
 its_items c = c.insert-inserted.ensures.items
     ∙ ap (λ b. cond b (insert c.self.inside.cells.items c.len-end.result c.of.result) c.self.inside.cells.items)
     (c.insert-inserted.ensures.succeeds (has_room c))
     ∙ ap (λ n. insert c.self.inside.cells.items n c.of.result) (its_end c)
     ∙ insert_end c.self.inside.cells.items c.of.result
 
-gap_inside : (c : After-self-2-1) → c.args.gap ≤ length c.self.inside.cells.items
+gap_inside : (c : After-forget) → c.args.gap ≤ length c.self.inside.cells.items
 gap_inside c = let within = gap_within c.args.ssrc (claims_in c.self.inside.cells.items) c.args.gap (its_gap c) in
     omega (arith, within, as_many c.self.inside.cells.items)
 
@@ -47,10 +47,10 @@ settle_last-requires c =
     ∙ ap (λ b. cond b (cells.len + 1) cells.len) (c.insert-inserted.ensures.succeeds has_room) in
     omega (arith, within, as_many cells.items, cells.ok.0, more, c.deref_mut.ensures.len)
 
-its_length : (c : After-self-2-1) → c.insert-inserted.new.self.len ≡ length c.settle_last.new.cells
+its_length : (c : After-forget) → c.insert-inserted.new.self.len ≡ length c.settle_last.new.cells
 its_length c = omega (arith, c.insert-inserted.new.self.ok.0, c.settle_last.auto.cells, c.deref_mut.ensures.len)
 
-then_claims : (c : After-self-2-1) → claims_in (take c.insert-inserted.new.self.len (c.settle_last.new.cells
+then_claims : (c : After-forget) → claims_in (take c.insert-inserted.new.self.len (c.settle_last.new.cells
     ++ drop (length c.settle_last.new.cells) c.insert-inserted.new.self.items))
     ≡ put (claim_by c.args.origin c.args.t c.args.ssrc) (claims_in c.self.inside.cells.items)
 then_claims c =
@@ -78,6 +78,7 @@ invariant_of-self c =
           (subst (AreSince (min c.self.inside.oldest c.args.t)) (sym (then_claims c))
           (since_named c.self.inside.oldest (claim_by c.args.origin c.args.t c.args.ssrc)
           (claims_in c.self.inside.cells.items) c.self.invariant.since));
+      counted = subst (AreTallies (claims_in cells)) (sym c.forget.ensures) tt;
       within = omega (arith, as_many cells, long, its_length c, more, room, c.insert-inserted.ensures.capacity);
     }
 

@@ -3,14 +3,14 @@ use Rattle.std.proofs.Common.{◌≡◌, rules, arith, length, nat_le, sym, ap, 
 use Rattle.std.proofs.lemmas.Fn.{filter_same}
 use Rattle.rtcp_guard.specs.declared.cells.Cell.{Cell}
 use Rattle.rtcp_guard.specs.Claims.{Claim, after_lapse}
-use Rattle.rtcp_guard.specs.Tables.{AreRising, AreSince, TableValue, claims_in}
+use Rattle.rtcp_guard.specs.Tables.{AreRising, AreSince, AreTallies, TableValue, claims_in}
 use Rattle.rtcp_guard.proofs.Ages.{all_stay}
 use Rattle.rtcp_guard.proofs.Orders.{rising_filter}
 use Rattle.rtcp_guard.proofs.Putting.{length_filter}
 use Rattle.rtcp_guard.proofs.Rows.{claims_filtered}
 use Rattle.rtcp_guard.proofs.table.ClaimTable.lapse.Goals as goal
 
-left : (c : goal.After-self-1) → claims_in c.retain.new.self.items
+left : (c : goal.After-forget) → claims_in c.retain.new.self.items
     ≡ after_lapse c.args.before (claims_in c.self.inside.cells.items)
 left c =
     ap claims_in (filter_same _ (λ (cell : Cell). nat_le c.args.before cell.last) _ (λ x b f called. search rules)
@@ -28,6 +28,7 @@ invariant_of-self c =
           c.self.invariant.rising);
       since = subst (λ cells. AreSince c.oldest-self-inside.result (claims_in cells)) c.deref.ensures.value
           c.oldest-self-inside.ensures;
+      counted = subst (AreTallies (claims_in c.retain.new.self.items)) (sym c.forget.ensures) tt;
       within = omega (arith, less, long, c.self.invariant.within, c.retain.ensures.capacity);
     }
 
