@@ -1,13 +1,14 @@
 //! Which datagrams are held back.
 
-ghost use Rattle.std.specs.Prelude.{◌≡◌, ◌<◌, ◌≤◌, ◌++◌, ℕ, List, length, take};
+ghost use Rattle.std.specs.Prelude.{◌≡◌, ◌<◌, ◌≤◌, ◌++◌, ℕ, [], List, length, take};
 ghost use Rattle.rtcp_guard.specs.Claims.{AreOwn, held, is_of_another, owner_in};
 ghost use Rattle.rtcp_guard.specs.Guarding.{judged};
 ghost use Rattle.rtcp_guard.specs.Tables.{AreRising, IsSpare};
 
-use crate::naming::Names;
+use crate::naming::{FEW, FewNames, Names};
 use crate::table::ClaimTable;
 use crate::verdict::Verdict;
+use arrayvec::ArrayVec;
 
 /// How many of the first names are sources of an origin.
 #[inline(always)]
@@ -48,7 +49,10 @@ pub(crate) fn judge_rest(
         return Verdict::Stranger;
     }
     let spare = spare_of(claims, limit, room, origin);
-    judge_each(claims, spare, origin, names)
+    if names.len() <= FEW {
+        return judge_each(claims, spare, origin, names, &mut FewNames::new());
+    }
+    judge_each(claims, spare, origin, names, &mut Names::new())
 }
 
 /// Whether a source belongs to another origin.
@@ -78,15 +82,22 @@ fn spare_of(claims: &mut ClaimTable, limit: usize, room: usize, origin: u64) -> 
 }
 
 /// What becomes of a datagram of an origin that may have `spare` sources more, by each of these names in turn. A name
-/// that is given again is not a source more.
-fn judge_each(claims: &ClaimTable, spare: usize, origin: u64, names: &[u32]) -> Verdict
+/// that is given again is not a source more: `fresh` takes each new one once.
+// The list is the caller's, since a list pays for all its room when it is made.
+fn judge_each<const N: usize>(
+    claims: &ClaimTable,
+    spare: usize,
+    origin: u64,
+    names: &[u32],
+    fresh: &mut ArrayVec<u32, N>,
+) -> Verdict
     requires rising { AreRising claims.now.items }
-    requires short { length names.now ≤ 512 }
+    requires short { length names.now ≤ N }
+    requires none { fresh.old.items ≡ [] }
     ensures { (moment limit room : ℕ) (own : List ℕ) → IsSpare limit room origin claims.now.items spare →
         AreOwn origin own claims.now.items →
         result ≡ judged limit room origin moment (own ++ names.now) claims.now.items }
 {
-    let mut fresh = Names::new();
     'names: for name in names {
         match claims.owner(*name) {
             Some(owner) if owner != origin => return Verdict::Stranger,

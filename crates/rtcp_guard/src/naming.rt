@@ -9,8 +9,11 @@ use rtcp_wire::{Compound, RtpHead, facts};
 /// The most names of a datagram that a guard looks at. A datagram of 1,472 octets has fewer.
 pub const MAX_NAMES: usize = 512;
 
-/// Room for the names of an RTP packet, its SSRC and up to 15 CSRCs, and for those of most compounds.
-pub(crate) type FewNames = ArrayVec<u32, 16>;
+/// An RTP packet has no more names, its SSRC and up to 15 CSRCs, and most compounds have not either.
+pub(crate) const FEW: usize = 16;
+
+/// Room for few names.
+pub(crate) type FewNames = ArrayVec<u32, FEW>;
 
 /// Room for all names that a guard looks at.
 pub(crate) type Names = ArrayVec<u32, MAX_NAMES>;

@@ -9,11 +9,11 @@ use Rattle.rtcp_guard.proofs.judging.judge_each.Goals as goal
 use Rattle.rtcp_guard.proofs.judging.judge_each.Goals.{in-Some+else-owner-origin, in-None, in-None-3}
 
 pub names-init : goal.names-init
-names-init c =
-    let none = ap length c.new-fresh.ensures in
+names-init g c =
+    let none = ap length c.requires.none in
     record {
       new = λ own its. subst (λ fresh. AreNew c.args.origin c.args.claims.now.items (own ++ []) fresh)
-          (sym c.new-fresh.ensures) (new_first c.args.origin c.args.claims.now.items own c.requires.rising its);
+          (sym c.requires.none) (new_first c.args.origin c.args.claims.now.items own c.requires.rising its);
       fits = omega (arith, none);
       few = omega (arith, none);
     }
@@ -31,7 +31,7 @@ all_names own names at within = append_assoc own (take at names) (get_or names a
     ∙ ap (λ ns. own ++ ns) (take-append-drop at names)
 
 pub names-preserved : goal.names-preserved
-names-preserved c =
+names-preserved g c =
     let at = c.names.name-index in
     let names = c.args.names.now in
     let n = get_or names at 0 in
@@ -83,7 +83,7 @@ names-preserved c =
     ]
 
 pub returns-in-Some : goal.returns-in-Some
-returns-in-Some c = λ moment limit room own spare its.
+returns-in-Some g c = λ moment limit room own spare its.
     let at = c.names.name-index in
     let names = c.args.names.now in
     let n = get_or names at 0 in
@@ -95,7 +95,7 @@ returns-in-Some c = λ moment limit room own spare its.
     ∙ ap (λ ns. judged limit room c.args.origin moment ns claims) (all_names own names at c.names-test.true)
 
 pub returns-in-None-2 : goal.returns-in-None-2
-returns-in-None-2 c = λ moment limit room own spare its.
+returns-in-None-2 g c = λ moment limit room own spare its.
     let at = c.names.name-index in
     let names = c.args.names.now in
     let n = get_or names at 0 in
@@ -108,7 +108,7 @@ returns-in-None-2 c = λ moment limit room own spare its.
     (append_assoc (own ++ take at names) (n ∷ []) (drop (at + 1) names) ∙ all_names own names at c.names-test.true)
 
 pub returns : goal.returns
-returns c = λ moment limit room own spare its.
+returns g c = λ moment limit room own spare its.
     let at = c.names.name-index in
     let names = c.args.names.now in
     let claims = c.args.claims.now.items in

@@ -5,7 +5,7 @@ use Rattle.rtcp_guard.proofs.Gathering.{AreNew}
 use Rattle.rtcp_guard.proofs.judging.judge_each.Given as goal
 
 abbrev pub invariant-names : goal.invariant-names
-invariant-names l = record {
+invariant-names g l = record {
   new : (own : List ℕ) → AreOwn l.origin own l.claims.items →
       AreNew l.origin l.claims.items (own ++ take l.name-index l.names) l.fresh.items;
   fits : length l.fresh.items ≤ l.spare;
