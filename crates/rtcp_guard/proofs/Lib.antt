@@ -22,6 +22,8 @@ pub mod Deciding
 pub mod Bounding
 -- What the host may expect.
 pub mod Expecting
+-- The names of a compound, one after the other.
+pub mod Runs
 -- Compounds that are about one source.
 pub mod Soles
 -- Who owns a source by the history.

@@ -1,5 +1,5 @@
 -- The names of a compound that is about one source.
-use Rattle.std.proofs.Common.{◌≡◌, ◌==◌, ◌&&◌, ◌++◌, ℕ, not, Bool, true, false, cond, List, [], ◌∷◌, map, Option, Some, None, arith, refl, ap, subst, ◌∙◌}
+use Rattle.std.proofs.Common.{◌≡◌, ◌==◌, ◌&&◌, ◌++◌, ℕ, not, Bool, true, false, cond, List, [], ◌∷◌, map, Option, Some, None, arith, refl, sym, ap, subst, ◌∙◌}
 use Rattle.std.specs.List.{list_all}
 use Rattle.std.proofs.lemmas.Bool.{eqb-true}
 use Rattle.std.proofs.lemmas.Bool.Decides.{nat_tests}
@@ -9,7 +9,8 @@ use Rattle.rtcp_wire.specs.declared.sole.SoleSource.{SoleSource}
 use Rattle.rtcp_wire.specs.Facts.{subject, facts_of}
 use Rattle.rtcp_wire.specs.Sole.{IsSole, is_presence_of, clock_told}
 use Rattle.rtcp_wire.specs.Values.{RtcpPacket}
-use Rattle.rtcp_guard.specs.Naming.{but, unrepeated, names_after, names_of_compound}
+use Rattle.rtcp_guard.specs.Naming.{but, names_of_compound}
+use Rattle.rtcp_guard.proofs.Runs.{unrepeated, names_after, each_once}
 
 -- each of these facts is of one source
 abbrev AreOfOne : (ssrc : ℕ) → List Fact → Type 0
@@ -66,7 +67,8 @@ sole_names own source packets sole =
     let rest : List Fact = clock_told source.ssrc source.timestamps ++ sole.others in
     let all : AreOfOne source.ssrc rest = clock_of_one source.ssrc source.timestamps sole.others
     (others_of_one source.ssrc sole.others sole.alone) in
-    ap (names_after own None) sole.parts
+    sym (each_once (but own (map subject (facts_of packets))))
+    ∙ ap (names_after own None) sole.parts
     ∙ elim (source.ssrc == own) as (λ b. source.ssrc == own ≡ b →
     unrepeated None (cond (not b) (source.ssrc ∷ but own (map subject rest)) (but own (map subject rest)))
     ≡ cond (not b) (source.ssrc ∷ []) []) [

@@ -1,9 +1,12 @@
 //! Laws of who owns a source, and of what is held back. Each is an empty function whose postcondition is the law.
 
-ghost use Rattle.std.specs.Prelude.{◌≡◌, ◌≤◌, ◌++◌, ℕ, List, [], ◌∷◌, length, true, false};
+ghost use Rattle.std.specs.Prelude.{◌≡◌, ◌≤◌, ◌++◌, ℕ, List, [], ◌∷◌, length, map, true, false};
+ghost use Rattle.rtcp_wire.specs.Facts.{facts_of, subject};
+ghost use Rattle.rtcp_wire.specs.Values.{RtcpPacket};
 ghost use Rattle.rtcp_guard.specs.Claims.{found, held, is_named, is_of_another, owner_in, with_names};
 ghost use Rattle.rtcp_guard.specs.Guarding.{GuardStep, GuardValue, after, limit_of, new_guard, room_of, verdict_on};
 ghost use Rattle.rtcp_guard.specs.Histories.{AreOf, Keeps, NamesOnly, StandsAt, are_among, claim_of, guard_after, is_passed, owner_of, passed_about, without};
+ghost use Rattle.rtcp_guard.specs.Naming.{but, names_of_compound};
 ghost use Rattle.rtcp_guard.specs.declared.settings.Settings.{Settings};
 ghost use Rattle.rtcp_guard.specs.declared.verdict.Verdict.TheVariants.{Pass};
 
@@ -20,6 +23,12 @@ pub fn guards_follow_histories()
 pub fn claims_are_those_of_the_history()
     ensures { (settings : Settings) (history : List GuardStep) (ssrc : ℕ) →
         found ssrc (guard_after settings history).claims ≡ claim_of settings ssrc history }
+{}
+
+/// A compound names the sources that its facts speak of, but the participant's own SSRC, and no others.
+pub fn compounds_name_their_sources()
+    ensures { (own ssrc : ℕ) (packets : List RtcpPacket) →
+        is_named ssrc (names_of_compound own packets) ≡ is_named ssrc (but own (map subject (facts_of packets))) }
 {}
 
 /// No origin ever has more sources than it may, those included that left within the hold, and all origins together

@@ -1,6 +1,7 @@
 -- The names so far and those that are left are all names.
 use Rattle.std.proofs.Common.{◌≡◌, ◌≤◌, ◌++◌, length}
-use Rattle.rtcp_guard.specs.Naming.{names_after, names_of_compound}
+use Rattle.rtcp_guard.specs.Naming.{names_of_compound}
+use Rattle.rtcp_guard.proofs.Runs.{names_after}
 use Rattle.rtcp_guard.proofs.naming.of_compound.Given as goal
 
 abbrev pub invariant-facts : goal.invariant-facts
