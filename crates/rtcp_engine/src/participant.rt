@@ -6,7 +6,7 @@ ghost use Rattle.rtcp_members.specs.ListViews.{state_value};
 ghost use Rattle.rtcp_engine.specs.declared.config.ConfigError.{ConfigError as Error};
 ghost use Rattle.rtcp_engine.specs.answers.Acts.{forget_asked, leave_asked, packet_sent, rtcp_arrived, rtp_arrived, settings_given, time_passed};
 ghost use Rattle.rtcp_engine.specs.answers.Histories.{History, life_at, setup_at};
-ghost use Rattle.rtcp_engine.specs.answers.Lives.{members_in_life, senders_in_life, entries_in_life, ListsInLife, WalksInLife, next_in_life};
+ghost use Rattle.rtcp_engine.specs.answers.Lives.{members_in_life, senders_in_life, entries_in_life, ListsInLife, WalksInLife, next_in_life, silent_in_life};
 ghost use Rattle.rtcp_engine.specs.answers.Refused.{error_in};
 ghost use Rattle.rtcp_engine.specs.state.States.{KeepsCapacity, StandsAt};
 ghost use Rattle.rtcp_engine.specs.state.Promises.{Answers};
@@ -180,6 +180,20 @@ impl<T: MemberTable> Participant<T> {
         ensures bounded { IfSome result (λ next. next < 2 ^ 51) }
     {
         self.standing().next
+    }
+
+    /// The moment before which a source has been silent for too long, by a check at the moment `now`: five intervals of
+    /// a participant that does not send, before `now` (RFC 3550, 6.3.5), in microseconds since the session began. A tick
+    /// at `now` drops just the sources that were last heard before it, and those whose BYE is held no longer. 0 once the
+    /// participant leaves, as then nobody is dropped any more. It changes nothing.
+    pub fn silent_before(&self, now: u64) -> u64
+        ensures { (history : History) → StandsAt self.now history →
+            result ≡ silent_in_life (setup_at history) now (life_at history) }
+    {
+        match self.phase {
+            Phase::Present => self.presence.silent_before(now),
+            Phase::BackingOff(_) | Phase::Finished => 0,
+        }
     }
 
     /// The SSRC under which the participant takes part, or did last.

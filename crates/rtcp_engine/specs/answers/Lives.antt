@@ -13,10 +13,10 @@ use Rattle.rtcp_engine.specs.answers.Setups.{Setup, SettingsValue}
 use Rattle.rtcp_engine.specs.answers.Acts.{Act, rtcp, arrived, ticked, left}
 use Rattle.rtcp_engine.specs.answers.OwnStreams.{has_sent}
 use Rattle.rtcp_engine.specs.answers.Reporting.{bye_octets}
-use Rattle.rtcp_engine.specs.answers.Outcomes.{Outcome, member_count, sender_count, timing_of, with_pace}
+use Rattle.rtcp_engine.specs.answers.Outcomes.{Outcome, check_interval, member_count, sender_count, timing_of, with_pace}
 use Rattle.rtcp_engine.specs.answers.Arrivals.{after, with_change}
 use Rattle.rtcp_engine.specs.answers.Steps.{OutValue, StepValue}
-use Rattle.rtcp_engine.specs.answers.Ticks.{checked, report_due}
+use Rattle.rtcp_engine.specs.answers.Ticks.{checked, horizons_of, report_due}
 use Rattle.rtcp_engine.specs.answers.Leaving.{Backoff, Life, present, backing_off, finished, bye_at_once, after_byes, after_own_bye, counted_anew, after_waiting_tick, is_bye_due, left_at, leaving_count, leaving_timing}
 
 -- ---- Acts
@@ -121,6 +121,13 @@ abbrev pub next_in_life : Life → Option ℕ
 next_in_life (present outcome) = Some (timing_of outcome).next
 next_in_life (backing_off outcome backoff) = Some (leaving_timing backoff).next
 next_in_life (finished outcome) = None
+
+-- The moment before which a source was silent for too long for a check at the moment `t` (6.3.5): the horizon of a tick
+-- at that moment. From its leave on the participant makes no check.
+abbrev pub silent_in_life : Setup → (t : ℕ) → Life → ℕ
+silent_in_life setup t (present outcome) = (horizons_of t (check_interval setup t outcome)).silent
+silent_in_life setup t (backing_off outcome backoff) = 0
+silent_in_life setup t (finished outcome) = 0
 
 -- ---- The whole
 

@@ -114,6 +114,15 @@ impl<T: MemberTable> Presence<T> {
         self.schedule.departed(self.latest, members);
     }
 
+    /// The moment before which a source was silent for too long for a check at the moment `now`.
+    pub(crate) fn silent_before(&self, now: u64) -> u64
+        ensures { (outcome : Outcome) → Agrees self.now outcome →
+            result ≡ (horizons_of now (check_interval self.now.setup now outcome)).silent }
+    {
+        let load = slowed(self.pace, now, self.receiver_load());
+        now.saturating_sub(5 * interval(&load))
+    }
+
     /// The interval that the horizons of a check go by.
     fn check_interval(&self) -> u64
         ensures exact { (outcome : Outcome) → Agrees self.now outcome →
