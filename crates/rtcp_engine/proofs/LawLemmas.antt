@@ -44,6 +44,7 @@ pub use Rattle.rtcp_engine.proofs.PaceEnds.{end_stays as former_paces_end-stays}
 pub use Rattle.rtcp_engine.proofs.PaceEnds.{end_of_session as former_paces_end-end}
 pub use Rattle.rtcp_engine.proofs.PaceEnds.{alone_after as former_paces_end-alone}
 pub use Rattle.rtcp_engine.proofs.PaceEnds.{dropped_after as former_paces_end-dropped}
+pub use Rattle.rtcp_engine.proofs.NewIdentifiers.{new_is_free as new_identifiers_are_free-free}
 pub use Rattle.rtcp_engine.proofs.ChangeRest.{ssrc_alone as changes_touch_the_identifier_alone-setup}
 pub use Rattle.rtcp_engine.proofs.ChangeRest.{rest_stays as changes_touch_the_identifier_alone-rest}
 

@@ -2,9 +2,9 @@
 -- `Agrees`, and `RolesChanged` on what changes the roles of others; `Soundness` shows that a state stays sound.
 -- `ActLemmas` leads from `Does` to `Acts`, by phase, and from `Acts` to `Takes`, with `AnswerLemmas` and `LifeLemmas`.
 -- `Changing`, `ChangeRest` and `ChangeLemmas` cover a change of SSRC, in a session and in a participant, `Arriving`
--- datagrams, and `Hearing` and `Sighting` who is a member since a datagram named it. `Pacing` and `PaceEnds` cover what
--- checks go by after a change of bandwidths. `Saying` covers facts that are applied part by part, and `OneSource` those
--- of one source.
+-- datagrams, `Inspecting` those that are yet to be taken, and `Hearing` and `Sighting` who is a member since a datagram
+-- named it. `Pacing` and `PaceEnds` cover what checks go by after a change of bandwidths. `Saying` covers facts that are
+-- applied part by part, and `OneSource` those of one source.
 -- That the search for a new SSRC ends with a free one is proved by counting those in its way (`NewIdentifiers`,
 -- `IdentifierSearch`).
 --
@@ -22,6 +22,7 @@ mod Counting
 mod StepLemmas
 mod Quiet
 mod Following
+mod Inspecting
 mod Keeping
 mod LifeLemmas
 mod RolesChanged

@@ -65,7 +65,7 @@ mod table;
 pub use clock::Clock;
 pub use config::{Config, ConfigError, rtcp_bw_of, shares_of};
 pub use event::Event;
-pub use participant::Participant;
+pub use participant::{InspectedRtcp, InspectedRtp, Participant};
 pub use refusal::Refusal;
 pub use rtcp_listing::{Change, Changes, Listed, Role, is_rising};
 pub use rtcp_report::Item;

@@ -26,7 +26,10 @@ mod answering;
 mod backoff;
 mod calls;
 mod changing;
+mod inspecting;
 mod phases;
+
+pub use inspecting::{InspectedRtcp, InspectedRtp};
 
 /// The most members with which a BYE goes out at once (RFC 3550, 6.3.7).
 const FEW_MEMBERS: u32 = 50;

@@ -1,8 +1,9 @@
 -- What a participant answers to an act, after the acts that it took before.
-use Rattle.std.specs.Prelude.{List, [], ◌∷◌, Some, None, option_map}
+use Rattle.std.specs.Prelude.{ℕ, List, [], ◌∷◌, Some, None, option_map, Result, Ok, Err}
+use Rattle.rtcp_engine.specs.declared.refusal.Refusal.{Refusal}
 use Rattle.rtcp_engine.specs.answers.Acts.{Act}
 use Rattle.rtcp_engine.specs.answers.Changes.{change_by}
-use Rattle.rtcp_engine.specs.answers.Histories.{History, brought_by, others_changed_by, session_at, with_act}
+use Rattle.rtcp_engine.specs.answers.Histories.{History, brought_by, others_changed_by, session_at, session_for, with_act}
 use Rattle.rtcp_engine.specs.answers.Lives.{step_into}
 use Rattle.rtcp_engine.specs.answers.Refusals.{refusal_after}
 use Rattle.rtcp_engine.specs.answers.Steps.{StepValue, AnswerValue, answer_unless}
@@ -24,6 +25,14 @@ answer_of history act = answer_unless (refusal_after history act) (step_by histo
 abbrev pub followed_by : History → Act → History
 followed_by history act =
     elim (refusal_after history act) [ None ↦ with_act history act | Some refusal ↦ history ]
+
+-- The SSRC under which an act is taken after a history, with the change that the act brings (8.2), or why it is refused.
+abbrev pub taken_under : History → Act → Result ℕ Refusal
+taken_under history act =
+    elim (refusal_after history act) [
+      | None ↦ Ok (session_for (session_at history) act).setup.ssrc
+      | Some refusal ↦ Err refusal
+    ]
 
 -- The answers to acts, the first one first.
 abbrev pub answers_to : History → List Act → List AnswerValue

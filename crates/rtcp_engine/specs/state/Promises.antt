@@ -5,7 +5,7 @@ use Rattle.rtcp_engine.specs.declared.step.Standing.{Standing}
 use Rattle.rtcp_engine.specs.declared.step.WrittenStep.{WrittenStep}
 use Rattle.rtcp_engine.specs.declared.step.Step.{Step}
 use Rattle.rtcp_engine.specs.answers.Acts.{Act, EventValue, IsActOfEvent}
-use Rattle.rtcp_engine.specs.answers.Answers.{answer_of, followed_by}
+use Rattle.rtcp_engine.specs.answers.Answers.{answer_of, followed_by, taken_under}
 use Rattle.rtcp_engine.specs.answers.Histories.{History, life_at, setup_at}
 use Rattle.rtcp_engine.specs.answers.Lives.{standing_in_life}
 use Rattle.rtcp_engine.specs.bounds.Runs.{IsAnsweredInTime}
@@ -59,3 +59,10 @@ pub record Replies
   pub takes : (act : Act) → IsActOfEvent event act → Takes old act (reply_value after reply) new
   pub spares : Spares old reply new
   pub writes : WritesReply before after reply new
+
+-- ---- A datagram that is yet to be taken
+
+-- A participant says under which SSRC it takes an event, or why it refuses it.
+abbrev pub Foretells : ParticipantValue → EventValue → Result ℕ Refusal → Type 0
+Foretells participant event told = (act : Act) (history : History) → IsActOfEvent event act →
+    StandsAt participant history → told ≡ taken_under history act

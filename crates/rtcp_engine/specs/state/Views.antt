@@ -8,6 +8,8 @@ use Rattle.rtcp_engine.specs.declared.participant.Phase.{Phase}
 use Rattle.rtcp_engine.specs.declared.participant.Phase.TheVariants.{Present, BackingOff, Finished}
 use Rattle.rtcp_engine.specs.declared.presence.ticks.NumberedReport.{NumberedReport}
 use Rattle.rtcp_engine.specs.declared.refusal.Refusal.{Refusal}
+use Rattle.rtcp_engine.specs.declared.participant.inspecting.InspectedRtcp.{InspectedRtcp}
+use Rattle.rtcp_engine.specs.declared.participant.inspecting.InspectedRtp.{InspectedRtp}
 use Rattle.rtcp_engine.specs.declared.step.Out.{Out}
 use Rattle.rtcp_engine.specs.declared.step.Step.{Step}
 use Rattle.rtcp_engine.specs.declared.step.WrittenStep.{WrittenStep}
@@ -74,6 +76,15 @@ datagram_of (Rtp head) = rtp (Ok head)
 -- A datagram that was read names fewer than 2^16 sources, as it has fewer octets.
 abbrev pub NamesFewer : Arrival → Type 0
 NamesFewer arrival = length (named_by (datagram_of arrival)) < 2 ^ 16
+
+-- the SSRC under which a datagram is taken that was inspected
+abbrev pub ssrc_for_compound : Result InspectedRtcp Refusal → Result ℕ Refusal
+ssrc_for_compound (Ok inspected) = Ok inspected.ssrc
+ssrc_for_compound (Err refusal) = Err refusal
+
+abbrev pub ssrc_for_packet : Result InspectedRtp Refusal → Result ℕ Refusal
+ssrc_for_packet (Ok inspected) = Ok inspected.ssrc
+ssrc_for_packet (Err refusal) = Err refusal
 
 -- ---- Answers
 

@@ -184,7 +184,7 @@ impl<T: MemberTable> Participant<T> {
     }
 
     /// Why a call at the moment `now` is refused, whatever it tells.
-    fn refusal(&self, now: u64) -> Option<Refusal>
+    pub(super) fn refusal(&self, now: u64) -> Option<Refusal>
         ensures exact { result ≡ refusal_by now self.now }
         ensures in_order { result ≡ None → Admits self.now.presence now }
         ensures within { KeepsCapacity self.now.presence }

@@ -86,7 +86,7 @@ impl<T: MemberTable> Participant<T> {
 
     /// The first of `w`, the number after it, and so on that is not taken: neither by the participant, now or
     /// before, nor by a source of its table, nor in the datagram.
-    fn free_ssrc(&self, w: u32, arrival: &Arrival<'_>) -> u32
+    pub(super) fn free_ssrc(&self, w: u32, arrival: &Arrival<'_>) -> u32
         requires few { NamesFewer arrival.now }
         ensures { (history : History) → StandsAt self.now history → (self.now.phase ≡ over → ⊥) →
             result ≡ new_identifier w (session_at history) (datagram_of arrival.now) }
