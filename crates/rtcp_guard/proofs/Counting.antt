@@ -1,9 +1,8 @@
 -- What is counted of a datagram's names, and the verdict by it.
-use Rattle.std.proofs.Common.{◌≡◌, ◌<◌, ◌≤◌, ◌+◌, ◌==◌, ◌||◌, ◌++◌, ℕ, eqb, nat_lt, not, Bool, true, false, cond, List, [], ◌∷◌, length, Option, Some, None, option_map, arith, refl, sym, ap, subst, ◌∙◌}
+use Rattle.std.proofs.Common.{◌≡◌, ◌<◌, ◌≤◌, ◌+◌, ◌==◌, ◌||◌, ◌++◌, ℕ, nat_lt, not, Bool, true, false, cond, List, [], ◌∷◌, length, Option, Some, None, option_map, arith, refl, sym, ap, subst, ◌∙◌}
 use Rattle.std.proofs.lemmas.Bool.{eqb-true}
 use Rattle.std.proofs.lemmas.Bool.Decides.{nat_tests}
 use Rattle.std.proofs.lemmas.List.{append-nil, append_assoc}
-use Rattle.std.specs.Option.{option_eq}
 use Rattle.std.proofs.lemmas.List.Folds.{list_any-append}
 use Rattle.rtcp_guard.specs.Claims.{Claim, claim_by, found, owner_in, with_names, is_by, held, is_named, is_of_another, is_strange, before_stranger, is_too_many}
 use Rattle.rtcp_guard.specs.Guarding.{judged}
@@ -41,13 +40,6 @@ of_more P n names all last ssrc named =
 or_true : (b : Bool) → b || true ≡ true
 or_true true = refl
 or_true false = refl
-
-pub named_still : (ssrc n : ℕ) (names : List ℕ) → is_named ssrc names ≡ true → is_named ssrc (names ++ n ∷ []) ≡ true
-named_still ssrc n names named = named_more ssrc n names ∙ ap (λ b. b || (n == ssrc || false)) named
-
-pub named_last : (n : ℕ) (names : List ℕ) → is_named n (names ++ n ∷ []) ≡ true
-named_last n names =
-    named_more n n names ∙ ap (λ b. is_named n names || (b || false)) (is_itself n) ∙ or_true (is_named n names)
 
 pub counted_none : (origin moment : ℕ) (claims : List Claim) → IsCounted origin moment claims [] 0
 counted_none origin moment claims = record {
@@ -250,13 +242,6 @@ judged_pass limit room origin moment claims names fresh so few within =
     sym (λ i. cond (enough i) Crowd (cond (none i) Stranger Pass))
 
 -- ---- What the calls say
-
-pub is_some_of : (o : Option ℕ) (x : ℕ) → false ≡ not (option_eq eqb o (Some x)) → o ≡ Some x
-is_some_of None x e = absurd cc
-is_some_of (Some y) x e = elim (y == x) as (λ b. y == x ≡ b → false ≡ not b → Some y ≡ Some x) [
-  | true ↦ λ is e. ap (λ (n : ℕ). Some n) (eqb-true y x is)
-  | false ↦ λ is e. absurd cc
-] refl e
 
 pub counted_as : (origin moment : ℕ) (claims : List Claim) (seen next : List ℕ) (fresh more : ℕ) → next ≡ seen →
     more ≡ fresh → IsCounted origin moment claims seen fresh → IsCounted origin moment claims next more

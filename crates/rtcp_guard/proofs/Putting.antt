@@ -7,9 +7,6 @@ use Rattle.rtcp_guard.proofs.Orders.{before, same, behind, order, put_before, pu
 
 -- ---- Which
 
-choice_refl : (a b : ℕ) → a ≡ b → a == b ≡ true
-choice_refl a b e = grind (arith, nat_tests, e)
-
 pub found_put : (ssrc : ℕ) (claim : Claim) (claims : List Claim) →
     found ssrc (put claim claims) ≡ cond (claim.ssrc == ssrc) (Some claim) (found ssrc claims)
 found_put ssrc claim [] = refl
