@@ -1,0 +1,51 @@
+use Rattle.std.proofs.Common.{◌∙◌, Err, refl, sym, subst}
+use Rattle.rtcp_engine.specs.answers.Acts.{rtcp_arrived}
+use Rattle.rtcp_guarded.specs.Promises.{Replies}
+use Rattle.rtcp_guarded.specs.Views.{GuardedValue, as_refused}
+use Rattle.rtcp_guarded.specs.declared.untaken.Untaken.TheVariants.{HeldBack, Refused}
+use Rattle.rtcp_guarded.proofs.Calling.{held_compound, passed_compound, refused_reply}
+use Rattle.rtcp_guarded.proofs.guarded.GuardedParticipant.arrive_rtcp_into.Goals as goal
+
+pub returns-in-Err : goal.returns-in-Err
+returns-in-Err g c =
+    let event = rtcp_arrived c.args.now c.args.peer c.args.w c.args.bytes.now in
+    let old : GuardedValue = record { participant = c.self.inside.participant; guard = c.self.inside.guard } in
+    subst (λ (x : GuardedValue). Replies x event c.args.octets.now c.args.octets.now (Err (Refused c.in-Err.refusal)) x)
+    c.self.view_is (refused_reply {old = old} event c.in-Err.refusal c.in-Err.ensures.foretold)
+
+pub returns-in-Some : goal.returns-in-Some
+returns-in-Some g c =
+    let event = rtcp_arrived c.args.now c.args.peer c.args.w c.args.bytes.now in
+    let old : GuardedValue = record { participant = c.self.inside.participant; guard = c.self.inside.guard } in
+    let new : GuardedValue =
+    record { participant = c.self.inside.participant; guard = c.arrive_rtcp-verdict.new.self } in
+    subst (λ (x : GuardedValue). Replies x event c.args.octets.now c.args.octets.now (Err (HeldBack c.in-Some.reason))
+    new)
+    c.self.view_is (held_compound {old = old} {new = new} c.in-Ok.inspected.compound c.in-Ok.ensures.read
+    c.in-Ok.ensures.foretold (record {
+      origin = c.origin.result;
+      its = c.origin.ensures;
+      verdict_is = c.arrive_rtcp-verdict.ensures.verdict;
+      content = c.arrive_rtcp-verdict.ensures.content;
+    }) (sym c.reason_of.ensures ∙ c.in-Some.is) refl)
+
+pub returns : goal.returns
+returns g c =
+    let event = rtcp_arrived c.args.now c.args.peer c.args.w c.args.bytes.now in
+    let old : GuardedValue = record { participant = c.self.inside.participant; guard = c.self.inside.guard } in
+    let new : GuardedValue =
+    record { participant = c.arrive_rtcp_into.new.self; guard = c.arrive_rtcp-verdict.new.self } in
+    let replies : Replies old event c.args.octets.now c.arrive_rtcp_into.new.octets
+    (as_refused c.arrive_rtcp_into.result) new =
+    passed_compound {old = old} {new = new} c.in-Ok.inspected.compound c.arrive_rtcp_into.result c.in-Ok.ensures.read
+    c.in-Ok.ensures.foretold (record {
+      origin = c.origin.result;
+      its = c.origin.ensures;
+      verdict_is = c.arrive_rtcp-verdict.ensures.verdict;
+      content = c.arrive_rtcp-verdict.ensures.content;
+    }) (sym c.reason_of.ensures ∙ c.in_default.is) c.arrive_rtcp_into.ensures in
+    subst (λ (x : GuardedValue). Replies x event c.args.octets.now c.arrive_rtcp_into.new.octets c.as_untaken.result
+    new)
+    c.self.view_is (subst (λ r. Replies old event c.args.octets.now c.arrive_rtcp_into.new.octets r new)
+    (sym c.as_untaken.ensures)
+    replies)

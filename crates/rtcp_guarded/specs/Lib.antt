@@ -1,0 +1,4 @@
+pub mod Codes
+pub mod Guarded
+pub mod Views
+pub mod Promises

@@ -1,0 +1,200 @@
+//! The calls of a guarded participant, one for each event, as those of a participant: each writes its compound, if it
+//! has one, to the start of the caller's octets.
+
+ghost use Rattle.std.specs.Prelude.{◌≡◌};
+ghost use Rattle.rtcp_engine.specs.answers.Acts.{forget_asked, leave_asked, packet_sent, rtcp_arrived, rtp_arrived, settings_given, time_passed};
+ghost use Rattle.rtcp_engine.specs.state.Views.{settings_value};
+ghost use Rattle.rtcp_guarded.specs.Guarded.{origin_of, reason_for};
+ghost use Rattle.rtcp_guarded.specs.Promises.{Replies};
+ghost use Rattle.rtcp_guarded.specs.Views.{as_refused};
+
+use crate::guarded::GuardedParticipant;
+use crate::untaken::{GuardedReply, Reason, Untaken};
+use rtcp_engine::{Reply, Settings};
+use rtcp_guard::Verdict;
+use rtcp_members::MemberTable;
+use rtcp_wire::MAX_COMPOUND;
+
+impl<T: MemberTable> GuardedParticipant<T> {
+    /// An RTCP datagram came, as [`Participant::arrive_rtcp_into`](rtcp_engine::Participant::arrive_rtcp_into) is told.
+    /// It is taken unless the guard holds it back.
+    ///
+    /// # Errors
+    ///
+    /// `Refused`, with the participant's refusal, of which the guard learns nothing: the first of E1 to E5 and E7 that
+    /// applies. Else `HeldBack`, which the guard counts. The participant and `octets` are unchanged then.
+    pub fn arrive_rtcp_into(
+        &mut self,
+        now: u64,
+        peer: u64,
+        w: u32,
+        bytes: &[u8],
+        octets: &mut [u8; MAX_COMPOUND],
+    ) -> GuardedReply
+        ensures { Replies self.old (rtcp_arrived now peer w bytes.now) octets.old octets.new result self.new }
+    {
+        let inspected = match self.participant.inspect_rtcp(now, peer, w, bytes) {
+            Ok(inspected) => inspected,
+            Err(refusal) => return Err(Untaken::Refused(refusal)),
+        };
+        let verdict = self
+            .guard
+            .arrive_rtcp(&inspected.compound, origin(peer), now, inspected.ssrc);
+        if let Some(reason) = reason_of(verdict) {
+            return Err(Untaken::HeldBack(reason));
+        }
+        // Read again by the participant, which takes octets.
+        as_untaken(
+            self.participant
+                .arrive_rtcp_into(now, peer, w, bytes, octets),
+        )
+    }
+
+    /// An RTP datagram came, as [`Participant::arrive_rtp_into`](rtcp_engine::Participant::arrive_rtp_into) is told. It
+    /// is taken unless the guard holds it back.
+    ///
+    /// # Errors
+    ///
+    /// `Refused`, with the participant's refusal, of which the guard learns nothing: the first of E1 to E4, E6 and E7
+    /// that applies. Else `HeldBack`, which the guard counts. The participant and `octets` are unchanged then.
+    pub fn arrive_rtp_into(
+        &mut self,
+        now: u64,
+        peer: u64,
+        w: u32,
+        bytes: &[u8],
+        octets: &mut [u8; MAX_COMPOUND],
+    ) -> GuardedReply
+        ensures { Replies self.old (rtp_arrived now peer w bytes.now) octets.old octets.new result self.new }
+    {
+        let inspected = match self.participant.inspect_rtp(now, peer, w, bytes) {
+            Ok(inspected) => inspected,
+            Err(refusal) => return Err(Untaken::Refused(refusal)),
+        };
+        let verdict = self
+            .guard
+            .arrive_rtp(&inspected.head, origin(peer), now, inspected.ssrc);
+        if let Some(reason) = reason_of(verdict) {
+            return Err(Untaken::HeldBack(reason));
+        }
+        // Read again by the participant, which takes octets.
+        as_untaken(
+            self.participant
+                .arrive_rtp_into(now, peer, w, bytes, octets),
+        )
+    }
+
+    /// The host sent an RTP packet: [`Participant::sent_rtp_into`](rtcp_engine::Participant::sent_rtp_into).
+    ///
+    /// # Errors
+    ///
+    /// The first of E1 to E4 that applies. Then nothing changes.
+    pub fn sent_rtp_into(
+        &mut self,
+        now: u64,
+        rtp_ts: u32,
+        size: u32,
+        octets: &mut [u8; MAX_COMPOUND],
+    ) -> Reply
+        ensures { Replies self.old (packet_sent now rtp_ts size) octets.old octets.new (as_refused result) self.new }
+    {
+        self.participant.sent_rtp_into(now, rtp_ts, size, octets)
+    }
+
+    /// Asks whether a report or the BYE is due: [`Participant::tick_into`](rtcp_engine::Participant::tick_into). The
+    /// guard lets the claims lapse to sources that were silent for its hold, and for so long that the table drops them
+    /// (RFC 3550, 6.3.5).
+    ///
+    /// # Errors
+    ///
+    /// The first of E1 to E4 that applies. Then nothing changes.
+    pub fn tick_into(
+        &mut self,
+        now: u64,
+        w1: u32,
+        w2: u32,
+        octets: &mut [u8; MAX_COMPOUND],
+    ) -> Reply
+        ensures { Replies self.old (time_passed now w1 w2) octets.old octets.new (as_refused result) self.new }
+    {
+        let silent_before = self.participant.silent_before(now);
+        match self.participant.tick_into(now, w1, w2, octets) {
+            Ok(step) => {
+                self.guard.check(now, silent_before);
+                Ok(step)
+            }
+            Err(refusal) => Err(refusal),
+        }
+    }
+
+    /// Leaves the session: [`Participant::leave_into`](rtcp_engine::Participant::leave_into).
+    ///
+    /// # Errors
+    ///
+    /// The first of E1 to E4 that applies. Then nothing changes.
+    pub fn leave_into(&mut self, now: u64, w: u32, octets: &mut [u8; MAX_COMPOUND]) -> Reply
+        ensures { Replies self.old (leave_asked now w) octets.old octets.new (as_refused result) self.new }
+    {
+        self.participant.leave_into(now, w, octets)
+    }
+
+    /// Gives the participant other settings: [`Participant::configure_into`](rtcp_engine::Participant::configure_into).
+    ///
+    /// # Errors
+    ///
+    /// The first of E1 to E4 and E8 that applies. Then nothing changes.
+    pub fn configure_into(
+        &mut self,
+        now: u64,
+        settings: &Settings,
+        octets: &mut [u8; MAX_COMPOUND],
+    ) -> Reply
+        ensures { Replies self.old (settings_given now (settings_value settings.now)) octets.old octets.new
+            (as_refused result) self.new }
+    {
+        self.participant.configure_into(now, settings, octets)
+    }
+
+    /// Tells that another source is gone: [`Participant::forget_into`](rtcp_engine::Participant::forget_into). Its
+    /// claim lapses once the hold is over.
+    ///
+    /// # Errors
+    ///
+    /// The first of E1 to E4 that applies. Then nothing changes.
+    pub fn forget_into(&mut self, now: u64, ssrc: u32, octets: &mut [u8; MAX_COMPOUND]) -> Reply
+        ensures { Replies self.old (forget_asked now ssrc) octets.old octets.new (as_refused result) self.new }
+    {
+        self.participant.forget_into(now, ssrc, octets)
+    }
+}
+
+/// Where a datagram comes from: its peer's number without the port, which has 16 bits.
+#[inline(always)]
+fn origin(peer: u64) -> u64
+    ensures { result ≡ origin_of peer }
+{
+    peer / (1 << 16)
+}
+
+/// Why a datagram is held back, if it is.
+#[inline(always)]
+fn reason_of(verdict: Verdict) -> Option<Reason>
+    ensures { result ≡ reason_for verdict }
+{
+    match verdict {
+        Verdict::Pass => None,
+        Verdict::Stranger => Some(Reason::Stranger),
+        Verdict::Crowd => Some(Reason::Crowd),
+    }
+}
+
+/// The reply of a participant.
+#[inline(always)]
+fn as_untaken(reply: Reply) -> GuardedReply
+    ensures { result ≡ as_refused reply }
+{
+    match reply {
+        Ok(step) => Ok(step),
+        Err(refusal) => Err(Untaken::Refused(refusal)),
+    }
+}
