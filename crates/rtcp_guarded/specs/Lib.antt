@@ -1,3 +1,4 @@
+pub mod Claimed
 pub mod Codes
 pub mod Guarded
 pub mod Views

@@ -8,6 +8,7 @@
 
 mod calls;
 mod guarded;
+pub mod laws;
 mod untaken;
 
 pub use guarded::GuardedParticipant;

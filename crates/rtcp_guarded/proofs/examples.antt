@@ -1,0 +1,2 @@
+mod GuardedRows
+mod WrongRows
