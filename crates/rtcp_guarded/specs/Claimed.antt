@@ -30,8 +30,7 @@ newest_moment (source_expected ssrc origin moment ∷ earlier) = moment
 newest_moment (origin_trusted origin ∷ earlier) = newest_moment earlier
 
 -- The host's clock does not go back, neither from what is held back nor to what the host expects. (It never does to
--- what
--- the participant takes.)
+-- what the participant takes.)
 abbrev pub AreInOrder : List GuardStep → Type 0
 AreInOrder [] = Unit {0}
 AreInOrder (datagram_came origin moment names ∷ earlier) = (newest_moment earlier ≤ moment) × AreInOrder earlier

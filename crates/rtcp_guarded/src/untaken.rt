@@ -10,7 +10,7 @@ pub enum Reason {
     #[error("names a source of another origin (RFC 3550, 8.2)")]
     Stranger,
     /// By it its origin would have more sources than it may, or all origins together would.
-    #[error("names more sources than its origin may have")]
+    #[error("names more sources than its origin, or all origins, may have")]
     Crowd,
 }
 

@@ -1,7 +1,7 @@
 //! The deterministic interval (RFC 3550, 6.3.1).
 
 ghost use Rattle.std.specs.Prelude.{◌≡◌, ◌≤◌, ◌<◌, ◌*◌, ◌^◌};
-ghost use Rattle.rtcp_timer.specs.Loads.{sharers_of, bandwidth_of, count_of, interval_at_share, interval_of, minimum_of};
+ghost use Rattle.rtcp_timer.specs.Loads.{sharers_of, bandwidth_of, count_of, interval_of, minimum_of};
 
 use crate::average::PARTS;
 

@@ -73,7 +73,7 @@ impl<T: MemberTable> Participant<T> {
             Ok(ssrc) => ssrc,
             Err(refusal) => return Err(refusal),
         };
-        // Read again, as this comes at most eight times in a session.
+        // Read again, as the `Arrival` has taken the first reading: few datagrams name the participant's SSRC.
         match Compound::read(bytes) {
             Ok(again) => Ok(InspectedRtcp {
                 compound: again,
