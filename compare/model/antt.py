@@ -2,7 +2,7 @@
 
 A number is an int, a truth value a bool, a pair a tuple. Lists, records and values of `data` types are nodes, of which
 equal ones are the same object, so that each function keeps what it gave for each argument. What is of the kit's
-standard library stands in library.py. Relations are read by relations.py."""
+standard library stands in library.py. A relation is a function that says whether it holds."""
 import re
 from pathlib import Path
 
@@ -12,7 +12,6 @@ TOP = Path(__file__).resolve().parents[2]
 TOKEN = re.compile(r"\s+|--[^\n]*|(?P<token>\[\]|\|\||[↦λ(){}\[\];,|]|[^\s(){}\[\],.;λ|]+|\.)")
 NAME = r"[^\s(){}\[\],.;λ|]+"
 USE = re.compile(rf"^use Rattle\.([\w.\-]+)\.\{{(.*?)\}}", re.S)
-USE_AS = re.compile(rf"^use Rattle\.([\w.\-]+) as (\w+)")
 # how closely an operator binds, and whether it binds to the right
 BINDS = {"→": (0, True), "⊎": (1, True), "×": (2, True), "||": (3, True), "&&": (4, True), "==": (5, False),
          "≡": (5, False), "≢": (5, False), "≤": (5, False), "<": (5, False), "≤ℤ": (5, False), "∷": (6, True),
@@ -209,8 +208,8 @@ class Reader:
 class Module:
     """A file of definitions: the clauses of each, constructors with their arities, and where other names are from."""
 
-    def __init__(self, name, path):
-        self.name, self.clauses, self.constructors, self.uses, self.relations = name, {}, {}, {}, {}
+    def __init__(self, path):
+        self.clauses, self.constructors, self.uses, self.relations = {}, {}, {}, {}
         for chunk in chunks_of(path.read_text()):
             self.read(chunk)
 
@@ -234,7 +233,7 @@ class Module:
             names = [one for group in re.findall(r"\(([^():]*) : ", head) for one in group.split()]
             found = [field for field in re.split(r"(?:^|\n)  (?=pub )", fields) if field.strip()]
             self.relations[name] = names, [tuple(field[4:].split(" : ", 1)) for field in found]
-        if kind == "data":
+        else:
             for part in re.split(r"\n(?=  \S)", re.sub(r"--[^\n]*", "", chunk))[1:]:
                 if " : " in part:
                     self.constructors[part.split()[0]] = arity_of(part.split(" : ", 1)[1])
@@ -276,7 +275,7 @@ class Definitions:
         if name not in self.modules:
             crate, _, rest = name.partition(".")
             path = self.changed.get(name) or self.top / "crates" / crate / (rest.replace(".", "/") + ".antt")
-            self.modules[name] = Module(name, path)
+            self.modules[name] = Module(path)
         return self.modules[name]
 
     def clear(self):
@@ -558,8 +557,6 @@ class Writer:
         names = [name for name, _ in unknown]
         ready = [one for one in wanted if not mentions(one, names)]
         wanted = [one for one in wanted if mentions(one, names)]
-        if any(one[0] == "some" for one in wanted if not unknown):
-            raise Unread("a part without a name")
         tests = [self.expression(one, scope) for one in ready]
         if not unknown:
             return "(" + (" and ".join(tests) or "True") + ")"

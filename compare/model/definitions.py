@@ -159,14 +159,14 @@ class Defined:
         self.acts.append(act)
         self.answers.append(answer)
         if answer.tag == "Err":
-            return f"refused {refusal_text(answer.parts[0])}"
+            raise participant.Refusal(refusal_text(answer.parts[0]))
         step = answer.parts[0].fields
         out = "-"
         for given in items(listed(step["out"].parts)):
             out = f"{given.fields['kind'].tag.lower()}:{bytes(items(given.fields['octets'])).hex()}"
         following = "".join(map(str, step["next"].parts)) or "-"
         changed = "".join(f" ssrc={ssrc:08x}" for ssrc in step["changed"].parts)
-        return f"ok members={step['members']} senders={step['senders']} next={following} out={out}{changed}"
+        return f"members={step['members']} senders={step['senders']} next={following} out={out}{changed}"
 
     def keeps_its_promise(self):
         """Whether the answers are within the bounds that `run` promises, by a history that may be. What is said of all
@@ -209,29 +209,18 @@ def is_reading(octets, reading, is_rtcp, definitions):
 
 
 def replay(arguments, octets, definitions, look=lambda defined: None):
-    """As `participant.replay`. `look` is given what there is at the end."""
-    try:
-        options = participant.configuration(arguments)
-    except participant.Usage:
-        return "", participant.__doc__ + "\n", 2
-    except participant.Fault as fault:
-        return "", f"{fault}\n", 2
+    """As `participant.replay`. `look` is given what there is at the end, where no line has a fault."""
     definitions.clear()
-    defined = Defined(options, definitions)
-    answers = [f"start members=1 senders=0 next={defined.next}\n"]
-    lines = octets.split(b"\n")
-    if not lines[-1]:
-        lines.pop()
-    for place, line in enumerate(lines, 1):
-        try:
-            if place > options["lines"]:
-                raise participant.Fault("X2 TooManyLines")
-            call, values = participant.call_of(line)
-        except participant.Fault as fault:
-            return "".join(answers), f"line {place}: {fault}\n", 2
-        answers.append(getattr(defined, call.__name__)(*values) + "\n")
-    look(defined)
-    return "".join(answers), "", 0
+    begun = []
+
+    def begin(options):
+        begun.append(Defined(options, definitions))
+        return begun[0]
+
+    said = participant.replay(arguments, octets, begin=begin)
+    if not said[1]:
+        look(begun[0])
+    return said
 
 
 def deeply(work):

@@ -185,7 +185,6 @@ FUNCTIONS = {
 # the numbers that what holds of all numbers is tried with
 NUMBERS = set()
 
-
 # of a type of values, a function that proposes some, by values that are known
 PROPOSED = {}
 

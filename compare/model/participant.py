@@ -656,13 +656,13 @@ REPEATED = {"clock": MOST_CLOCKS}  # those that may be given again, and how ofte
 ITEM_TYPES = {"name": 2, "email": 3, "phone": 4, "loc": 5, "tool": 6, "note": 7, "priv": 8}
 
 LINES = {
-    b"rtcp": (Participant.rtcp_came, ("moment", "peer", hex_digits(8), datagram)),
-    b"rtp": (Participant.rtp_came, ("moment", "peer", hex_digits(8), datagram)),
-    b"sent": (Participant.packet_sent, ("moment", "timestamp", "octets")),
-    b"tick": (Participant.tick, ("moment", hex_digits(8), hex_digits(8))),
-    b"leave": (Participant.leave, ("moment", hex_digits(8))),
-    b"configure": (Participant.configure, ("moment", "bandwidth", "bandwidth", "clocks", values_of(item, MOST_ITEMS))),
-    b"forget": (Participant.forget, ("moment", hex_digits(8))),
+    b"rtcp": ("rtcp_came", ("moment", "peer", hex_digits(8), datagram)),
+    b"rtp": ("rtp_came", ("moment", "peer", hex_digits(8), datagram)),
+    b"sent": ("packet_sent", ("moment", "timestamp", "octets")),
+    b"tick": ("tick", ("moment", hex_digits(8), hex_digits(8))),
+    b"leave": ("leave", ("moment", hex_digits(8))),
+    b"configure": ("configure", ("moment", "bandwidth", "bandwidth", "clocks", values_of(item, MOST_ITEMS))),
+    b"forget": ("forget", ("moment", hex_digits(8))),
 }
 NUMBERS = {"moment": decimal(2**64), "peer": decimal(2**64), "timestamp": decimal(2**32), "octets": decimal(2**32),
            "bandwidth": decimal(2**32), "clocks": values_of(clock, MOST_CLOCKS)}
@@ -714,7 +714,7 @@ def configuration(arguments):
 
 
 def call_of(line):
-    """The call that a line is, and its values. Its fault has no line number yet."""
+    """The name of the call that a line is, and its values. Its fault has no line number yet."""
     if len(line) > LONGEST_LINE:
         raise Fault("X1 LineTooLong")
     kind, *fields = line.split(b" ")
@@ -734,20 +734,21 @@ def answer(participant, line):
     """The answer to a line, without its line feed. Its fault has no line number yet."""
     call, values = call_of(line)
     try:
-        return "ok " + call(participant, *values)
+        return "ok " + getattr(participant, call)(*values)
     except Refusal as refusal:
         return f"refused {refusal}"
 
 
-def replay(arguments, octets, others=lambda participant: "\n"):
-    """What goes to standard output and to standard error, and the status. `others` gives the end of each answer."""
+def replay(arguments, octets, others=lambda participant: "\n", begin=Participant):
+    """What goes to standard output and to standard error, and the status. `others` gives the end of each answer, and
+    `begin` what answers."""
     try:
         options = configuration(arguments)
     except Usage:
         return "", __doc__ + "\n", 2
     except Fault as fault:
         return "", f"{fault}\n", 2
-    participant = Participant(options)
+    participant = begin(options)
     answers = [f"start members=1 senders=0 next={participant.next}{others(participant)}"]
     lines = octets.split(b"\n")
     if not lines[-1]:
