@@ -79,8 +79,8 @@ extern "C" {
  * earlier one, under the same SONAME. */
 
 #define JALWEDD_VERSION_MAJOR 0
-#define JALWEDD_VERSION_MINOR 5
-#define JALWEDD_VERSION_PATCH 3
+#define JALWEDD_VERSION_MINOR 6
+#define JALWEDD_VERSION_PATCH 0
 
 /* The version of the linked library: 0x000503 for 0.5.3. */
 uint32_t jalwedd_version(void);
@@ -129,12 +129,19 @@ enum {
                                    which */
     JALWEDD_ITEM = 16,          /* C6: the type of an item is out of range 2 to 8, or there are more than 7 items */
     JALWEDD_START = 17,         /* C7: the start is 2^63 or later */
+    JALWEDD_GUARD = 18,         /* C8: the guard's names or trusted_names are above 1,024 */
 
+    JALWEDD_IS_UNGUARDED = 19,  /* jalwedd_expect, _trust, _held_back: the session has no guard */
     JALWEDD_IS_EMPTY = 20,      /* the handle holds no participant */
     JALWEDD_IS_LIVE = 21,       /* jalwedd_new: the handle holds a participant already */
     JALWEDD_NO_MEMORY = 22,     /* jalwedd_new: there is no memory */
-    JALWEDD_TOO_LONG = 23       /* jalwedd_arrive_rtp, _rtp_head, _rtp_fault: no UDP datagram has more than 65,535
+    JALWEDD_TOO_LONG = 23,      /* jalwedd_arrive_rtp, _rtp_head, _rtp_fault: no UDP datagram has more than 65,535
                                    octets */
+
+    /* A datagram that the guard holds back (config.guard): the participant is not told of it. */
+    JALWEDD_STRANGER = 24,      /* it names a source that belongs to another origin (8.2) */
+    JALWEDD_CROWD = 25          /* it names more sources than its origin, or all origins, may have. jalwedd_expect,
+                                   _trust: so would the origin, or as many are trusted as may be */
 };
 
 /* A short text for each status, and for any other number. Two statuses with the same number share a text. */
@@ -159,10 +166,14 @@ static inline const char *jalwedd_text(uint32_t status)
     case JALWEDD_RATE:        return "a clock is out of range, or there are more than 16";
     case JALWEDD_ITEM:        return "an item cannot be sent, or there are too many";
     case JALWEDD_START:       return "the start is out of range";
+    case JALWEDD_GUARD:       return "a limit of the guard is out of range";
+    case JALWEDD_IS_UNGUARDED: return "the session has no guard";
     case JALWEDD_IS_EMPTY:    return "the handle holds no participant";
     case JALWEDD_IS_LIVE:     return "the handle holds a participant already";
     case JALWEDD_NO_MEMORY:   return "there is no memory";
     case JALWEDD_TOO_LONG:    return "the datagram is longer than UDP carries";
+    case JALWEDD_STRANGER:    return "held back: it names a source of another origin";
+    case JALWEDD_CROWD:       return "held back: its origin names too many sources";
     default:                  return "no status of this version";
     }
 }
@@ -206,6 +217,26 @@ typedef struct jalwedd_clock {
     uint32_t rate;          /* the units a second, 1 to 2^20 */
 } jalwedd_clock;
 
+/* Which datagrams are held back from the participant, by where they come from (8.2). An origin is a peer's number
+ * without its lower 16 bits: for IPv4 with the port in these, the address. A source belongs to the origin that named it
+ * first, or that it is expected from (jalwedd_expect), until it was not named for `hold`, and for as long as the
+ * participant keeps a silent source. */
+typedef struct jalwedd_guard {
+    uint32_t names;         /* how many sources an origin may have, up to 1,024, those included that left within the
+                               hold; 0 for no guard. With more than two for each second of the hold, one address can
+                               keep a participant from reporting: usually 8 */
+    uint32_t trusted_names; /* how many a trusted origin may have (jalwedd_trust), up to 1,024, if that is more */
+    uint64_t hold;          /* in microseconds: usually 60,000,000 */
+} jalwedd_guard;
+
+/* What a guard held back so far. */
+typedef struct jalwedd_counts {
+    uint64_t strangers;     /* datagrams that named a source of another origin */
+    uint64_t crowds;        /* datagrams that named too many sources */
+    uint64_t last_stranger; /* the origin of the last stranger, or JALWEDD_NEVER */
+    uint64_t last_crowd;    /* the origin of the last crowd, or JALWEDD_NEVER */
+} jalwedd_counts;
+
 /* The session and the participant, as the host configures them. */
 typedef struct jalwedd_config {
     uint64_t ntp_base;      /* the NTP timestamp of the start: seconds since 1900 in the upper 32 bits, their fraction
@@ -224,6 +255,7 @@ typedef struct jalwedd_config {
     uint32_t clock_count;   /* how many of clocks there are, 0 to 16 */
     jalwedd_clock clocks[16]; /* the clocks of other payload types: the first counts if several are of one type */
     uint32_t reserved;      /* not read */
+    jalwedd_guard guard;    /* zeros for none */
 } jalwedd_config;
 
 /* What a host may change in a running session, besides the items. */
@@ -423,8 +455,9 @@ typedef struct jalwedd_role_change {
 /* ---- A participant */
 
 /* The memory, in octets, that suffices for a participant of this capacity with any library of this SONAME, even if each
- * block is rounded up to a multiple of 16, as for its alignment. The library takes less: today a block of 2,744 octets,
- * and blocks of 136 and of 8 octets for each source of the capacity. */
+ * block is rounded up to a multiple of 16, as for its alignment. The library takes less: today a block of 2,752 octets,
+ * and blocks of 136 and of 8 octets for each source of the capacity; with a guard one more of 48 octets for each of
+ * them, and one of GUARD_OCTETS. */
 #ifdef __cplusplus
 #define JALWEDD_MEMORY(capacity) (sizeof(char[4096]) + sizeof(char[192]) * (capacity)) /* no cast in C's style */
 #else
@@ -436,10 +469,10 @@ typedef struct jalwedd_role_change {
 void jalwedd_memory(void *(*allocate)(size_t size), void (*release)(void *at)) JALWEDD_NOT_NULL;
 
 /* Makes a participant in an empty handle; its session starts at the moment config->start, which is now. `word` is for
- * the draw of the first interval. Allocates at most JALWEDD_MEMORY(config->capacity) octets, in three blocks; no other
- * call allocates. step->next is later than config->start: if it is not later than `now` of the host's clock, the start
+ * the draw of the first interval. Allocates at most JALWEDD_MEMORY(config->capacity) octets, in three blocks, or
+ * in five with a guard; no other call allocates. step->next is later than config->start: if it is not later than `now` of the host's clock, the start
  * was not now, and each report tells a time of day that is ahead.
- * Statuses: TAKEN; IS_LIVE, and the step is that of the participant already there; CNAME to START; NO_MEMORY. */
+ * Statuses: TAKEN; IS_LIVE, and the step is that of the participant already there; CNAME to GUARD; NO_MEMORY. */
 uint32_t jalwedd_new(jalwedd_handle *handle, const jalwedd_config *config, const uint8_t *cname, size_t cname_size,
                      const jalwedd_item *items, size_t item_count, uint32_t word, jalwedd_step *step)
     JALWEDD_NOT_NULL JALWEDD_TO_BE_USED;
@@ -455,14 +488,14 @@ uint32_t jalwedd_free(jalwedd_handle *handle);
  * one is needed (8.2). On an open network, pass on no datagram of more than 1,500 octets: one can name 8,057 sources.
  * Hands out nothing, or, if it changes the SSRC, the BYE of the old one if anything was sent under it. Read its reports
  * about the host's own stream before the call (jalwedd_next_block), as they name the SSRC before a change.
- * Statuses: TAKEN; LEFT to NO_COMPOUND; OWN_SSRC; IS_EMPTY. */
+ * Statuses: TAKEN; LEFT to NO_COMPOUND; OWN_SSRC; STRANGER; CROWD; IS_EMPTY. */
 uint32_t jalwedd_arrive_rtcp(jalwedd_handle *handle, uint64_t now, uint64_t peer, uint32_t word,
                              const uint8_t *datagram, size_t size, jalwedd_step *step, uint8_t octets[JALWEDD_OCTETS])
     JALWEDD_NOT_NULL;
 
 /* An RTP datagram came: as jalwedd_arrive_rtcp. If both come to one port (RFC 5761, 4), a datagram whose second octet
  * is 192 to 223 is RTCP, and any other is RTP.
- * Statuses: TAKEN; IS_EMPTY; TOO_LONG; LEFT to TOO_MANY; NO_RTP; OWN_SSRC. */
+ * Statuses: TAKEN; IS_EMPTY; TOO_LONG; LEFT to TOO_MANY; NO_RTP; OWN_SSRC; STRANGER; CROWD. */
 uint32_t jalwedd_arrive_rtp(jalwedd_handle *handle, uint64_t now, uint64_t peer, uint32_t word,
                             const uint8_t *datagram, size_t size, jalwedd_step *step, uint8_t octets[JALWEDD_OCTETS])
     JALWEDD_NOT_NULL;
@@ -511,6 +544,21 @@ uint32_t jalwedd_configure(jalwedd_handle *handle, uint64_t now, const jalwedd_s
  * Statuses: TAKEN; LEFT to TOO_MANY; IS_EMPTY. */
 uint32_t jalwedd_forget(jalwedd_handle *handle, uint64_t now, uint32_t ssrc, jalwedd_step *step,
                         uint8_t octets[JALWEDD_OCTETS]) JALWEDD_NOT_NULL;
+
+/* Says to the guard at the moment `now` that a source is expected from a peer, as the host knows by signalling: it
+ * belongs to the peer's origin, as if that had named it now, whoever named it before. Without this, whoever names an
+ * SSRC first keeps its owner out. The participant is not told.
+ * Statuses: TAKEN; BACKWARDS before the start; IS_UNGUARDED; IS_EMPTY; CROWD, and nothing changes. */
+uint32_t jalwedd_expect(jalwedd_handle *handle, uint64_t now, uint32_t ssrc, uint64_t peer) JALWEDD_NOT_NULL;
+
+/* Lets a peer's origin have config.guard.trusted_names sources: a relay, a mixer, or a network address translator. At
+ * most 16 origins are trusted.
+ * Statuses: TAKEN; IS_UNGUARDED; IS_EMPTY; CROWD if 16 others are trusted. */
+uint32_t jalwedd_trust(jalwedd_handle *handle, uint64_t peer) JALWEDD_NOT_NULL;
+
+/* What the guard held back so far.
+ * Statuses: TAKEN; IS_UNGUARDED and IS_EMPTY, and nothing is written. */
+uint32_t jalwedd_held_back(jalwedd_handle *handle, jalwedd_counts *counts) JALWEDD_NOT_NULL;
 
 /* Leaves the session at the moment `now` (6.3.7). The BYE is handed out at once, or, in a session of more than 50
  * members, by a later tick. Go on until step.next is JALWEDD_NEVER, but for some seconds at most, and then call

@@ -346,6 +346,20 @@ public:
         return jalwedd_forget(&handle_, now, ssrc, &step, octets.data());
     }
 
+    /// Says to the guard at the moment `now` that a source is expected from a peer: it belongs to the peer's origin, as
+    /// if that had named it now. Statuses: TAKEN; BACKWARDS before the start; IS_UNGUARDED; IS_EMPTY; CROWD.
+    std::uint32_t expect(std::uint64_t now, std::uint32_t ssrc, std::uint64_t peer) noexcept
+    {
+        return jalwedd_expect(&handle_, now, ssrc, peer);
+    }
+
+    /// Lets a peer's origin have config.guard.trusted_names sources. Statuses: TAKEN; IS_UNGUARDED; IS_EMPTY; CROWD if
+    /// 16 others are trusted.
+    std::uint32_t trust(std::uint64_t peer) noexcept { return jalwedd_trust(&handle_, peer); }
+
+    /// What the guard held back so far. Statuses: TAKEN; IS_UNGUARDED and IS_EMPTY, and nothing is written.
+    std::uint32_t held_back(jalwedd_counts& counts) noexcept { return jalwedd_held_back(&handle_, &counts); }
+
     /// Leaves the session at the moment `now`. Hands out nothing, or the BYE: go on until step.next is JALWEDD_NEVER,
     /// but for some seconds at most, since BYE packets of others can delay this one for days. Then call free.
     /// From here on nobody is listed. step.others_changed is 1 if others were members, but nobody fell silent: do not

@@ -5,6 +5,7 @@ use crate::moment::Moment;
 use crate::sys;
 use core::fmt;
 use core::hash::{Hash, Hasher};
+use core::time::Duration;
 
 /// The session and the participant, as the host configures them: made by [`Config::new`], and changed by the
 /// functions that begin with `with_`, or in its fields.
@@ -45,6 +46,47 @@ pub struct Config {
     pub rate: u32,
     /// The clocks of other payload types: [`RtpClocks::NONE`] in a session with one clock.
     pub clocks: RtpClocks,
+    /// The guard before the participant: `None` to take each datagram, wherever it comes from.
+    pub guard: Option<Guard>,
+}
+
+/// Which datagrams are held back from a participant, by where they come from (RFC 3550, 8.2): [`Refusal::Stranger`] and
+/// [`Refusal::Crowd`].
+///
+/// An origin is a peer's number without its lower 16 bits: for IPv4 with the port in these, the address. A source
+/// belongs to the origin that named it first, or that it is expected from
+/// ([`Participant::expect`](crate::Participant::expect)), until it was not named for the hold, and for as long as the
+/// participant keeps a silent source. The participant takes 48 octets of memory more for each of its sources.
+///
+/// [`Refusal::Stranger`]: crate::Refusal::Stranger
+/// [`Refusal::Crowd`]: crate::Refusal::Crowd
+#[derive(Clone, Copy, Debug, PartialEq, Eq, Hash)]
+pub struct Guard {
+    /// How many sources an origin may have, 1 to 1,024, those included that left within the hold. With more than two
+    /// for each second of the hold, one address can keep a participant from reporting.
+    pub names: u32,
+    /// How many sources a trusted origin may have ([`Participant::trust`](crate::Participant::trust)), up to 1,024, if
+    /// that is more.
+    pub trusted_names: u32,
+    /// For how long a source belongs to its origin after it was last named.
+    pub hold: Duration,
+}
+
+impl Guard {
+    /// Eight sources for an origin, 64 for a trusted one, and a hold of a minute.
+    pub const USUAL: Guard = Guard { names: 8, trusted_names: 64, hold: Duration::from_secs(60) };
+
+    fn declared(guard: Option<Guard>) -> sys::jalwedd_guard {
+        match guard {
+            None => sys::jalwedd_guard::default(),
+            Some(Guard { names, trusted_names, hold }) => {
+                // without names there is no guard: who asks for one is told that it is out of range
+                let names = if names == 0 { u32::MAX } else { names };
+                let hold = u64::try_from(hold.as_micros()).unwrap_or(u64::MAX);
+                sys::jalwedd_guard { names, trusted_names, hold }
+            }
+        }
+    }
 }
 
 impl Config {
@@ -62,6 +104,7 @@ impl Config {
             receiver_bw: 300,
             rate: 8000,
             clocks: RtpClocks::NONE,
+            guard: None,
         }
     }
 
@@ -102,8 +145,14 @@ impl Config {
         self
     }
 
+    /// The same with this [`guard`](Config::guard).
+    pub const fn with_guard(mut self, guard: Guard) -> Config {
+        self.guard = Some(guard);
+        self
+    }
+
     pub(crate) fn declared(&self) -> sys::jalwedd_config {
-        let Config { ntp_base, start, ssrc, capacity, limit, sender_bw, receiver_bw, rate, clocks } = *self;
+        let Config { ntp_base, start, ssrc, capacity, limit, sender_bw, receiver_bw, rate, clocks, guard } = *self;
         let (start, (clock_count, clocks)) = (start.as_micros(), clocks.declared());
         sys::jalwedd_config {
             ntp_base,
@@ -117,6 +166,7 @@ impl Config {
             clock_count,
             clocks,
             reserved: 0,
+            guard: Guard::declared(guard),
         }
     }
 }

@@ -60,7 +60,10 @@ error! {
         Item = sys::JALWEDD_ITEM, "there are more than 7 items";
         /// C7: [`Config::start`](crate::Config::start) is 2^63 microseconds or later.
         Start = sys::JALWEDD_START, "the start is 2^63 microseconds or later";
-        /// There is no memory for its three blocks.
+        /// C8: the [`Guard::names`](crate::Guard::names) of a guard are not 1 to 1,024, or its
+        /// [`trusted_names`](crate::Guard::trusted_names) are more than 1,024.
+        Guard = sys::JALWEDD_GUARD, "a limit of the guard is out of range";
+        /// There is no memory for its three blocks, or five with a guard.
         NoMemory = sys::JALWEDD_NO_MEMORY, "there is no memory for a participant";
     }
 }
@@ -90,11 +93,27 @@ error! {
         Bandwidth = sys::JALWEDD_BANDWIDTH, "a bandwidth is not 16 to 2^30 octets a second";
         /// E8: the rate of a clock is not 1 to 2^20 (C5).
         Rate = sys::JALWEDD_RATE, "a rate is not 1 to 2^20 units a second";
+        /// The guard holds the datagram back: it names a source that belongs to another origin (RFC 3550, 8.2).
+        Stranger = sys::JALWEDD_STRANGER, "held back: it names a source of another origin";
+        /// The guard holds the datagram back: it names more sources than its origin, or all origins, may have.
+        Crowd = sys::JALWEDD_CROWD, "held back: its origin names too many sources";
         /// There are more than 7 items (C6). This comes before all others.
         Item = sys::JALWEDD_ITEM, "there are more than 7 items";
         /// The RTP datagram has more than 65,535 octets, which UDP does not carry. This comes before all
         /// others.
         TooLong = sys::JALWEDD_TOO_LONG, "the datagram has more than 65,535 octets";
+    }
+}
+
+error! {
+    /// Why the guard did not do as it was told, and changed nothing.
+    GuardError, "status" {
+        /// The moment lies before [`Config::start`](crate::Config::start).
+        Backwards = sys::JALWEDD_BACKWARDS, "the moment lies before the start";
+        /// The participant has no guard.
+        Unguarded = sys::JALWEDD_IS_UNGUARDED, "the participant has no guard";
+        /// The origin, or all origins, would have more sources than they may, or 16 others are trusted.
+        Crowd = sys::JALWEDD_CROWD, "there are too many sources, or trusted origins";
     }
 }
 

@@ -2,7 +2,8 @@
 
 use crate::answer::{Answer, Step};
 use crate::config::{Config, Item, Settings};
-use crate::errors::{NewError, Refusal};
+use crate::errors::{GuardError, NewError, Refusal};
+use crate::guard::HeldBack;
 use crate::moment::Moment;
 use crate::raw::{Handle, Room};
 use crate::sources::Sources;
@@ -216,6 +217,34 @@ impl Participant {
         self.answer(status)
     }
 
+    /// Says to the guard at the moment `now` that a source is expected from a peer, as the host knows by signalling: it
+    /// belongs to the peer's origin, as if that had named it now, whoever named it before.
+    ///
+    /// Without this, whoever names an SSRC first keeps its owner out. The participant is not told.
+    ///
+    /// # Errors
+    ///
+    /// [`GuardError::Unguarded`]; else [`Backwards`](GuardError::Backwards) before the start; else
+    /// [`Crowd`](GuardError::Crowd) if the origin, or all origins, would have more sources than they may.
+    pub fn expect(&mut self, now: Moment, ssrc: u32, peer: u64) -> Result<(), GuardError> {
+        taken_or(self.handle.expect(now.as_micros(), ssrc, peer))
+    }
+
+    /// Lets a peer's origin have [`Guard::trusted_names`](crate::Guard::trusted_names) sources: a relay, a mixer, or a
+    /// network address translator.
+    ///
+    /// # Errors
+    ///
+    /// [`GuardError::Unguarded`]; else [`Crowd`](GuardError::Crowd) if 16 other origins are trusted.
+    pub fn trust(&mut self, peer: u64) -> Result<(), GuardError> {
+        taken_or(self.handle.trust(peer))
+    }
+
+    /// What the guard held back so far: `None` without a guard.
+    pub fn held_back(&self) -> Option<HeldBack> {
+        self.handle.held_back().map(HeldBack::of)
+    }
+
     /// Leaves the session at the moment `now` (RFC 3550, 6.3.7).
     ///
     /// The BYE is handed out at once, or, in a session of more than 50 members, by a later tick. Go on until
@@ -307,6 +336,13 @@ impl Participant {
             sys::JALWEDD_TAKEN => Ok(Answer::of(&self.room)),
             refused => Err(Refusal::of(refused)),
         }
+    }
+}
+
+fn taken_or(status: u32) -> Result<(), GuardError> {
+    match status {
+        sys::JALWEDD_TAKEN => Ok(()),
+        refused => Err(GuardError::of(refused)),
     }
 }
 

@@ -112,6 +112,25 @@ impl Handle {
         unsafe { sys::jalwedd_forget(self.0.get_mut(), now, ssrc, step, octets) }
     }
 
+    pub(crate) fn expect(&mut self, now: u64, ssrc: u32, peer: u64) -> u32 {
+        // SAFETY: VALID, ALONE, OWNED
+        unsafe { sys::jalwedd_expect(self.0.get_mut(), now, ssrc, peer) }
+    }
+
+    pub(crate) fn trust(&mut self, peer: u64) -> u32 {
+        // SAFETY: VALID, ALONE, OWNED
+        unsafe { sys::jalwedd_trust(self.0.get_mut(), peer) }
+    }
+
+    /// What the guard held back, if there is one.
+    pub(crate) fn held_back(&self) -> Option<sys::jalwedd_counts> {
+        taken(|counts| {
+            // SAFETY: VALID, APART, ALONE, OWNED
+            unsafe { sys::jalwedd_held_back(self.0.get(), counts) }
+        })
+        .ok()
+    }
+
     pub(crate) fn leave(&mut self, now: u64, word: u32, room: &mut Room) -> u32 {
         let Room { step, octets } = room;
         // SAFETY: VALID, APART, ALONE, OWNED

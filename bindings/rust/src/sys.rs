@@ -8,8 +8,8 @@ use core::ptr::null_mut;
 // ---- The version
 
 pub const JALWEDD_VERSION_MAJOR: u32 = 0;
-pub const JALWEDD_VERSION_MINOR: u32 = 5;
-pub const JALWEDD_VERSION_PATCH: u32 = 3;
+pub const JALWEDD_VERSION_MINOR: u32 = 6;
+pub const JALWEDD_VERSION_PATCH: u32 = 0;
 
 // ---- Statuses
 
@@ -33,10 +33,14 @@ pub const JALWEDD_BANDWIDTH: u32 = 14;
 pub const JALWEDD_RATE: u32 = 15;
 pub const JALWEDD_ITEM: u32 = 16;
 pub const JALWEDD_START: u32 = 17;
+pub const JALWEDD_GUARD: u32 = 18;
+pub const JALWEDD_IS_UNGUARDED: u32 = 19;
 pub const JALWEDD_IS_EMPTY: u32 = 20;
 pub const JALWEDD_IS_LIVE: u32 = 21;
 pub const JALWEDD_NO_MEMORY: u32 = 22;
 pub const JALWEDD_TOO_LONG: u32 = 23;
+pub const JALWEDD_STRANGER: u32 = 24;
+pub const JALWEDD_CROWD: u32 = 25;
 
 // ---- Values
 
@@ -69,6 +73,24 @@ pub struct jalwedd_config {
     pub clock_count: u32,
     pub clocks: [jalwedd_clock; 16],
     pub reserved: u32,
+    pub guard: jalwedd_guard,
+}
+
+#[repr(C)]
+#[derive(Clone, Copy, Debug, Default)]
+pub struct jalwedd_guard {
+    pub names: u32,
+    pub trusted_names: u32,
+    pub hold: u64,
+}
+
+#[repr(C)]
+#[derive(Clone, Copy, Debug, Default)]
+pub struct jalwedd_counts {
+    pub strangers: u64,
+    pub crowds: u64,
+    pub last_stranger: u64,
+    pub last_crowd: u64,
 }
 
 #[repr(C)]
@@ -321,6 +343,12 @@ unsafe extern "C" {
         step: *mut jalwedd_step,
         octets: *mut [u8; JALWEDD_OCTETS],
     ) -> u32;
+
+    pub fn jalwedd_expect(handle: *mut jalwedd_handle, now: u64, ssrc: u32, peer: u64) -> u32;
+
+    pub fn jalwedd_trust(handle: *mut jalwedd_handle, peer: u64) -> u32;
+
+    pub fn jalwedd_held_back(handle: *mut jalwedd_handle, counts: *mut jalwedd_counts) -> u32;
 
     pub fn jalwedd_leave(
         handle: *mut jalwedd_handle,

@@ -16,8 +16,10 @@ macro_rules! assert_layout {
 fn structures() {
     assert_layout!(jalwedd_handle, 8, 8, at: 0);
     assert_layout!(jalwedd_clock, 8, 4, payload_type: 0, rate: 4);
-    assert_layout!(jalwedd_config, 176, 8, ntp_base: 0, start: 8, ssrc: 16, capacity: 20, limit: 24,
-        sender_bw: 28, receiver_bw: 32, rate: 36, clock_count: 40, clocks: 44, reserved: 172);
+    assert_layout!(jalwedd_guard, 16, 8, names: 0, trusted_names: 4, hold: 8);
+    assert_layout!(jalwedd_counts, 32, 8, strangers: 0, crowds: 8, last_stranger: 16, last_crowd: 24);
+    assert_layout!(jalwedd_config, 192, 8, ntp_base: 0, start: 8, ssrc: 16, capacity: 20, limit: 24,
+        sender_bw: 28, receiver_bw: 32, rate: 36, clock_count: 40, clocks: 44, reserved: 172, guard: 176);
     assert_layout!(jalwedd_settings, 140, 4, sender_bw: 0, receiver_bw: 4, clock_count: 8, clocks: 12);
     assert_layout!(jalwedd_item, 257, 1, kind: 0, size: 1, text: 2);
     assert_layout!(jalwedd_step, 40, 8, next: 0, members: 8, senders: 12, ssrc: 16, changed: 20, kind: 24,

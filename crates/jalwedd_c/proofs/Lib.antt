@@ -1,2 +1,3 @@
 mod Serving
+mod Guarding
 mod Refusing

@@ -1,28 +1,32 @@
 //! The begin of a participant, and its end.
 
-ghost use Rattle.std.specs.Prelude.{◌≡◌, ◌≢◌, ◌⊎◌, ℕ, Some, None};
+ghost use Rattle.std.specs.Prelude.{◌≡◌, ◌≢◌, ◌⊎◌, ◌↔◌, ◌≤◌, ℕ, IfOk, IsTrue, Some, None, option_map};
+ghost use Rattle.std.specs.Box.{box_value};
 ghost use Rattle.rtcp_engine.specs.answers.Histories.{History};
 ghost use Rattle.rtcp_engine.specs.state.Taken.{begun};
 ghost use Rattle.jalwedd_host.specs.Answers.{HandsNothing, Shows};
-ghost use Rattle.jalwedd_host.specs.Configs.{refusal_of, setup_given};
-ghost use Rattle.jalwedd_host.specs.Handles.{Leads};
+ghost use Rattle.jalwedd_host.specs.Configs.{guard_begun, refusal_of, refusal_of_guard, setup_given};
+ghost use Rattle.jalwedd_host.specs.Guards.{LeadsGuardedTo, guarded_begun};
+ghost use Rattle.jalwedd_host.specs.Handles.{IsUnguarded, Leads};
 ghost use Rattle.jalwedd_host.specs.Promises.{AnswersLive, AnswersVacant, Begins};
 
-use jalwedd_host::config::{Config, Item, START_LIMIT, blank, fill};
+use jalwedd_host::config::{Config, GuardConfig, Item, START_LIMIT, blank, fill};
 use jalwedd_host::handle::Handle;
 use jalwedd_host::session::HostSession;
-use jalwedd_host::status::{EMPTY, LIVE, NO_MEMORY, START, TAKEN, of_error};
+use jalwedd_host::status::{EMPTY, GUARD, LIVE, NO_MEMORY, START, TAKEN, of_error};
 use jalwedd_host::step::HostStep;
 use rtcp_engine::Participant;
+use rtcp_guard::{Guard, Settings};
 use rtcp_members::HeapTable;
-use std::alloc::Global;
+use std::alloc::{AllocError, Global};
 
 /// Puts a participant of a session that begins now, when the host's clock shows the configuration's `start`, into an
 /// empty handle. `word` is a random word, for the draw of the first interval. Call `jalwedd_tick` at the step's `next`.
-/// This call alone takes memory, in three blocks: 136 and 8 octets for each source of the capacity, and 2,744.
+/// This call alone takes memory, in three blocks: 136 and 8 octets for each source of the capacity, and 2,752; with a
+/// guard in two more, 48 octets for each source of the capacity, and GUARD_OCTETS.
 ///
-/// Statuses: 0; 21 where the handle holds a participant, which is then the one that the step tells of; 11 to 17 by the
-/// first of C1 to C7 that applies, where a CNAME of more than 255 octets, more than 7 items, and then more than 16
+/// Statuses: 0; 21 where the handle holds a participant, which is then the one that the step tells of; 11 to 18 by the
+/// first of C1 to C8 that applies, where a CNAME of more than 255 octets, more than 7 items, and then more than 16
 /// clocks or a payload type above 255, are tested before the others; 22.
 #[unsafe(no_mangle)]
 pub extern "C" fn jalwedd_new(
@@ -37,6 +41,10 @@ pub extern "C" fn jalwedd_new(
     ensures begins { result ≡ 0 →
         Begins config.now.start (begun (setup_given config.now cname.now items.now) word)
         handle.new.owned.held step.new }
+    ensures unguarded { result ≡ 0 → config.now.guard.names ≡ 0 → IsUnguarded handle.new.owned.held }
+    ensures guarded { result ≡ 0 → config.now.guard.names ≢ 0 →
+        LeadsGuardedTo handle.new.owned.held config.now.start
+        (guarded_begun config.now cname.now items.now word) }
     ensures vacant { handle.old.owned.held ≡ None →
         AnswersVacant (refusal_of config.now cname.now items.now) handle.new.owned.held result step.new }
     ensures live { AnswersLive handle.old.owned.held result step.new }
@@ -59,6 +67,13 @@ pub extern "C" fn jalwedd_new(
     if config.start >= START_LIMIT {
         return START;
     }
+    if !can_guard(&config.guard) {
+        return GUARD;
+    }
+    let guard = match guard_of(alloc, given.capacity, &config.guard) {
+        Ok(guard) => guard,
+        Err(_) => return NO_MEMORY,
+    };
     let table = match HeapTable::with_room(alloc, given.capacity) {
         Ok(table) => table,
         Err(_) => return NO_MEMORY,
@@ -66,6 +81,7 @@ pub extern "C" fn jalwedd_new(
     let session = HostSession {
         participant: Participant::with_table(given, table, word),
         start: config.start,
+        guard,
     };
     begin(alloc, handle, session, step)
 }
@@ -104,4 +120,38 @@ fn begin(alloc: Global, handle: &mut Handle, session: HostSession, step: &mut Ho
         }
         Err(_) => NO_MEMORY,
     }
+}
+
+/// Whether an origin, a trusted one too, may have so many sources (C8).
+fn can_guard(given: &GuardConfig) -> bool
+    ensures { IsTrue result ↔ (refusal_of_guard given.now ≡ None) }
+{
+    given.names <= 1_024 && given.trusted_names <= 1_024
+}
+
+/// The guard of a configuration before a participant of this capacity: none where an origin may have no source.
+///
+/// # Errors
+///
+/// There is no memory.
+fn guard_of(
+    alloc: Global,
+    capacity: u32,
+    given: &GuardConfig,
+) -> Result<Option<Box<Guard>>, AllocError>
+    requires few { capacity ≤ 1024 }
+    requires usable { refusal_of_guard given.now ≡ None }
+    ensures { IfOk result (λ guard. option_map box_value guard ≡ guard_begun capacity given.now) }
+{
+    if given.names == 0 {
+        return Ok(None);
+    }
+    let settings = Settings {
+        sources: capacity as u16,
+        names: given.names as u16,
+        trusted_names: given.trusted_names as u16,
+        hold: given.hold,
+    };
+    let guard = Guard::new(alloc, settings)?;
+    Ok(Some(Box::new(alloc, guard)?))
 }

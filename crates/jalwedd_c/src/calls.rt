@@ -5,12 +5,16 @@ ghost use Rattle.std.specs.Prelude.{◌≡◌, ◌≤◌, ◌<◌, ℕ, Some, No
 ghost use Rattle.rtcp_engine.specs.answers.Acts.{forget_asked, leave_asked, packet_sent, rtcp_arrived, rtp_arrived, time_passed};
 ghost use Rattle.rtcp_engine.specs.answers.Acts.{settings_given as settings_told};
 ghost use Rattle.jalwedd_host.specs.Configs.{oversize_of_settings, settings_given};
-ghost use Rattle.jalwedd_host.specs.Promises.{SparesSession, TellsSession, TurnsAway};
+ghost use Rattle.jalwedd_host.specs.Guards.{TellsGuarded};
+ghost use Rattle.jalwedd_host.specs.Handles.{IsUnguarded};
+ghost use Rattle.jalwedd_host.specs.Promises.{SparesArrival, SparesSession, TellsSession, TurnsAway};
 
 use jalwedd_host::config::{Item, Settings, blank_settings, fill_settings};
 use jalwedd_host::handle::Handle;
+use jalwedd_host::session::HostSession;
 use jalwedd_host::status::TOO_LONG;
 use jalwedd_host::step::HostStep;
+use rtcp_guarded::apart;
 use std::alloc::Global;
 
 /// The most octets of a UDP datagram.
@@ -21,7 +25,7 @@ pub(crate) const LONGEST: usize = 65_535;
 /// SSRC (RFC 3550, 8.2).
 ///
 /// Statuses: 0; 1 to 5 and 7, by the first of E1 to E5 and E7 that applies, where a call before the start is refused
-/// by E1 or E2; 20 where the handle is empty.
+/// by E1 or E2; else 24 or 25 where the guard holds the datagram back; 20 where the handle is empty.
 #[unsafe(no_mangle)]
 pub extern "C" fn jalwedd_arrive_rtcp(
     alloc: Global,
@@ -33,15 +37,31 @@ pub extern "C" fn jalwedd_arrive_rtcp(
     step: &mut HostStep,
     octets: &mut [u8; 1472],
 ) -> u32
-    ensures tells { TellsSession (λ moment. rtcp_arrived moment peer word datagram.now) now handle.old.owned.held
+    ensures tells { IsUnguarded handle.old.owned.held →
+        TellsSession (λ moment. rtcp_arrived moment peer word datagram.now) now handle.old.owned.held
         handle.new.owned.held result step.new octets.old octets.new }
-    ensures spares { SparesSession handle.old.owned.held handle.new.owned.held result step.new octets.old octets.new }
+    ensures guarded { TellsGuarded (λ moment. rtcp_arrived moment peer word datagram.now) now handle.old.owned.held
+        handle.new.owned.held result step.new octets.old octets.new }
+    ensures spares { SparesArrival handle.old.owned.held handle.new.owned.held result step.new octets.old octets.new }
 {
     let (mut session, moment) = match handle.open(alloc, now, step) {
         Ok(opened) => opened,
         Err(status) => return status,
     };
-    let reply = session
+    let held: &mut HostSession = &mut session;
+    if let Some(guard) = &mut held.guard {
+        let reply = apart::arrive_rtcp(
+            &mut held.participant,
+            guard,
+            moment,
+            peer,
+            word,
+            datagram,
+            octets,
+        );
+        return handle.put_back_guarded(session, &reply, step);
+    }
+    let reply = held
         .participant
         .arrive_rtcp_into(moment, peer, word, datagram, octets);
     handle.put_back(session, &reply, step)
@@ -51,7 +71,8 @@ pub extern "C" fn jalwedd_arrive_rtcp(
 /// none is read, so that a host may give a size of -1 for what it did not receive.
 ///
 /// Statuses: 0; 20 where the handle is empty; else 23 where the datagram has more than 65,535 octets; else 1 to 4, 6
-/// and 7, by the first of E1 to E4, E6 and E7 that applies, where a call before the start is refused by E1 or E2.
+/// and 7, by the first of E1 to E4, E6 and E7 that applies, where a call before the start is refused by E1 or E2; else
+/// 24 or 25 where the guard holds the datagram back.
 #[unsafe(no_mangle)]
 pub extern "C" fn jalwedd_arrive_rtp(
     alloc: Global,
@@ -63,11 +84,14 @@ pub extern "C" fn jalwedd_arrive_rtp(
     step: &mut HostStep,
     octets: &mut [u8; 1472],
 ) -> u32
-    ensures tells { length datagram.now ≤ 65535 → TellsSession (λ moment. rtp_arrived moment peer word datagram.now) now
+    ensures tells { length datagram.now ≤ 65535 → IsUnguarded handle.old.owned.held →
+        TellsSession (λ moment. rtp_arrived moment peer word datagram.now) now
         handle.old.owned.held handle.new.owned.held result step.new octets.old octets.new }
+    ensures guarded { length datagram.now ≤ 65535 → TellsGuarded (λ moment. rtp_arrived moment peer word datagram.now)
+        now handle.old.owned.held handle.new.owned.held result step.new octets.old octets.new }
     ensures turns_away { 65535 < length datagram.now →
         TurnsAway 23 handle.old.owned.held result step.new octets.old octets.new }
-    ensures spares { SparesSession handle.old.owned.held handle.new.owned.held result step.new octets.old octets.new }
+    ensures spares { SparesArrival handle.old.owned.held handle.new.owned.held result step.new octets.old octets.new }
 {
     if datagram.len() > LONGEST {
         return handle.turn_away(alloc, TOO_LONG, step);
@@ -76,7 +100,20 @@ pub extern "C" fn jalwedd_arrive_rtp(
         Ok(opened) => opened,
         Err(status) => return status,
     };
-    let reply = session
+    let held: &mut HostSession = &mut session;
+    if let Some(guard) = &mut held.guard {
+        let reply = apart::arrive_rtp(
+            &mut held.participant,
+            guard,
+            moment,
+            peer,
+            word,
+            datagram,
+            octets,
+        );
+        return handle.put_back_guarded(session, &reply, step);
+    }
+    let reply = held
         .participant
         .arrive_rtp_into(moment, peer, word, datagram, octets);
     handle.put_back(session, &reply, step)
@@ -98,6 +135,8 @@ pub extern "C" fn jalwedd_sent_rtp(
     octets: &mut [u8; 1472],
 ) -> u32
     ensures tells { TellsSession (λ moment. packet_sent moment timestamp size) now handle.old.owned.held
+        handle.new.owned.held result step.new octets.old octets.new }
+    ensures guarded { TellsGuarded (λ moment. packet_sent moment timestamp size) now handle.old.owned.held
         handle.new.owned.held result step.new octets.old octets.new }
     ensures nothing { (step.new.kind ≡ 0) × (octets.new ≡ octets.old) }
     ensures spares { SparesSession handle.old.owned.held handle.new.owned.held result step.new octets.old octets.new }
@@ -130,15 +169,15 @@ pub extern "C" fn jalwedd_tick(
 ) -> u32
     ensures tells { TellsSession (λ moment. time_passed moment first_word second_word) now handle.old.owned.held
         handle.new.owned.held result step.new octets.old octets.new }
+    ensures guarded { TellsGuarded (λ moment. time_passed moment first_word second_word) now handle.old.owned.held
+        handle.new.owned.held result step.new octets.old octets.new }
     ensures spares { SparesSession handle.old.owned.held handle.new.owned.held result step.new octets.old octets.new }
 {
     let (mut session, moment) = match handle.open(alloc, now, step) {
         Ok(opened) => opened,
         Err(status) => return status,
     };
-    let reply = session
-        .participant
-        .tick_into(moment, first_word, second_word, octets);
+    let reply = session.tick(moment, first_word, second_word, octets);
     handle.put_back(session, &reply, step)
 }
 
@@ -161,6 +200,9 @@ pub extern "C" fn jalwedd_configure(
 ) -> u32
     ensures tells { oversize_of_settings settings.now items.now ≡ None →
         TellsSession (λ moment. settings_told moment (settings_given settings.now items.now)) now
+        handle.old.owned.held handle.new.owned.held result step.new octets.old octets.new }
+    ensures guarded { oversize_of_settings settings.now items.now ≡ None →
+        TellsGuarded (λ moment. settings_told moment (settings_given settings.now items.now)) now
         handle.old.owned.held handle.new.owned.held result step.new octets.old octets.new }
     ensures turns_away { (status : ℕ) → oversize_of_settings settings.now items.now ≡ Some status →
         TurnsAway status handle.old.owned.held result step.new octets.old octets.new }
@@ -197,6 +239,8 @@ pub extern "C" fn jalwedd_forget(
 ) -> u32
     ensures tells { TellsSession (λ moment. forget_asked moment ssrc) now handle.old.owned.held
         handle.new.owned.held result step.new octets.old octets.new }
+    ensures guarded { TellsGuarded (λ moment. forget_asked moment ssrc) now handle.old.owned.held
+        handle.new.owned.held result step.new octets.old octets.new }
     ensures nothing { (step.new.kind ≡ 0) × (octets.new ≡ octets.old) }
     ensures spares { SparesSession handle.old.owned.held handle.new.owned.held result step.new octets.old octets.new }
 {
@@ -223,6 +267,8 @@ pub extern "C" fn jalwedd_leave(
     octets: &mut [u8; 1472],
 ) -> u32
     ensures tells { TellsSession (λ moment. leave_asked moment word) now handle.old.owned.held
+        handle.new.owned.held result step.new octets.old octets.new }
+    ensures guarded { TellsGuarded (λ moment. leave_asked moment word) now handle.old.owned.held
         handle.new.owned.held result step.new octets.old octets.new }
     ensures spares { SparesSession handle.old.owned.held handle.new.owned.held result step.new octets.old octets.new }
 {

@@ -9,9 +9,10 @@
 //! Statuses: 0 taken; 1 to 7 a call that the participant refused, by E1 to E7, of which 5 is also a datagram
 //! that is not a compound, and 6 one without a valid RTP head; 8 no such block, or no such other part of a
 //! datagram; 9 no such source, or no other one that changed; 10 a listing whose SSRCs do not rise; 11 to 17 a
-//! configuration that is refused, by C1 to C7, of which 14 to 16 are also settings that are refused, by E8; 20 a
-//! handle that holds no participant; 21 one that already holds one; 22 no memory; 23 an RTP datagram of more octets
-//! than UDP carries.
+//! configuration that is refused, by C1 to C8, of which 14 to 16 are also settings that are refused, by E8; 19 a
+//! session without a guard; 20 a handle that holds no participant; 21 one that already holds one; 22 no memory; 23 an
+//! RTP datagram of more octets than UDP carries; 24 a datagram that the guard holds back, as it names a source of
+//! another origin; 25 one by which its origin would have too many sources.
 //!
 //! Time is what a clock of the host's shows, in microseconds. It may count from anywhere, and must not go back. A
 //! session begins at the `start` of its [`Config`], and a call before that is refused as one that comes too early.
@@ -27,6 +28,7 @@
 mod begin;
 mod calls;
 mod change;
+mod guard;
 mod head;
 mod parts;
 mod reading;
@@ -37,7 +39,8 @@ mod walks;
 
 pub use jalwedd_host::app::AppPlace;
 pub use jalwedd_host::change::RoleChange;
-pub use jalwedd_host::config::{Clock, Config, Item, Settings};
+pub use jalwedd_host::config::{Clock, Config, GuardConfig, Item, Settings};
+pub use jalwedd_host::guarded::HostHeldBack;
 pub use jalwedd_host::handle::Handle;
 pub use jalwedd_host::head::HeadPlace;
 pub use jalwedd_host::laws;

@@ -9,6 +9,7 @@ mod calls;
 mod changes;
 mod configurations;
 mod forgetting;
+mod guarding;
 mod heads;
 mod parts;
 mod readings;
@@ -27,6 +28,14 @@ const CONFIG: Config = Config {
     clock_count: 0,
     clocks: [UNREAD; 16],
     reserved: 0,
+    guard: UNGUARDED,
+};
+
+/// No guard.
+const UNGUARDED: GuardConfig = GuardConfig {
+    names: 0,
+    trusted_names: 0,
+    hold: 0,
 };
 
 /// A clock that is refused where it is read.
@@ -141,5 +150,6 @@ const TOO_LONG: [u8; 65_536] = [0x80; 65_536];
 /// The block of a session has the octets that `jalwedd_new` documents.
 #[test]
 fn memory(rt: HostRuntime) {
-    assert_eq!(rt; size_of::<jalwedd_host::session::HostSession>(), 2_744);
+    assert_eq!(rt; size_of::<jalwedd_host::session::HostSession>(), 2_752);
+    assert_eq!(rt; size_of::<rtcp_guard::Guard>(), 280);
 }

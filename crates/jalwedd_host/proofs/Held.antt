@@ -3,6 +3,8 @@ use Rattle.std.proofs.Common.{◌≡◌, ◌<◌, ◌^◌, ℕ, Option, Some, No
 use Rattle.rtcp_engine.specs.answers.Histories.{History}
 use Rattle.rtcp_engine.specs.state.Taken.{IsHistory}
 use Rattle.jalwedd_host.specs.declared.session.HostSession.{HostSession}
+use Rattle.rtcp_guarded.specs.Guarded.{GuardedHistory}
+use Rattle.jalwedd_host.specs.Guards.{LeadsGuarded, LeadsGuardedTo}
 use Rattle.jalwedd_host.specs.Handles.{Leads, LeadsTo}
 
 -- What is held leads to what a participant can have been told.
@@ -26,3 +28,19 @@ pub session_of : (held : Option HostSession) (session : HostSession) (start : �
     held ≡ Some session →
     LeadsTo held start history → Leads session start history
 session_of held session start history is leads = subst (λ (h : Option HostSession). LeadsTo h start history) is leads
+
+-- The same of a session with a guard.
+pub guarded_as : (session same : HostSession) (start : ℕ) (history : GuardedHistory) → session ≡ same →
+    LeadsGuarded session start history → LeadsGuarded same start history
+guarded_as session same start history is leads =
+    subst (λ (s : HostSession). LeadsGuarded s start history) is leads
+
+pub guarded_of : (held : Option HostSession) (session : HostSession) (start : ℕ) (history : GuardedHistory) →
+    held ≡ Some session → LeadsGuardedTo held start history → LeadsGuarded session start history
+guarded_of held session start history is leads =
+    subst (λ (h : Option HostSession). LeadsGuardedTo h start history) is leads
+
+pub nobody_guarded : {held : Option HostSession} (start : ℕ) (history : GuardedHistory) → held ≡ None →
+    LeadsGuardedTo held start history → ⊥
+nobody_guarded {held} start history none leads =
+    subst (λ (h : Option HostSession). LeadsGuardedTo h start history) none leads

@@ -6,7 +6,8 @@ use Rattle.jalwedd_host.specs.declared.step.HostStep.{HostStep}
 use Rattle.jalwedd_host.specs.Answers.{HandsNothing, IsBlank, Shows, early_refusal, status_of_refusal}
 use Rattle.jalwedd_host.specs.Handles.{KeepsWithin, Leads, LeadsTo}
 use Rattle.jalwedd_host.specs.Promises.{TurnsBack}
-use Rattle.jalwedd_host.proofs.Held.{session_of}
+use Rattle.rtcp_guarded.specs.Guarded.{passed_at}
+use Rattle.jalwedd_host.proofs.Held.{guarded_of, nobody_guarded, session_of}
 
 nobody_leads : {held : Option HostSession} (start : ℕ) (history : History) → held ≡ None →
     LeadsTo held start history → ⊥
@@ -20,6 +21,10 @@ none_turned {before} {after} none empty blank = record {
   tells = λ event octets. record {
     serves = λ start moment history act leads. absurd (nobody_leads start history none leads);
     early = λ start history leads. absurd (nobody_leads start history none leads);
+  };
+  guarded = λ event octets. record {
+    serves = λ start moment history act leads. absurd (nobody_guarded start history none leads);
+    early = λ start history leads. absurd (nobody_guarded start history none leads);
   };
   spares = λ octets. record {
     within = λ keeps. subst KeepsWithin (sym empty) tt;
@@ -47,6 +52,19 @@ early_turned {before} {after} {session} {status} {step} {now} is after_is low re
           nothing = nothing;
           octets_kept = refl;
           shows = shown start history holds;
+          kept = after_is ∙ sym is;
+        };
+  };
+  guarded = λ event octets. record {
+    serves = λ start moment history act leads told.
+        absurd (omega (arith, low, told, (guarded_of before session start history is leads).passed.counts));
+    early = λ start history leads late.
+        let holds = (guarded_of before session start history is leads).passed in
+        record {
+          status = reason start (passed_at history) holds;
+          nothing = nothing;
+          octets_kept = refl;
+          shows = shown start (passed_at history) holds;
           kept = after_is ∙ sym is;
         };
   };

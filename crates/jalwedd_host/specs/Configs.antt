@@ -1,5 +1,5 @@
 -- How a host in C configures a participant, first and in a running session.
-use Rattle.std.specs.Prelude.{ℕ, ◌^◌, ◌&&◌, Bool, nat_le, if◌then◌else◌, not, List, length, map, take, Option, Some, None, option_map}
+use Rattle.std.specs.Prelude.{ℕ, ◌^◌, ◌&&◌, Bool, nat_le, if◌then◌else◌, not, nat_eq, List, length, map, take, Option, Some, None, option_map}
 use Rattle.std.specs.List.{list_all}
 use Rattle.std.specs.Option.{option_or}
 use Rattle.rtcp_wire.specs.Values.{ItemValue}
@@ -8,7 +8,10 @@ use Rattle.rtcp_engine.specs.declared.config.ConfigError.TheVariants.{Cname, Cap
 use Rattle.rtcp_engine.specs.answers.Setups.{ClockValue, SettingsValue, Setup}
 use Rattle.rtcp_engine.specs.answers.Refused.{error_in}
 use Rattle.jalwedd_host.specs.declared.config.Clock.{Clock as ClockGiven}
+use Rattle.rtcp_guard.specs.Guarding.{GuardValue, new_guard}
+use Rattle.rtcp_guard.specs.declared.settings.Settings.{Settings as GuardSettings}
 use Rattle.jalwedd_host.specs.declared.config.Config.{Config}
+use Rattle.jalwedd_host.specs.declared.config.GuardConfig.{GuardConfig}
 use Rattle.jalwedd_host.specs.declared.config.Item.{Item as ItemGiven}
 use Rattle.jalwedd_host.specs.declared.config.Settings.{Settings}
 
@@ -100,6 +103,26 @@ refusal_of_setup config cname items = elim (oversize config cname items) [
 abbrev pub refusal_of_start : (start : ℕ) → Option ℕ
 refusal_of_start start = if nat_le (2 ^ 63) start then Some 17 else None
 
+-- C8: an origin, a trusted one too, may have at most 1,024 sources.
+abbrev pub refusal_of_guard : GuardConfig → Option ℕ
+refusal_of_guard guard = if nat_le guard.names 1024 && nat_le guard.trusted_names 1024 then None else Some 18
+
 -- The status of a configuration that is refused, if it is: the first that applies.
 abbrev pub refusal_of : Config → (cname : List ℕ) → List ItemGiven → Option ℕ
-refusal_of config cname items = option_or (refusal_of_setup config cname items) (refusal_of_start config.start)
+refusal_of config cname items =
+    option_or (refusal_of_setup config cname items)
+    (option_or (refusal_of_start config.start) (refusal_of_guard config.guard))
+
+-- the settings of a guard before a participant of this capacity
+abbrev pub guard_given : (capacity : ℕ) → GuardConfig → GuardSettings
+guard_given capacity guard = record {
+  sources = capacity;
+  names = guard.names;
+  trusted_names = guard.trusted_names;
+  hold = guard.hold;
+}
+
+-- The guard that a configuration begins with: none where an origin may have no source.
+abbrev pub guard_begun : (capacity : ℕ) → GuardConfig → Option GuardValue
+guard_begun capacity guard =
+    if nat_eq guard.names 0 then None else Some (new_guard (guard_given capacity guard))

@@ -2,6 +2,8 @@
 pub mod Handles
 pub mod Owned
 pub mod Answers
+pub mod Early
+pub mod Guards
 pub mod Promises
 pub mod Configs
 pub mod Readings

@@ -2,12 +2,14 @@
 use Rattle.std.specs.Prelude.{ℕ, ◌≡◌, ◌≢◌, ◌⊎◌, ◌+◌, ◌<◌, List, Option, Some, None}
 use Rattle.rtcp_engine.specs.answers.Acts.{Act, EventValue, IsActOfEvent}
 use Rattle.rtcp_engine.specs.answers.Answers.{answer_of, followed_by}
-use Rattle.rtcp_engine.specs.answers.Histories.{History, life_at}
+use Rattle.rtcp_engine.specs.answers.Histories.{History}
 use Rattle.rtcp_engine.specs.bounds.Runs.{IsAnsweredInTime}
 use Rattle.jalwedd_host.specs.declared.session.HostSession.{HostSession}
 use Rattle.jalwedd_host.specs.declared.step.HostStep.{HostStep}
-use Rattle.jalwedd_host.specs.Answers.{HandsNothing, HandsOut, IsBlank, Shows, early_refusal, status_of, status_of_refusal}
-use Rattle.jalwedd_host.specs.Handles.{KeepsWithin, LeadsTo}
+use Rattle.jalwedd_host.specs.Answers.{HandsNothing, HandsOut, IsBlank, Shows, status_of}
+use Rattle.jalwedd_host.specs.Early.{RefusesEarly}
+use Rattle.jalwedd_host.specs.Guards.{TellsGuarded}
+use Rattle.jalwedd_host.specs.Handles.{IsUnguarded, KeepsWithin, LeadsTo, told_in}
 
 -- A session that stands at a history is told an act. The status, the step and the host's octets say what the history
 -- answers to it. A tick that comes late, and is taken, is answered with a compound, which is handed out. Then the
@@ -21,18 +23,6 @@ pub record Serves
   pub not_too_late : IsAnsweredInTime history act (answer_of history act)
   pub stands : LeadsTo after start (followed_by history act)
   pub shows : Shows start step (followed_by history act)
-
--- A call came before the start. It is refused as one that comes before moment 0, or after the end, and hands nothing
--- out. The step shows the history, and what is held is as it was.
-pub record RefusesEarly
-    (start : ℕ) (history : History) (before after : Option HostSession) (result : ℕ) (step : HostStep)
-    (was octets : List ℕ)
-    : Type 0 where
-  pub status : result ≡ status_of_refusal (early_refusal (life_at history))
-  pub nothing : HandsNothing step
-  pub octets_kept : octets ≡ was
-  pub shows : Shows start step history
-  pub kept : after ≡ before
 
 -- A call tells the session of a handle an event, at the moment since the start that the host's clock shows. Whatever
 -- the octets of a datagram say, the session takes the act of that. What comes before the start is refused.
@@ -53,6 +43,15 @@ pub record SparesSession (before after : Option HostSession) (result : ℕ) (ste
   pub refused : result ≢ 0 → after ≡ before
   pub empty : before ≡ None → (result ≡ 20) × IsBlank step × (octets ≡ was)
 
+-- The same of a call that a guard may hold back: what is not taken leaves the participant and the start as they were, and
+-- where there is no guard the session.
+pub record SparesArrival (before after : Option HostSession) (result : ℕ) (step : HostStep) (was octets : List ℕ) : Type
+    0 where
+  pub within : KeepsWithin before → KeepsWithin after
+  pub untaken : result ≢ 0 → told_in after ≡ told_in before
+  pub unguarded : IsUnguarded before → result ≢ 0 → after ≡ before
+  pub empty : before ≡ None → (result ≡ 20) × IsBlank step × (octets ≡ was)
+
 -- What came with a call is more than it takes, which this status tells. Of a session the call says so, hands nothing
 -- out, and shows where it stands.
 pub record TurnsAway
@@ -67,6 +66,8 @@ pub record TurnsAway
 pub record TurnsBack (now : ℕ) (before after : Option HostSession) (result : ℕ) (step : HostStep) : Type 0 where
   pub tells : (event : ℕ → EventValue) (octets : List ℕ) →
       TellsSession event now before after result step octets octets
+  pub guarded : (event : ℕ → EventValue) (octets : List ℕ) →
+      TellsGuarded event now before after result step octets octets
   pub spares : (octets : List ℕ) → SparesSession before after result step octets octets
   pub nothing : step.kind ≡ 0
 

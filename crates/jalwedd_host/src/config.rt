@@ -39,8 +39,22 @@ pub struct Config {
     pub clock_count: u32,
     /// The clocks of other payload types, of which the first counts where several are of one type.
     pub clocks: [Clock; 16],
-    /// Not read: with it the size is a multiple of 8.
+    /// Not read: with it what follows lies at a multiple of 8.
     pub reserved: u32,
+    /// The guard before the participant.
+    pub guard: GuardConfig,
+}
+
+/// Which datagrams are held back from the participant, by where they come from (RFC 3550, 8.2).
+#[repr(C)]
+#[derive(Clone, Copy, Debug)]
+pub struct GuardConfig {
+    /// How many sources an origin may have, at most 1,024, those included that left within the hold; 0 for no guard.
+    pub names: u32,
+    /// How many sources a trusted origin may have, at most 1,024, where that is more.
+    pub trusted_names: u32,
+    /// For how long a source belongs to its origin after it was last named, in microseconds.
+    pub hold: u64,
 }
 
 /// The clock in which the RTP timestamps of a payload type count (RFC 3550, 5.1).

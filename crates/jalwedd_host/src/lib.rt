@@ -13,6 +13,7 @@
 pub mod app;
 pub mod change;
 pub mod config;
+pub mod guarded;
 pub mod handle;
 pub mod head;
 pub mod laws;

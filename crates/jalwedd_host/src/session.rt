@@ -1,14 +1,19 @@
 //! The participant that a handle holds, and what is told of it.
 
-ghost use Rattle.std.specs.Prelude.{◌≡◌, ◌≤◌, ◌<◌, ◌+◌, ℕ, List, Ok, MatchOption};
+ghost use Rattle.std.specs.Prelude.{◌≡◌, ◌≤◌, ◌<◌, ◌+◌, ℕ, List, Ok, OnErr, MatchOption};
 ghost use Rattle.rtcp_engine.specs.answers.Histories.{History, life_at};
-ghost use Rattle.rtcp_engine.specs.state.Promises.{SaysStanding};
+ghost use Rattle.rtcp_engine.specs.answers.Acts.{time_passed};
+ghost use Rattle.rtcp_engine.specs.state.Promises.{Replies as ParticipantReplies, SaysStanding};
 ghost use Rattle.rtcp_engine.specs.state.Views.{LeavesRest, reply_value, size_written};
 ghost use Rattle.jalwedd_host.specs.Answers.{HandsNothing, HandsOut, Shows, early_refusal};
+ghost use Rattle.rtcp_guarded.specs.Views.{as_refused};
+ghost use Rattle.jalwedd_host.specs.Guards.{RepliesGuarded};
 ghost use Rattle.jalwedd_host.specs.Handles.{Leads};
 
 use crate::step::HostStep;
-use rtcp_engine::{Participant, Refusal, WrittenStep};
+use rtcp_engine::{Participant, Refusal, Reply, WrittenStep};
+use rtcp_guard::Guard;
+use rtcp_guarded::apart;
 use rtcp_members::HeapTable;
 
 /// What a host in C has on the heap.
@@ -18,6 +23,8 @@ pub struct HostSession {
     pub start: u64,
     /// The participant, whose moments are counted from the start.
     pub participant: Participant<HeapTable>,
+    /// The guard before the participant, if the host wants one.
+    pub guard: Option<Box<Guard>>,
 }
 
 impl HostSession {
@@ -29,6 +36,22 @@ impl HostSession {
         match self.participant.next() {
             Some(_) => Refusal::Backwards,
             None => Refusal::Left,
+        }
+    }
+
+    /// Asks the participant whether a report or the BYE is due, and lets its guard make a check, if there is one.
+    #[inline(always)]
+    pub fn tick(&mut self, moment: u64, w1: u32, w2: u32, octets: &mut [u8; 1472]) -> Reply
+        ensures participant { ParticipantReplies self.old.participant (time_passed moment w1 w2) octets.old octets.new
+            result self.new.participant }
+        ensures guarded { RepliesGuarded self.old (time_passed moment w1 w2) octets.old octets.new (as_refused result)
+            self.new }
+        ensures start { self.new.start ≡ self.old.start }
+        ensures refused { OnErr result (self.new ≡ self.old) }
+    {
+        match &mut self.guard {
+            Some(guard) => apart::tick(&mut self.participant, guard, moment, w1, w2, octets),
+            None => self.participant.tick_into(moment, w1, w2, octets),
         }
     }
 

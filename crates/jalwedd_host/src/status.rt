@@ -3,11 +3,16 @@
 ghost use Rattle.std.specs.Prelude.{◌≡◌};
 ghost use Rattle.jalwedd_host.specs.Answers.{status_of_refusal};
 ghost use Rattle.jalwedd_host.specs.Configs.{status_of_error};
+ghost use Rattle.jalwedd_host.specs.Guards.{status_of_untaken};
 
 use rtcp_engine::{ConfigError, Refusal};
+use rtcp_guarded::{Reason, Untaken};
 
 /// The call was taken.
 pub const TAKEN: u32 = 0;
+
+/// The call comes before the start (E2).
+pub(crate) const BACKWARDS: u32 = 2;
 
 /// The datagram is not a compound.
 pub const NO_COMPOUND: u32 = 5;
@@ -45,6 +50,12 @@ pub const ITEM: u32 = 16;
 /// The start is refused (C7).
 pub const START: u32 = 17;
 
+/// The guard is refused (C8).
+pub const GUARD: u32 = 18;
+
+/// The session has no guard.
+pub const UNGUARDED: u32 = 19;
+
 /// The handle holds no participant.
 pub const EMPTY: u32 = 20;
 
@@ -57,13 +68,30 @@ pub const NO_MEMORY: u32 = 22;
 /// The datagram has more octets than UDP carries.
 pub const TOO_LONG: u32 = 23;
 
+/// The guard holds the datagram back: it names a source of another origin.
+const STRANGER: u32 = 24;
+
+/// The guard holds the datagram back, or does not expect the source: its origin would have too many.
+pub const CROWD: u32 = 25;
+
+/// The status of a call that a guarded participant did not take.
+pub(crate) fn of_untaken(untaken: &Untaken) -> u32
+    ensures { result ≡ status_of_untaken untaken.now }
+{
+    match untaken {
+        Untaken::Refused(refusal) => of_refusal(refusal),
+        Untaken::HeldBack(Reason::Stranger) => STRANGER,
+        Untaken::HeldBack(Reason::Crowd) => CROWD,
+    }
+}
+
 /// The status of a call that the participant refused.
 pub(crate) fn of_refusal(refusal: &Refusal) -> u32
     ensures { result ≡ status_of_refusal refusal.now }
 {
     match refusal {
         Refusal::Left => 1,
-        Refusal::Backwards => 2,
+        Refusal::Backwards => BACKWARDS,
         Refusal::TooFar => 3,
         Refusal::TooMany => 4,
         Refusal::Wire(_) => NO_COMPOUND,

@@ -16,7 +16,7 @@ use Rattle.rtcp_engine.specs.answers.Histories.{History, life_at, session_at, se
 use Rattle.rtcp_engine.specs.answers.Lives.{silent_in_life}
 use Rattle.rtcp_engine.specs.answers.Refusals.{refusal_after}
 use Rattle.rtcp_engine.specs.state.Promises.{Foretells, Replies as ParticipantReplies, Takes as ParticipantTakes}
-use Rattle.rtcp_engine.specs.state.States.{StandsAt as IsAtHistory}
+use Rattle.rtcp_engine.specs.state.States.{KeepsCapacity, ParticipantValue, StandsAt as IsAtHistory}
 use Rattle.rtcp_engine.specs.state.Views.{LeavesRest, reply_value as participant_reply}
 use Rattle.rtcp_engine.proofs.LawLemmas.{one_reading-once, one_reading-rtp_once}
 use Rattle.rtcp_guarded.specs.declared.untaken.Reason.{Reason}
@@ -54,6 +54,7 @@ refused_reply {old} event reason foretold = record {
       (λ h stands. err_foretold (refusal_after (passed_at h) act) (ssrc_for h act) reason
       (foretold act (passed_at h) is stands.participant));
   untaken = refl;
+  within = λ keeps. keeps;
   standing = tt;
   leaves = leaves_all;
 }
@@ -111,6 +112,7 @@ passes_judged octets act (Ok step) takes judged learns =
 passes_judged {old} octets act (Err refusal) takes judged learns = record {
   answer = λ h stands. absurd (never h stands);
   stands = λ h stands. absurd (never h stands);
+  not_too_late = λ h stands. tt;
 }
   where
     never : (h : GuardedHistory) → StandsAt old h → ⊥
@@ -140,12 +142,14 @@ pub replied : {old new : GuardedValue} {event : EventValue} {before after : List
 replied (Ok step) replies takes = record {
   takes = takes;
   untaken = tt;
+  within = λ keeps. replies.spares.within;
   standing = replies.writes.standing;
   leaves = replies.writes.leaves;
 }
 replied (Err refusal) replies takes = record {
   takes = takes;
   untaken = replies.spares.refused;
+  within = λ keeps. replies.spares.within;
   standing = tt;
   leaves = replies.writes.leaves;
 }
@@ -168,6 +172,9 @@ of_packet {old} {new} {moment} {peer} {word} {octets} {given} head reads takes a
     subst (λ (act : Act). Takes old act given new)
     (ap (rtp_came moment peer word) (one_reading-rtp_once octets (Ok head) other reads is) ∙ sym same) takes
 
+kept_within : {old new : ParticipantValue} → new ≡ old → KeepsCapacity old.presence → KeepsCapacity new.presence
+kept_within same keeps = subst (λ (p : ParticipantValue). KeepsCapacity p.presence) (sym same) keeps
+
 pub held_compound : {old new : GuardedValue} {moment peer word ssrc : ℕ} {octets room : List ℕ}
     (packets : List RtcpPacket) {verdict : Verdict} {reason : Reason} → IsAccepted octets packets →
     Foretells old.participant (rtcp_arrived moment peer word octets) (Ok ssrc) →
@@ -179,6 +186,7 @@ held_compound {old} {new} {moment} {peer} {word} {ssrc} {octets} packets {verdic
       takes = of_compound packets reads (held_act moment peer word ssrc _ verdict reason
           (λ h at. foretold (rtcp_came moment peer word octets (Ok packets)) h (Ok packets, reads, refl) at) j is same);
       untaken = same;
+      within = kept_within same;
       standing = tt;
       leaves = leaves_all;
     }
@@ -208,6 +216,7 @@ held_packet {old} {new} {moment} {peer} {word} {ssrc} {octets} head {verdict} {r
       takes = of_packet head reads (held_act moment peer word ssrc _ verdict reason
           (λ h at. foretold (rtp_came moment peer word (Ok head)) h (Ok head, reads, refl) at) j is same);
       untaken = same;
+      within = kept_within same;
       standing = tt;
       leaves = leaves_all;
     }
@@ -229,7 +238,7 @@ passed_packet {old} {new} {moment} {peer} {word} {ssrc} {octets} {before} {after
 -- ---- What the guard does not see
 
 -- the one act of an event without a datagram
-abbrev IsUnseen : Act → Type 0
+abbrev pub IsUnseen : Act → Type 0
 IsUnseen act = (settings : Settings) (course : Course) →
     (Pass ≡ verdict_in settings course act) × (steps_with course act ≡ course.steps)
 

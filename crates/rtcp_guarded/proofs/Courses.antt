@@ -79,6 +79,7 @@ refused {old} {new} act reason same is = record {
       (step_by (passed_at h) act)) (is h stands));
   stands = λ h stands. subst (λ (g : GuardedValue). StandsAt g (with_told h act)) (sym same)
       (at_course h act (course_at h) (stays h act (is h stands)) stands.participant stands.guard);
+  not_too_late = λ h stands. tt;
 }
 
 stops : (verdict : Verdict) (reason : Reason) (history : History) (act : Act) → reason_for verdict ≡ Some reason →
@@ -103,6 +104,7 @@ held {old} {new} act verdict reason is same judges learns = record {
       (subst (λ (p : ParticipantValue). IsAtHistory p (course_with h.settings (course_at h) act).passed) (sym same)
       (subst (IsAtHistory old.participant) passed stands.participant))
       (learns h stands);
+  not_too_late = λ h stands. tt;
 }
 
 pub unheld : (verdict : Verdict) → reason_for verdict ≡ None → Pass ≡ verdict
@@ -133,6 +135,7 @@ passes {old} {new} octets act (Ok step) takes pass learns = record {
       (none h stands) ∙ ap (λ (v : Verdict). passed_on v (passed_at h) act) (pass h stands) in
       at_course h act (course_with h.settings (course_at h) act) (goes_on h act (none h stands))
       (subst (IsAtHistory new.participant) taken (takes.stands (passed_at h) stands.participant)) (learns h stands);
+  not_too_late = λ h stands. takes.not_too_late (passed_at h) stands.participant;
 }
   where
     none : (h : GuardedHistory) → StandsAt old h → refusal_after (passed_at h) act ≡ None
@@ -147,6 +150,7 @@ passes {old} {new} octets act (Err refusal) takes pass same = record {
       at_course h act (course_at h) (stays h act (is h stands))
       (subst (IsAtHistory new.participant) refused_by (takes.stands (passed_at h) stands.participant))
       (same ∙ stands.guard);
+  not_too_late = λ h stands. tt;
 }
   where
     is : (h : GuardedHistory) → StandsAt old h → refusal_after (passed_at h) act ≡ Some refusal

@@ -2,6 +2,8 @@
 mod Courses
 -- The calls, by what the guard and the participant promise.
 mod Calling
+-- What a host that keeps guard and participant apart cites.
+pub mod LawLemmas
 -- What a datagram names.
 mod Naming
 -- Each source that is present is claimed: the steps of the guard beside the trace of the table.

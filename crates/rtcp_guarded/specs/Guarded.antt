@@ -15,6 +15,7 @@ use Rattle.rtcp_engine.specs.answers.Lives.{silent_in_life}
 use Rattle.rtcp_engine.specs.answers.Refusals.{refusal_after}
 use Rattle.rtcp_engine.specs.answers.Setups.{Setup}
 use Rattle.rtcp_engine.specs.answers.Steps.{StepValue}
+use Rattle.rtcp_engine.specs.bounds.Runs.{IsAnsweredInTime}
 use Rattle.rtcp_engine.specs.state.Taken.{begun}
 use Rattle.rtcp_guarded.specs.declared.untaken.Reason.{Reason}
 use Rattle.rtcp_guarded.specs.declared.untaken.Reason.TheVariants.{Stranger as OfAnother, Crowd as TooMany}
@@ -146,6 +147,11 @@ answer_by verdict step = answer_unless_held (reason_for verdict) step
 abbrev pub guarded_unless : Option Refusal → Verdict → StepValue → GuardedAnswer
 guarded_unless None verdict step = answer_by verdict step
 guarded_unless (Some refusal) verdict step = Err (Refused refusal)
+
+-- A tick that comes late, and is taken, is answered with a compound.
+abbrev pub IsTakenInTime : GuardedHistory → Act → GuardedAnswer → Type 0
+IsTakenInTime history act (Ok step) = IsAnsweredInTime (passed_at history) act (Ok step)
+IsTakenInTime history act (Err untaken) = Unit {0}
 
 -- What is answered to an act after a history: the refusal of the participant, why the guard holds the act back, or
 -- else what the participant answers to it after all that was passed on.

@@ -14,6 +14,9 @@ pub record GuardedValue : Type 0 where
   pub participant : ParticipantValue
   pub guard : GuardValue
 
+abbrev pub both : ParticipantValue → GuardValue → GuardedValue
+both participant guard = record { participant = participant; guard = guard }
+
 -- A guarded participant equals the one computed from a whole history: its participant stands at what was passed on.
 pub record StandsAt (guarded : GuardedValue) (history : GuardedHistory) : Type 0 where
   pub participant : IsAtHistory guarded.participant (passed_at history)

@@ -1,17 +1,15 @@
 //! The calls of a guarded participant, one for each event, as those of a participant: each writes its compound, if it
 //! has one, to the start of the caller's octets.
 
-ghost use Rattle.std.specs.Prelude.{◌≡◌};
 ghost use Rattle.rtcp_engine.specs.answers.Acts.{forget_asked, leave_asked, packet_sent, rtcp_arrived, rtp_arrived, settings_given, time_passed};
 ghost use Rattle.rtcp_engine.specs.state.Views.{settings_value};
-ghost use Rattle.rtcp_guarded.specs.Guarded.{origin_of, reason_for};
 ghost use Rattle.rtcp_guarded.specs.Promises.{Replies};
 ghost use Rattle.rtcp_guarded.specs.Views.{as_refused};
 
+use crate::apart;
 use crate::guarded::GuardedParticipant;
-use crate::untaken::{GuardedReply, Reason, Untaken};
+use crate::untaken::GuardedReply;
 use rtcp_engine::{Reply, Settings};
-use rtcp_guard::Verdict;
 use rtcp_members::MemberTable;
 use rtcp_wire::MAX_COMPOUND;
 
@@ -33,20 +31,14 @@ impl<T: MemberTable> GuardedParticipant<T> {
     ) -> GuardedReply
         ensures { Replies self.old (rtcp_arrived now peer w bytes.now) octets.old octets.new result self.new }
     {
-        let inspected = match self.participant.inspect_rtcp(now, peer, w, bytes) {
-            Ok(inspected) => inspected,
-            Err(refusal) => return Err(Untaken::Refused(refusal)),
-        };
-        let verdict = self
-            .guard
-            .arrive_rtcp(&inspected.compound, origin(peer), now, inspected.ssrc);
-        if let Some(reason) = reason_of(verdict) {
-            return Err(Untaken::HeldBack(reason));
-        }
-        // Read again by the participant, which takes octets.
-        as_untaken(
-            self.participant
-                .arrive_rtcp_into(now, peer, w, bytes, octets),
+        apart::arrive_rtcp(
+            &mut self.participant,
+            &mut self.guard,
+            now,
+            peer,
+            w,
+            bytes,
+            octets,
         )
     }
 
@@ -67,20 +59,14 @@ impl<T: MemberTable> GuardedParticipant<T> {
     ) -> GuardedReply
         ensures { Replies self.old (rtp_arrived now peer w bytes.now) octets.old octets.new result self.new }
     {
-        let inspected = match self.participant.inspect_rtp(now, peer, w, bytes) {
-            Ok(inspected) => inspected,
-            Err(refusal) => return Err(Untaken::Refused(refusal)),
-        };
-        let verdict = self
-            .guard
-            .arrive_rtp(&inspected.head, origin(peer), now, inspected.ssrc);
-        if let Some(reason) = reason_of(verdict) {
-            return Err(Untaken::HeldBack(reason));
-        }
-        // Read again by the participant, which takes octets.
-        as_untaken(
-            self.participant
-                .arrive_rtp_into(now, peer, w, bytes, octets),
+        apart::arrive_rtp(
+            &mut self.participant,
+            &mut self.guard,
+            now,
+            peer,
+            w,
+            bytes,
+            octets,
         )
     }
 
@@ -117,14 +103,7 @@ impl<T: MemberTable> GuardedParticipant<T> {
     ) -> Reply
         ensures { Replies self.old (time_passed now w1 w2) octets.old octets.new (as_refused result) self.new }
     {
-        let silent_before = self.participant.silent_before(now);
-        match self.participant.tick_into(now, w1, w2, octets) {
-            Ok(step) => {
-                self.guard.check(now, silent_before);
-                Ok(step)
-            }
-            Err(refusal) => Err(refusal),
-        }
+        apart::tick(&mut self.participant, &mut self.guard, now, w1, w2, octets)
     }
 
     /// Leaves the session: [`Participant::leave_into`](rtcp_engine::Participant::leave_into).
@@ -165,36 +144,5 @@ impl<T: MemberTable> GuardedParticipant<T> {
         ensures { Replies self.old (forget_asked now ssrc) octets.old octets.new (as_refused result) self.new }
     {
         self.participant.forget_into(now, ssrc, octets)
-    }
-}
-
-/// Where a datagram comes from: its peer's number without the port, which has 16 bits.
-#[inline(always)]
-fn origin(peer: u64) -> u64
-    ensures { result ≡ origin_of peer }
-{
-    peer / (1 << 16)
-}
-
-/// Why a datagram is held back, if it is.
-#[inline(always)]
-fn reason_of(verdict: Verdict) -> Option<Reason>
-    ensures { result ≡ reason_for verdict }
-{
-    match verdict {
-        Verdict::Pass => None,
-        Verdict::Stranger => Some(Reason::Stranger),
-        Verdict::Crowd => Some(Reason::Crowd),
-    }
-}
-
-/// The reply of a participant.
-#[inline(always)]
-fn as_untaken(reply: Reply) -> GuardedReply
-    ensures { result ≡ as_refused reply }
-{
-    match reply {
-        Ok(step) => Ok(step),
-        Err(refusal) => Err(Untaken::Refused(refusal)),
     }
 }

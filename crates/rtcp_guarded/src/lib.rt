@@ -6,6 +6,7 @@
 //! participant's history is just that, so each theorem about a participant holds of it.
 #![tactic(auto)]
 
+pub mod apart;
 mod calls;
 mod guarded;
 pub mod laws;

@@ -18,7 +18,8 @@ returns-clause-begins c taken =
     let given = c.in_default-fill.ensures.given refl in
     let begins = c.with_table.ensures.begins in
     let stands = subst (λ setup. StandsAt c.with_table.result (begun setup c.args.word)) given begins in
-    let leads : Leads (record { participant = c.with_table.result; start = config.start }) config.start history =
+    let leads : Leads (record { participant = c.with_table.result; start = config.start; guard = c.in-Ok.guard })
+    config.start history =
     record { stands = stands; counts = refl; range = c.if-config-ge-START_LIMIT.false } in
     record {
       stands = subst (λ (h : Option HostSession). LeadsTo h config.start history) (sym (c.begin.ensures.begun taken))
@@ -34,7 +35,7 @@ returns-clause-vacant c vacant =
     let fill = c.in_default-fill.ensures in
     let usable = ap error_in (sym (fill.given refl)) ∙ sym c.in_default-error.ensures.exact in
     let low = c.if-config-ge-START_LIMIT.false in
-    let none = not_refused c.args.config.now c.args.cname.now c.args.items.now (fill.fits refl) usable low in
+    let none = not_refused c.args.config.now c.args.cname.now c.args.items.now (fill.fits refl) usable low (c.can_guard.ensures.0 c.if-not-can_guard.false) in
     let begin = c.begin.ensures in
     record {
       refused = λ status is. absurd (is_none none is);

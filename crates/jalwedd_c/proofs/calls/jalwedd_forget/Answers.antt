@@ -1,6 +1,8 @@
 -- The moment is counted from the start of the session that is held.
 use Rattle.std.proofs.Common.{refl}
-use Rattle.rtcp_engine.specs.answers.Acts.{forget_asked}
+use Rattle.rtcp_engine.specs.answers.Acts.{forget_asked, forgotten}
+use Rattle.jalwedd_host.specs.declared.session.HostSession.{HostSession}
+use Rattle.jalwedd_c.proofs.Guarding.{tells_refused, unseen}
 use Rattle.jalwedd_c.proofs.Serving.{tells}
 use Rattle.jalwedd_c.proofs.calls.jalwedd_forget.Goals as goal
 
@@ -11,3 +13,14 @@ returns-clause-tells c =
     let reply = c.forget_into-reply.ensures.replies in
     tells (λ m. forget_asked m c.args.ssrc) _ gives counted c.deref_mut.ensures.value refl reply put.held (put.status _)
     (put.handed _ _ reply.writes.leaves) put.shown
+
+pub returns-clause-guarded : goal.returns-clause-guarded
+returns-clause-guarded c =
+    let (gives, left, counted) = c.in-Ok.ensures in
+    let put = c.put_back.ensures in
+    let before = c.deref_mut.result.now in
+    let after : HostSession = record before { participant = c.forget_into-reply.new.self } in
+    let reply = c.forget_into-reply.ensures.replies in
+    tells_refused {before = before} {after = after} (λ m. forget_asked m c.args.ssrc) _ gives counted c.deref_mut.ensures.value refl
+    (unseen before after (forget_asked _ c.args.ssrc) (forgotten _ c.args.ssrc) _ (λ settings course. (refl, refl)) (λ other is. is) refl refl reply) put.held
+    (put.status _) (put.handed _ _ reply.writes.leaves) put.shown

@@ -1,0 +1,187 @@
+//! What a host with a guard before its participant is told, and what it says to the guard.
+
+ghost use Rattle.std.specs.Prelude.{◌≡◌, ◌≤◌, ◌+◌, ℕ, IfOk, List, None, Option, Some};
+ghost use Rattle.rtcp_engine.specs.answers.Histories.{History};
+ghost use Rattle.rtcp_engine.specs.state.Promises.{SaysStanding};
+ghost use Rattle.rtcp_engine.specs.state.Views.{LeavesRest, size_written};
+ghost use Rattle.rtcp_guard.specs.Guarding.{may_have, may_trust};
+ghost use Rattle.rtcp_guarded.specs.Guarded.{GuardedHistory, expected, guard_at, origin_of, trusted};
+ghost use Rattle.rtcp_guarded.specs.Views.{out_written, reply_value};
+ghost use Rattle.jalwedd_host.specs.Answers.{Shows};
+ghost use Rattle.jalwedd_host.specs.Guards.{Expects, HandsOutGuarded, Instructs, LeadsGuarded, LeadsGuardedTo, ShowsHeldBack, Trusts, status_of_guarded};
+ghost use Rattle.jalwedd_host.specs.Handles.{IsUnguarded, Leads, told_in};
+
+use crate::handle::Handle;
+use crate::session::HostSession;
+use crate::status::{BACKWARDS, CROWD, EMPTY, TAKEN, UNGUARDED, of_untaken};
+use crate::step::HostStep;
+use rtcp_guard::HeldBack;
+use rtcp_guarded::GuardedReply;
+use rtcp_guarded::apart::origin;
+use std::alloc::Global;
+
+/// What `last_stranger` and `last_crowd` are where there was none.
+pub const NOWHERE: u64 = u64::MAX;
+
+/// What a guard held back so far. Where a datagram came from is its peer's number without the lower 16 bits.
+#[repr(C)]
+#[derive(Clone, Copy, Debug, PartialEq, Eq)]
+pub struct HostHeldBack {
+    /// How many datagrams named a source of another origin.
+    pub strangers: u64,
+    /// How many datagrams named too many sources.
+    pub crowds: u64,
+    /// Where the last datagram came from that named a source of another origin; 2^64 - 1 if there was none.
+    pub last_stranger: u64,
+    /// Where the last datagram came from that named too many sources; 2^64 - 1 if there was none.
+    pub last_crowd: u64,
+}
+
+impl HostHeldBack {
+    /// What a host in C is told of it.
+    fn of(counts: &HeldBack) -> HostHeldBack
+        ensures { ShowsHeldBack result counts.now }
+    {
+        HostHeldBack {
+            strangers: counts.strangers,
+            crowds: counts.crowds,
+            last_stranger: counts.last_stranger.unwrap_or(NOWHERE),
+            last_crowd: counts.last_crowd.unwrap_or(NOWHERE),
+        }
+    }
+}
+
+impl HostSession {
+    /// Says to the guard, when the host's clock shows `now`, that a source is expected from a peer. Returns the status.
+    fn expect(&mut self, now: u64, ssrc: u32, peer: u64) -> u32
+        ensures expects { (start moment : ℕ) (history : GuardedHistory) → LeadsGuarded self.old start history →
+            now ≡ start + moment → Instructs (may_have ssrc (origin_of peer) moment)
+            (expected ssrc (origin_of peer) moment) start history (Some self.new) result }
+        ensures told { told_in (Some self.new) ≡ told_in (Some self.old) }
+        ensures unguarded { self.old.guard ≡ None → (self.new ≡ self.old) × (result ≡ 19) }
+    {
+        let Some(guard) = &mut self.guard else {
+            return UNGUARDED;
+        };
+        if now < self.start {
+            return BACKWARDS;
+        }
+        if guard.expect(ssrc, origin(peer), now - self.start) {
+            return TAKEN;
+        }
+        CROWD
+    }
+
+    /// Says to the guard that a peer is trusted. Returns the status.
+    fn trust(&mut self, peer: u64) -> u32
+        ensures trusts { (start : ℕ) (history : GuardedHistory) → LeadsGuarded self.old start history →
+            Instructs (λ guard. may_trust (origin_of peer) guard.trusted) (trusted (origin_of peer)) start history
+            (Some self.new) result }
+        ensures told { told_in (Some self.new) ≡ told_in (Some self.old) }
+        ensures unguarded { self.old.guard ≡ None → (self.new ≡ self.old) × (result ≡ 19) }
+    {
+        let Some(guard) = &mut self.guard else {
+            return UNGUARDED;
+        };
+        if guard.trust(origin(peer)) {
+            return TAKEN;
+        }
+        CROWD
+    }
+
+    /// What its guard held back so far, if it has one.
+    fn held_back(&self) -> Option<HostHeldBack>
+        ensures told { (start : ℕ) (history : GuardedHistory) → LeadsGuarded self.now start history →
+            (shown : HostHeldBack) × (result ≡ Some shown) × ShowsHeldBack shown (guard_at history).held_back }
+        ensures unguarded { self.now.guard ≡ None → result ≡ None }
+    {
+        match &self.guard {
+            Some(guard) => Some(HostHeldBack::of(&guard.held_back())),
+            None => None,
+        }
+    }
+}
+
+impl Handle {
+    /// Puts back a session, tells what its guarded participant replied, and how that stands now, and returns the
+    /// status.
+    // Out of line: a host without a guard pays for none of it.
+    #[inline(never)]
+    pub fn put_back_guarded(
+        &mut self,
+        session: Box<HostSession>,
+        reply: &GuardedReply,
+        step: &mut HostStep,
+    ) -> u32
+        requires vacant { self.old.owned.held ≡ None }
+        requires written { size_written (out_written reply.now) ≤ 1472 }
+        requires standing { IfOk reply.now (λ told. SaysStanding told.standing session.value.participant) }
+        ensures held { self.new.owned.held ≡ Some session.value }
+        ensures status { (octets : List ℕ) → result ≡ status_of_guarded (reply_value octets reply.now) }
+        ensures handed { (was octets : List ℕ) → LeavesRest was octets (out_written reply.now) →
+            HandsOutGuarded step.new was octets (reply_value octets reply.now) }
+        ensures shown { (start : ℕ) (history : History) → Leads session.value start history →
+            Shows start step.new history }
+    {
+        match reply {
+            Ok(told) => {
+                *step = session.step_after(told);
+                self.put(session);
+                TAKEN
+            }
+            Err(untaken) => self.put_back_untold(session, of_untaken(untaken), step),
+        }
+    }
+
+    /// Says to the guard that a source is expected from a peer, when the host's clock shows `now`. Returns the status.
+    pub fn expect(&mut self, alloc: Global, now: u64, ssrc: u32, peer: u64) -> u32
+        ensures expects { Expects ssrc peer now self.old.owned.held self.new.owned.held result }
+        ensures told { told_in self.new.owned.held ≡ told_in self.old.owned.held }
+        ensures unguarded { IsUnguarded self.old.owned.held → self.new.owned.held ≡ self.old.owned.held }
+        ensures empty { self.old.owned.held ≡ None → result ≡ 20 }
+    {
+        let Some(mut session) = self.take(alloc) else {
+            return EMPTY;
+        };
+        let status = session.expect(now, ssrc, peer);
+        self.put(session);
+        status
+    }
+
+    /// Says to the guard that a peer is trusted. Returns the status.
+    pub fn trust(&mut self, alloc: Global, peer: u64) -> u32
+        ensures trusts { Trusts peer self.old.owned.held self.new.owned.held result }
+        ensures told { told_in self.new.owned.held ≡ told_in self.old.owned.held }
+        ensures unguarded { IsUnguarded self.old.owned.held → self.new.owned.held ≡ self.old.owned.held }
+        ensures empty { self.old.owned.held ≡ None → result ≡ 20 }
+    {
+        let Some(mut session) = self.take(alloc) else {
+            return EMPTY;
+        };
+        let status = session.trust(peer);
+        self.put(session);
+        status
+    }
+
+    /// What the guard held back so far, written where the host says. Returns the status.
+    pub fn held_back(&mut self, alloc: Global, shown: &mut HostHeldBack) -> u32
+        ensures told { (start : ℕ) (history : GuardedHistory) → LeadsGuardedTo self.old.owned.held start history →
+            (result ≡ 0) × ShowsHeldBack shown.new (guard_at history).held_back }
+        ensures unguarded { IsUnguarded self.old.owned.held → shown.new ≡ shown.old }
+        ensures empty { self.old.owned.held ≡ None → result ≡ 20 }
+        ensures kept { self.new.owned.held ≡ self.old.owned.held }
+    {
+        let Some(session) = self.take(alloc) else {
+            return EMPTY;
+        };
+        let counts = session.held_back();
+        self.put(session);
+        match counts {
+            Some(counts) => {
+                *shown = counts;
+                TAKEN
+            }
+            None => UNGUARDED,
+        }
+    }
+}
