@@ -1,22 +1,21 @@
 -- A call of a session that has a guard.
-use Rattle.std.proofs.Common.{◌≡◌, ◌≢◌, ◌+◌, ℕ, List, Option, Some, None, Result, Ok, Err, option_map, refl, sym, ap, subst, ◌∙◌, arith}
+use Rattle.std.proofs.Common.{◌≡◌, ◌≢◌, ◌+◌, ℕ, List, Option, Some, Result, Ok, Err, OnErr, option_map, refl, sym, ap, subst, ◌∙◌, arith}
 use Rattle.std.specs.Box.{box_value}
-use Rattle.rtcp_guard.specs.Guarding.{GuardValue}
 use Rattle.rtcp_engine.specs.declared.refusal.Refusal.{Refusal}
 use Rattle.rtcp_engine.specs.declared.step.WrittenStep.{WrittenStep}
 use Rattle.rtcp_engine.specs.answers.Acts.{Act, EventValue, IsActOfEvent}
 use Rattle.rtcp_engine.specs.answers.Histories.{History}
 use Rattle.rtcp_engine.specs.state.Promises.{Replies as ParticipantReplies}
+use Rattle.rtcp_engine.specs.state.States.{KeepsCapacity, ParticipantValue}
 use Rattle.rtcp_engine.specs.state.Views.{reply_value as participant_reply}
 use Rattle.rtcp_guarded.specs.Guarded.{IsTakenInTime, guard_at, guarded_answer, passed_at, with_told}
-use Rattle.rtcp_guarded.specs.Promises.{Replies}
 use Rattle.rtcp_guarded.specs.Views.{StandsAt, as_refused, both, reply_value}
 use Rattle.rtcp_guarded.specs.declared.untaken.Untaken.{Untaken}
 use Rattle.rtcp_guarded.proofs.LawLemmas.{IsUnseen, unseen_reply}
 use Rattle.jalwedd_host.specs.declared.session.HostSession.{HostSession}
 use Rattle.jalwedd_host.specs.declared.step.HostStep.{HostStep}
-use Rattle.jalwedd_host.specs.Answers.{HandsOut, Shows, status_of}
-use Rattle.jalwedd_host.specs.Guards.{HandsOutGuarded, LeadsGuarded, LeadsGuardedTo, RepliesGuarded, TellsGuarded, guard_of, status_of_guarded}
+use Rattle.jalwedd_host.specs.Answers.{HandsNothing, HandsOut, Shows, status_of}
+use Rattle.jalwedd_host.specs.Guards.{HandsOutGuarded, Judges, LeadsGuarded, LeadsGuardedTo, RepliesGuarded, TellsGuarded, status_of_guarded}
 use Rattle.jalwedd_host.specs.Handles.{IsUnguarded, KeepsWithin, Leads, told_in}
 use Rattle.jalwedd_host.specs.Promises.{SparesArrival, SparesSession}
 use Rattle.jalwedd_host.proofs.LawLemmas.{guarded_as, guarded_of}
@@ -113,46 +112,79 @@ spares_arrival spares = record {
   empty = spares.empty;
 }
 
-not_taken : (octets : List ℕ) (reply : Result WrittenStep Untaken) {result : ℕ} (before after : HostSession)
-    (guard later : GuardValue) {event : EventValue} {was : List ℕ} →
-    result ≡ status_of_guarded (reply_value octets reply) → result ≢ 0 → after.start ≡ before.start →
-    Replies (both before.participant guard) event was octets reply (both after.participant later) →
-    told_in (Some after) ≡ told_in (Some before)
-not_taken octets (Ok step) before after guard later status other counts replies = absurd (other status)
-not_taken octets (Err untaken) before after guard later status other counts replies =
-    λ i. Some (counts i, replies.untaken i)
+-- ---- A datagram that is judged
 
-pub guarded_spares : {was_held held : Option HostSession} {session before after : HostSession} {result : ℕ}
-    {was octets : List ℕ} {step : HostStep} (event : EventValue) (reply : Result WrittenStep Untaken)
-    (guard : GuardValue) → was_held ≡ Some session → before ≡ session → after.start ≡ before.start →
-    guard_of before ≡ Some guard → RepliesGuarded before event was octets reply after → held ≡ Some after →
-    result ≡ status_of_guarded (reply_value octets reply) → SparesArrival was_held held result step was octets
-guarded_spares {was_held} {held} {session} {before} {after} {result} {was} {octets} event reply guard gives is counts
-    has replies held_is status =
-    let (later, later_is, its) = replies guard has in
-    let held_was : was_held ≡ Some before = gives ∙ ap Some (sym is) in
-    record {
-      within = λ keeps. subst KeepsWithin (sym held_is) (its.within (subst KeepsWithin held_was keeps));
-      untaken = λ other. ap told_in held_is ∙ not_taken octets reply before after guard later status other counts its
-          ∙ sym (ap told_in held_was);
-      unguarded = λ none. absurd (no_guard has (subst IsUnguarded held_was none));
+held_was : {was_held : Option HostSession} {session before : HostSession} → was_held ≡ Some session →
+    before ≡ session → was_held ≡ Some before
+held_was gives is = gives ∙ ap Some (sym is)
+
+-- The participant is not told of it.
+pub tells_held : {was_held held : Option HostSession} {session before mid : HostSession} {now moment result : ℕ}
+    {octets : List ℕ} {step : HostStep} (event : ℕ → EventValue) → was_held ≡ Some session →
+    now ≡ session.start + moment → before ≡ session → Judges before (event moment) result mid → result ≢ 0 →
+    held ≡ Some mid → HandsNothing step →
+    ((start : ℕ) (history : History) → Leads mid start history → Shows start step history) →
+    TellsGuarded event now was_held held result step octets octets
+tells_held {octets = octets} event gives counted is judges other held_is nothing shown =
+    let (untaken, status, replies) = judges.held other in
+    tells_guarded event (Err untaken) gives counted is judges.told.0 (replies octets) held_is status (nothing, refl)
+    shown
+
+pub spares_held : {was_held held : Option HostSession} {session before mid : HostSession} {result : ℕ}
+    {octets : List ℕ} {step : HostStep} {event : EventValue} → was_held ≡ Some session →
+    before ≡ session → Judges before event result mid → result ≢ 0 → held ≡ Some mid →
+    SparesArrival was_held held result step octets octets
+spares_held gives is judges differs held_is = record {
+  within = λ keeps. subst KeepsWithin (sym held_is)
+      (subst (λ (p : ParticipantValue). KeepsCapacity p.presence) (sym judges.told.1)
+      (subst KeepsWithin (held_was gives is) keeps));
+  untaken = λ other. ap told_in held_is ∙ (λ i. Some (judges.told.0 i, judges.told.1 i))
+      ∙ sym (ap told_in (held_was gives is));
+  unguarded = λ none. absurd (differs (judges.unguarded (subst IsUnguarded (held_was gives is) none)).0);
+  empty = λ none. absurd (cc (gives, none));
+}
+
+-- The participant is told of it. Without a guard the session is as it was.
+pub same_session : {was_held : Option HostSession} {session before mid : HostSession} {event : EventValue} →
+    was_held ≡ Some session → before ≡ session → Judges before event 0 mid → IsUnguarded was_held → mid ≡ session
+same_session gives is judges none = (judges.unguarded (subst IsUnguarded (held_was gives is) none)).1 ∙ is
+
+pub tells_passed : {was_held held : Option HostSession} {session before mid : HostSession} {now moment result : ℕ}
+    {was octets : List ℕ} {step : HostStep} (event : ℕ → EventValue) (reply : Result WrittenStep Refusal)
+    (later : ParticipantValue) → was_held ≡ Some session → now ≡ session.start + moment → before ≡ session →
+    Judges before (event moment) 0 mid →
+    ParticipantReplies mid.participant (event moment) was octets reply later →
+    held ≡ Some (record mid { participant = later }) → result ≡ status_of (participant_reply octets reply) →
+    HandsOut step was octets (participant_reply octets reply) →
+    ((start : ℕ) (history : History) → Leads (record mid { participant = later }) start history →
+    Shows start step history) → TellsGuarded event now was_held held result step was octets
+tells_passed {moment = moment} {was = was} {octets = octets} event reply later gives counted is judges replies held_is
+    status handed shown =
+    tells_refused event reply gives counted is judges.told.0
+    (judges.passes refl was octets reply later (subst (λ (p : ParticipantValue).
+    ParticipantReplies p (event moment) was octets reply later) judges.told.1 replies)) held_is status handed shown
+
+taken_or_kept : (octets : List ℕ) (reply : Result WrittenStep Refusal) {result : ℕ} {mid later : ParticipantValue} →
+    result ≡ status_of (participant_reply octets reply) → result ≢ 0 → OnErr reply (later ≡ mid) → later ≡ mid
+taken_or_kept octets (Ok step) status other kept = absurd (other status)
+taken_or_kept octets (Err refusal) status other kept = kept
+
+pub spares_passed : {was_held held : Option HostSession} {session before mid : HostSession} {result : ℕ}
+    {was octets : List ℕ} {step : HostStep} {event : EventValue} (reply : Result WrittenStep Refusal)
+    (later : ParticipantValue) → was_held ≡ Some session → before ≡ session → Judges before event 0 mid →
+    ParticipantReplies mid.participant event was octets reply later →
+    held ≡ Some (record mid { participant = later }) → result ≡ status_of (participant_reply octets reply) →
+    SparesArrival was_held held result step was octets
+spares_passed {was_held} {before = before} {mid = mid} {octets = octets} reply later gives is judges replies held_is
+    status = record {
+      within = λ keeps. subst KeepsWithin (sym held_is) replies.spares.within;
+      untaken = λ other.
+          let same = taken_or_kept octets reply status other replies.spares.refused ∙ judges.told.1 in
+          ap told_in held_is ∙ (λ i. Some (judges.told.0 i, same i)) ∙ sym (ap told_in (held_was gives is));
+      unguarded = λ none other.
+          let kept = (judges.unguarded (subst IsUnguarded (held_was gives is) none)).1 in
+          let same = taken_or_kept octets reply status other replies.spares.refused in
+          held_is ∙ (λ i. Some (record mid { participant = same i })) ∙ ap Some kept
+          ∙ sym (held_was gives is);
       empty = λ none. absurd (cc (gives, none));
     }
-  where
-    no_guard : guard_of before ≡ Some guard → before.guard ≡ None → ⊥
-    no_guard some none = let e : None ≡ Some guard = sym (ap (option_map box_value) none) ∙ some in cc
-
--- ---- A guard
-
-pub from_guard : (before after : HostSession) {event : EventValue} {was octets : List ℕ}
-    {reply : Result WrittenStep Untaken} (first later : GuardValue) → guard_of before ≡ Some first →
-    guard_of after ≡ Some later →
-    Replies (both before.participant first) event was octets reply (both after.participant later) →
-    RepliesGuarded before event was octets reply after
-from_guard before after {event} {was} {octets} {reply} first later has goes replies guard is =
-    let same : first ≡ guard = cc (has, is) in (
-      later,
-      goes,
-      subst (λ (g : GuardValue). Replies (both before.participant g) event was octets reply
-          (both after.participant later)) same replies,
-    )

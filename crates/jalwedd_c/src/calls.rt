@@ -11,10 +11,8 @@ ghost use Rattle.jalwedd_host.specs.Promises.{SparesArrival, SparesSession, Tell
 
 use jalwedd_host::config::{Item, Settings, blank_settings, fill_settings};
 use jalwedd_host::handle::Handle;
-use jalwedd_host::session::HostSession;
-use jalwedd_host::status::TOO_LONG;
+use jalwedd_host::status::{TAKEN, TOO_LONG};
 use jalwedd_host::step::HostStep;
-use rtcp_guarded::apart;
 use std::alloc::Global;
 
 /// The most octets of a UDP datagram.
@@ -48,20 +46,11 @@ pub extern "C" fn jalwedd_arrive_rtcp(
         Ok(opened) => opened,
         Err(status) => return status,
     };
-    let held: &mut HostSession = &mut session;
-    if let Some(guard) = &mut held.guard {
-        let reply = apart::arrive_rtcp(
-            &mut held.participant,
-            guard,
-            moment,
-            peer,
-            word,
-            datagram,
-            octets,
-        );
-        return handle.put_back_guarded(session, &reply, step);
+    let status = session.judge_rtcp(moment, peer, word, datagram);
+    if status != TAKEN {
+        return handle.put_back_untold(session, status, step);
     }
-    let reply = held
+    let reply = session
         .participant
         .arrive_rtcp_into(moment, peer, word, datagram, octets);
     handle.put_back(session, &reply, step)
@@ -100,20 +89,11 @@ pub extern "C" fn jalwedd_arrive_rtp(
         Ok(opened) => opened,
         Err(status) => return status,
     };
-    let held: &mut HostSession = &mut session;
-    if let Some(guard) = &mut held.guard {
-        let reply = apart::arrive_rtp(
-            &mut held.participant,
-            guard,
-            moment,
-            peer,
-            word,
-            datagram,
-            octets,
-        );
-        return handle.put_back_guarded(session, &reply, step);
+    let status = session.judge_rtp(moment, peer, word, datagram);
+    if status != TAKEN {
+        return handle.put_back_untold(session, status, step);
     }
-    let reply = held
+    let reply = session
         .participant
         .arrive_rtp_into(moment, peer, word, datagram, octets);
     handle.put_back(session, &reply, step)

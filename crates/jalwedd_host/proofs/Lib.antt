@@ -9,6 +9,7 @@ mod Telling
 mod Turning
 mod Turns
 mod Held
+mod Judging
 mod WholeWalks
 pub mod OwnWalks
 pub mod Walking

@@ -1,13 +1,18 @@
 -- What a call promises to a host in C whose session has a guard (RFC 3550, 8.2).
-use Rattle.std.specs.Prelude.{ℕ, ◌≡◌, ◌+◌, ◌-◌, ◌<◌, ◌^◌, List, [], Bool, true, false, Option, Some, None, Result, Ok, Err, option_map}
+use Rattle.std.specs.Prelude.{ℕ, ◌≡◌, ◌≢◌, ◌+◌, ◌-◌, ◌<◌, ◌^◌, List, [], Bool, true, false, Option, Some, None, Result, Ok, Err, IfOk, OnErr, option_map}
 use Rattle.std.specs.Box.{box_value}
-use Rattle.rtcp_guard.specs.Guarding.{GuardValue, may_have, may_trust}
+use Rattle.rtcp_guard.specs.Guarding.{GuardValue, after, check_made, may_have, may_trust}
 use Rattle.rtcp_guard.specs.declared.verdict.HeldBack.{HeldBack as Counts}
+use Rattle.rtcp_engine.specs.declared.refusal.Refusal.{Refusal}
 use Rattle.rtcp_engine.specs.declared.step.WrittenStep.{WrittenStep}
+use Rattle.rtcp_engine.specs.answers.Histories.{History, life_at, setup_at}
+use Rattle.rtcp_engine.specs.answers.Lives.{silent_in_life}
+use Rattle.rtcp_engine.specs.state.Promises.{Replies as ParticipantReplies}
+use Rattle.rtcp_engine.specs.state.States.{ParticipantValue, StandsAt}
 use Rattle.rtcp_engine.specs.answers.Acts.{Act, EventValue, IsActOfEvent}
 use Rattle.rtcp_guarded.specs.Guarded.{GuardedAct, GuardedAnswer, GuardedHistory, IsTakenInTime, expected, guard_at, guarded_answer, origin_of, passed_at, trusted, with_guarded, with_told}
 use Rattle.rtcp_guarded.specs.Promises.{Replies}
-use Rattle.rtcp_guarded.specs.Views.{both}
+use Rattle.rtcp_guarded.specs.Views.{as_refused, both}
 use Rattle.rtcp_guarded.specs.declared.untaken.Reason.{Reason}
 use Rattle.rtcp_guarded.specs.declared.untaken.Reason.TheVariants.{Stranger, Crowd}
 use Rattle.rtcp_guarded.specs.declared.untaken.Untaken.{Untaken}
@@ -57,6 +62,10 @@ abbrev pub status_of_untaken : Untaken → ℕ
 status_of_untaken (Refused refusal) = status_of_refusal refusal
 status_of_untaken (HeldBack reason) = status_of_reason reason
 
+abbrev pub status_of_judged : Option Untaken → ℕ
+status_of_judged None = 0
+status_of_judged (Some untaken) = status_of_untaken untaken
+
 abbrev pub status_of_guarded : GuardedAnswer → ℕ
 status_of_guarded (Ok step) = 0
 status_of_guarded (Err untaken) = status_of_untaken untaken
@@ -75,6 +84,31 @@ RepliesGuarded old event before after reply new =
     (guard : GuardValue) → guard_of old ≡ Some guard →
     (later : GuardValue) × (guard_of new ≡ Some later)
     × Replies (both old.participant guard) event before after reply (both new.participant later)
+
+-- A session says of a datagram by a status whether its participant is to be told of it: without a guard it always is.
+pub record Judges (old : HostSession) (event : EventValue) (status : ℕ) (new : HostSession) : Type 0 where
+  pub unguarded : old.guard ≡ None → (status ≡ 0) × (new ≡ old)
+  pub told : (new.start ≡ old.start) × (new.participant ≡ old.participant)
+  pub held : status ≢ 0 → (untaken : Untaken) × (status ≡ status_of_untaken untaken)
+      × ((octets : List ℕ) → RepliesGuarded old event octets octets (Err untaken) new)
+  pub passes : status ≡ 0 → (before after : List ℕ) (reply : Result WrittenStep Refusal)
+      (later : ParticipantValue) → ParticipantReplies old.participant event before after reply later →
+      RepliesGuarded old event before after (as_refused reply) (record new { participant = later })
+
+-- A number is the horizon of silence of a tick at a moment, where a session has a guard.
+abbrev pub GoesBy : HostSession → (moment silent : ℕ) → Type 0
+GoesBy session moment silent =
+    (guard : GuardValue) → guard_of session ≡ Some guard → (history : History) →
+    StandsAt session.participant history → silent ≡ silent_in_life (setup_at history) moment (life_at history)
+
+-- The guard of a session makes its check of a tick that was taken, and none of one that was refused.
+pub record Checks
+    (old : HostSession) (moment silent : ℕ) (reply : Result WrittenStep Refusal) (new : HostSession) : Type 0 where
+  pub told : (new.start ≡ old.start) × (new.participant ≡ old.participant)
+  pub taken : (guard : GuardValue) → guard_of old ≡ Some guard →
+      IfOk reply (λ step. guard_of new ≡ Some (after (check_made moment silent) guard))
+  pub refused : OnErr reply (new ≡ old)
+  pub unguarded : old.guard ≡ None → new ≡ old
 
 -- A session with a guard that stands at a history is told an act. The status, the step and the host's octets say what
 -- the history answers to it. Then the session stands at the history with the act, which the step shows.

@@ -1,22 +1,15 @@
 //! What a host with a guard before its participant is told, and what it says to the guard.
 
-ghost use Rattle.std.specs.Prelude.{◌≡◌, ◌≤◌, ◌+◌, ℕ, IfOk, List, None, Option, Some};
-ghost use Rattle.rtcp_engine.specs.answers.Histories.{History};
-ghost use Rattle.rtcp_engine.specs.state.Promises.{SaysStanding};
-ghost use Rattle.rtcp_engine.specs.state.Views.{LeavesRest, size_written};
+ghost use Rattle.std.specs.Prelude.{◌≡◌, ◌+◌, ℕ, None, Option, Some};
 ghost use Rattle.rtcp_guard.specs.Guarding.{may_have, may_trust};
 ghost use Rattle.rtcp_guarded.specs.Guarded.{GuardedHistory, expected, guard_at, origin_of, trusted};
-ghost use Rattle.rtcp_guarded.specs.Views.{out_written, reply_value};
-ghost use Rattle.jalwedd_host.specs.Answers.{Shows};
-ghost use Rattle.jalwedd_host.specs.Guards.{Expects, HandsOutGuarded, Instructs, LeadsGuarded, LeadsGuardedTo, ShowsHeldBack, Trusts, status_of_guarded};
-ghost use Rattle.jalwedd_host.specs.Handles.{IsUnguarded, Leads, told_in};
+ghost use Rattle.jalwedd_host.specs.Guards.{Expects, Instructs, LeadsGuarded, LeadsGuardedTo, ShowsHeldBack, Trusts};
+ghost use Rattle.jalwedd_host.specs.Handles.{IsUnguarded, told_in};
 
 use crate::handle::Handle;
 use crate::session::HostSession;
-use crate::status::{BACKWARDS, CROWD, EMPTY, TAKEN, UNGUARDED, of_untaken};
-use crate::step::HostStep;
+use crate::status::{BACKWARDS, CROWD, EMPTY, TAKEN, UNGUARDED};
 use rtcp_guard::HeldBack;
-use rtcp_guarded::GuardedReply;
 use rtcp_guarded::apart::origin;
 use std::alloc::Global;
 
@@ -103,36 +96,6 @@ impl HostSession {
 }
 
 impl Handle {
-    /// Puts back a session, tells what its guarded participant replied, and how that stands now, and returns the
-    /// status.
-    // Out of line: a host without a guard pays for none of it.
-    #[inline(never)]
-    pub fn put_back_guarded(
-        &mut self,
-        session: Box<HostSession>,
-        reply: &GuardedReply,
-        step: &mut HostStep,
-    ) -> u32
-        requires vacant { self.old.owned.held ≡ None }
-        requires written { size_written (out_written reply.now) ≤ 1472 }
-        requires standing { IfOk reply.now (λ told. SaysStanding told.standing session.value.participant) }
-        ensures held { self.new.owned.held ≡ Some session.value }
-        ensures status { (octets : List ℕ) → result ≡ status_of_guarded (reply_value octets reply.now) }
-        ensures handed { (was octets : List ℕ) → LeavesRest was octets (out_written reply.now) →
-            HandsOutGuarded step.new was octets (reply_value octets reply.now) }
-        ensures shown { (start : ℕ) (history : History) → Leads session.value start history →
-            Shows start step.new history }
-    {
-        match reply {
-            Ok(told) => {
-                *step = session.step_after(told);
-                self.put(session);
-                TAKEN
-            }
-            Err(untaken) => self.put_back_untold(session, of_untaken(untaken), step),
-        }
-    }
-
     /// Says to the guard that a source is expected from a peer, when the host's clock shows `now`. Returns the status.
     pub fn expect(&mut self, alloc: Global, now: u64, ssrc: u32, peer: u64) -> u32
         ensures expects { Expects ssrc peer now self.old.owned.held self.new.owned.held result }

@@ -140,7 +140,7 @@ impl Handle {
     // Out of line, so that no call that is taken pays for it.
     #[cold]
     #[inline(never)]
-    pub(crate) fn put_back_untold(
+    pub fn put_back_untold(
         &mut self,
         session: Box<HostSession>,
         status: u32,

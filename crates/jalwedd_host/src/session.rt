@@ -2,14 +2,15 @@
 
 ghost use Rattle.std.specs.Prelude.{◌≡◌, ◌≤◌, ◌<◌, ◌+◌, ℕ, List, Ok, OnErr, MatchOption};
 ghost use Rattle.rtcp_engine.specs.answers.Histories.{History, life_at};
-ghost use Rattle.rtcp_engine.specs.answers.Acts.{time_passed};
+ghost use Rattle.rtcp_engine.specs.answers.Acts.{rtcp_arrived, rtp_arrived, time_passed};
 ghost use Rattle.rtcp_engine.specs.state.Promises.{Replies as ParticipantReplies, SaysStanding};
 ghost use Rattle.rtcp_engine.specs.state.Views.{LeavesRest, reply_value, size_written};
 ghost use Rattle.jalwedd_host.specs.Answers.{HandsNothing, HandsOut, Shows, early_refusal};
 ghost use Rattle.rtcp_guarded.specs.Views.{as_refused};
-ghost use Rattle.jalwedd_host.specs.Guards.{RepliesGuarded};
+ghost use Rattle.jalwedd_host.specs.Guards.{Checks, GoesBy, Judges, RepliesGuarded};
 ghost use Rattle.jalwedd_host.specs.Handles.{Leads};
 
+use crate::status::{TAKEN, of_judged};
 use crate::step::HostStep;
 use rtcp_engine::{Participant, Refusal, Reply, WrittenStep};
 use rtcp_guard::Guard;
@@ -39,6 +40,44 @@ impl HostSession {
         }
     }
 
+    /// Says to the guard that an RTCP datagram came. Returns the status by which the participant is not to be told of it,
+    /// or 0 if it is to be.
+    // A status, and not what it stands for: a host without a guard has nothing to lay out then.
+    #[inline(always)]
+    pub fn judge_rtcp(&mut self, moment: u64, peer: u64, w: u32, datagram: &[u8]) -> u32
+        ensures judges { Judges self.old (rtcp_arrived moment peer w datagram.now) result self.new }
+    {
+        match &mut self.guard {
+            Some(guard) => of_judged(&apart::judge_rtcp(
+                &self.participant,
+                guard,
+                moment,
+                peer,
+                w,
+                datagram,
+            )),
+            None => TAKEN,
+        }
+    }
+
+    /// The same of an RTP datagram.
+    #[inline(always)]
+    pub fn judge_rtp(&mut self, moment: u64, peer: u64, w: u32, datagram: &[u8]) -> u32
+        ensures judges { Judges self.old (rtp_arrived moment peer w datagram.now) result self.new }
+    {
+        match &mut self.guard {
+            Some(guard) => of_judged(&apart::judge_rtp(
+                &self.participant,
+                guard,
+                moment,
+                peer,
+                w,
+                datagram,
+            )),
+            None => TAKEN,
+        }
+    }
+
     /// Asks the participant whether a report or the BYE is due, and lets its guard make a check, if there is one.
     #[inline(always)]
     pub fn tick(&mut self, moment: u64, w1: u32, w2: u32, octets: &mut [u8; 1472]) -> Reply
@@ -49,9 +88,31 @@ impl HostSession {
         ensures start { self.new.start ≡ self.old.start }
         ensures refused { OnErr result (self.new ≡ self.old) }
     {
-        match &mut self.guard {
-            Some(guard) => apart::tick(&mut self.participant, guard, moment, w1, w2, octets),
-            None => self.participant.tick_into(moment, w1, w2, octets),
+        let silent_before = self.silent_before(moment);
+        let reply = self.participant.tick_into(moment, w1, w2, octets);
+        self.check(moment, silent_before, &reply);
+        reply
+    }
+
+    /// The horizon of silence of a tick at this moment, where there is a guard that goes by it.
+    #[inline(always)]
+    fn silent_before(&self, moment: u64) -> u64
+        ensures { GoesBy self.now moment result }
+    {
+        match &self.guard {
+            Some(_) => self.participant.silent_before(moment),
+            None => 0,
+        }
+    }
+
+    /// Lets the guard make its check of a tick that was taken.
+    #[inline(always)]
+    fn check(&mut self, moment: u64, silent_before: u64, reply: &Reply)
+        ensures { Checks self.old moment silent_before reply.now self.new }
+    {
+        match (&mut self.guard, reply) {
+            (Some(guard), Ok(_)) => guard.check(moment, silent_before),
+            _ => (),
         }
     }
 

@@ -3,7 +3,7 @@
 ghost use Rattle.std.specs.Prelude.{◌≡◌};
 ghost use Rattle.jalwedd_host.specs.Answers.{status_of_refusal};
 ghost use Rattle.jalwedd_host.specs.Configs.{status_of_error};
-ghost use Rattle.jalwedd_host.specs.Guards.{status_of_untaken};
+ghost use Rattle.jalwedd_host.specs.Guards.{status_of_judged, status_of_untaken};
 
 use rtcp_engine::{ConfigError, Refusal};
 use rtcp_guarded::{Reason, Untaken};
@@ -82,6 +82,16 @@ pub(crate) fn of_untaken(untaken: &Untaken) -> u32
         Untaken::Refused(refusal) => of_refusal(refusal),
         Untaken::HeldBack(Reason::Stranger) => STRANGER,
         Untaken::HeldBack(Reason::Crowd) => CROWD,
+    }
+}
+
+/// The status of a datagram that was judged: 0 where nothing keeps it from the participant.
+pub(crate) fn of_judged(judged: &Option<Untaken>) -> u32
+    ensures { result ≡ status_of_judged judged.now }
+{
+    match judged {
+        None => TAKEN,
+        Some(untaken) => of_untaken(untaken),
     }
 }
 

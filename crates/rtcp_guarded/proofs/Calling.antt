@@ -255,7 +255,7 @@ unseen_reply {old} {new} event {before} {after} act reply unseen only its same r
 -- ---- A tick
 
 -- The guard makes its check where the tick is taken.
-abbrev GuardTicks : (old new : GuardedValue) (now silent : ℕ) → Result WrittenStep Refusal → Type 0
+abbrev pub GuardTicks : (old new : GuardedValue) (now silent : ℕ) → Result WrittenStep Refusal → Type 0
 GuardTicks old new now silent (Ok step) = new.guard ≡ after (check_made now silent) old.guard
 GuardTicks old new now silent (Err refusal) = new.guard ≡ old.guard
 

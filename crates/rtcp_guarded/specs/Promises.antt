@@ -1,12 +1,14 @@
 -- What a call of a guarded participant promises.
-use Rattle.std.specs.Prelude.{◌≡◌, ℕ, List, Result, IfOk, OnErr}
+use Rattle.std.specs.Prelude.{◌≡◌, ℕ, List, Result, Err, IfOk, OnErr}
 use Rattle.rtcp_engine.specs.declared.step.WrittenStep.{WrittenStep}
 use Rattle.rtcp_engine.specs.answers.Acts.{Act, EventValue, IsActOfEvent}
-use Rattle.rtcp_engine.specs.state.Promises.{SaysStanding}
-use Rattle.rtcp_engine.specs.state.States.{KeepsCapacity}
+use Rattle.rtcp_engine.specs.declared.refusal.Refusal.{Refusal}
+use Rattle.rtcp_engine.specs.state.Promises.{Replies as ParticipantReplies, SaysStanding}
+use Rattle.rtcp_engine.specs.state.States.{KeepsCapacity, ParticipantValue}
+use Rattle.rtcp_guard.specs.Guarding.{GuardValue}
 use Rattle.rtcp_engine.specs.state.Views.{LeavesRest}
 use Rattle.rtcp_guarded.specs.Guarded.{GuardedHistory, GuardedAnswer, IsTakenInTime, guarded_answer, with_told}
-use Rattle.rtcp_guarded.specs.Views.{GuardedValue, StandsAt, out_written, reply_value}
+use Rattle.rtcp_guarded.specs.Views.{GuardedValue, StandsAt, as_refused, both, out_written, reply_value}
 use Rattle.rtcp_guarded.specs.declared.untaken.Untaken.{Untaken}
 
 -- A guarded participant is told an act. It answers as its history says, and stands at the history with this act. A tick
@@ -27,3 +29,15 @@ pub record Replies
   pub within : KeepsCapacity old.participant.presence → KeepsCapacity new.participant.presence
   pub standing : IfOk reply (λ step. SaysStanding step.standing new.participant)
   pub leaves : LeavesRest before after (out_written reply)
+
+-- A guard is told of a datagram before its participant, which is not to take it.
+abbrev pub HoldsBack : ParticipantValue → (old : GuardValue) → EventValue → Untaken → (new : GuardValue) → Type 0
+HoldsBack participant old event untaken new =
+    (octets : List ℕ) → Replies (both participant old) event octets octets (Err untaken) (both participant new)
+
+-- A guard is told of a datagram before its participant, which is to take it: whatever that replies is the reply of both.
+abbrev pub PassesOn : ParticipantValue → (old : GuardValue) → EventValue → (new : GuardValue) → Type 0
+PassesOn participant old event new =
+    (before after : List ℕ) (reply : Result WrittenStep Refusal) (later : ParticipantValue) →
+    ParticipantReplies participant event before after reply later →
+    Replies (both participant old) event before after (as_refused reply) (both later new)

@@ -1,108 +1,67 @@
-//! The calls that a guard takes part in, for a host that keeps it apart from the participant: one whose guard is
-//! optional. The participant takes the other calls itself.
+//! What a guard says of a datagram before its participant takes it, for a host that keeps the two apart: one whose guard
+//! is optional. A tick that is taken makes a check of the guard, and the other calls are the participant's alone.
 
-ghost use Rattle.std.specs.Prelude.{◌≡◌, OnErr};
-ghost use Rattle.rtcp_engine.specs.answers.Acts.{rtcp_arrived, rtp_arrived, time_passed};
-ghost use Rattle.rtcp_engine.specs.state.Promises.{Replies as ParticipantReplies};
+ghost use Rattle.std.specs.Prelude.{◌≡◌, None, IfSome, List, Err, Result};
+ghost use Rattle.rtcp_engine.specs.answers.Acts.{rtcp_arrived, rtp_arrived};
 ghost use Rattle.rtcp_guarded.specs.Guarded.{origin_of, reason_for};
-ghost use Rattle.rtcp_guarded.specs.Promises.{Replies};
-ghost use Rattle.rtcp_guarded.specs.Views.{as_refused, both};
+ghost use Rattle.rtcp_guarded.specs.Promises.{HoldsBack, PassesOn};
 
-use crate::untaken::{GuardedReply, Reason, Untaken};
-use rtcp_engine::{Participant, Reply};
+use crate::untaken::{Reason, Untaken};
+use rtcp_engine::Participant;
 use rtcp_guard::{Guard, Verdict};
 use rtcp_members::MemberTable;
-use rtcp_wire::MAX_COMPOUND;
 
-/// An RTCP datagram came:
-/// [`GuardedParticipant::arrive_rtcp_into`](crate::GuardedParticipant::arrive_rtcp_into).
-///
-/// # Errors
-///
-/// As there.
+/// An RTCP datagram came, of which the participant is not told yet. Returns why it is not to be: it would refuse the
+/// datagram, or the guard holds this back.
 // Out of line, as the next one is: a host without a guard pays for none of it.
 #[inline(never)]
-pub fn arrive_rtcp<T: MemberTable>(
-    participant: &mut Participant<T>,
+pub fn judge_rtcp<T: MemberTable>(
+    participant: &Participant<T>,
     guard: &mut Guard,
     now: u64,
     peer: u64,
     w: u32,
     bytes: &[u8],
-    octets: &mut [u8; MAX_COMPOUND],
-) -> GuardedReply
-    ensures { Replies (both participant.old guard.old) (rtcp_arrived now peer w bytes.now) octets.old octets.new result
-        (both participant.new guard.new) }
+) -> Option<Untaken>
+    ensures held { IfSome result (λ untaken.
+        HoldsBack participant.now guard.old (rtcp_arrived now peer w bytes.now) untaken guard.new) }
+    ensures passes { result ≡ None →
+        PassesOn participant.now guard.old (rtcp_arrived now peer w bytes.now) guard.new }
 {
     let inspected = match participant.inspect_rtcp(now, peer, w, bytes) {
         Ok(inspected) => inspected,
-        Err(refusal) => return Err(Untaken::Refused(refusal)),
+        Err(refusal) => return Some(Untaken::Refused(refusal)),
     };
     let verdict = guard.arrive_rtcp(&inspected.compound, origin(peer), now, inspected.ssrc);
-    if let Some(reason) = reason_of(verdict) {
-        return Err(Untaken::HeldBack(reason));
+    match reason_of(verdict) {
+        Some(reason) => Some(Untaken::HeldBack(reason)),
+        None => None,
     }
-    // Read again by the participant, which takes octets.
-    as_untaken(participant.arrive_rtcp_into(now, peer, w, bytes, octets))
 }
 
-/// An RTP datagram came: [`GuardedParticipant::arrive_rtp_into`](crate::GuardedParticipant::arrive_rtp_into).
-///
-/// # Errors
-///
-/// As there.
+/// An RTP datagram came: as [`judge_rtcp`].
 #[inline(never)]
-pub fn arrive_rtp<T: MemberTable>(
-    participant: &mut Participant<T>,
+pub fn judge_rtp<T: MemberTable>(
+    participant: &Participant<T>,
     guard: &mut Guard,
     now: u64,
     peer: u64,
     w: u32,
     bytes: &[u8],
-    octets: &mut [u8; MAX_COMPOUND],
-) -> GuardedReply
-    ensures { Replies (both participant.old guard.old) (rtp_arrived now peer w bytes.now) octets.old octets.new result
-        (both participant.new guard.new) }
+) -> Option<Untaken>
+    ensures held { IfSome result (λ untaken.
+        HoldsBack participant.now guard.old (rtp_arrived now peer w bytes.now) untaken guard.new) }
+    ensures passes { result ≡ None →
+        PassesOn participant.now guard.old (rtp_arrived now peer w bytes.now) guard.new }
 {
     let inspected = match participant.inspect_rtp(now, peer, w, bytes) {
         Ok(inspected) => inspected,
-        Err(refusal) => return Err(Untaken::Refused(refusal)),
+        Err(refusal) => return Some(Untaken::Refused(refusal)),
     };
     let verdict = guard.arrive_rtp(&inspected.head, origin(peer), now, inspected.ssrc);
-    if let Some(reason) = reason_of(verdict) {
-        return Err(Untaken::HeldBack(reason));
-    }
-    // Read again by the participant, which takes octets.
-    as_untaken(participant.arrive_rtp_into(now, peer, w, bytes, octets))
-}
-
-/// Asks whether a report or the BYE is due: [`GuardedParticipant::tick_into`](crate::GuardedParticipant::tick_into).
-///
-/// # Errors
-///
-/// As there.
-#[inline(never)]
-pub fn tick<T: MemberTable>(
-    participant: &mut Participant<T>,
-    guard: &mut Guard,
-    now: u64,
-    w1: u32,
-    w2: u32,
-    octets: &mut [u8; MAX_COMPOUND],
-) -> Reply
-    ensures guarded { Replies (both participant.old guard.old) (time_passed now w1 w2) octets.old octets.new
-        (as_refused result) (both participant.new guard.new) }
-    ensures participant { ParticipantReplies participant.old (time_passed now w1 w2) octets.old octets.new result
-        participant.new }
-    ensures refused { OnErr result (guard.new ≡ guard.old) }
-{
-    let silent_before = participant.silent_before(now);
-    match participant.tick_into(now, w1, w2, octets) {
-        Ok(step) => {
-            guard.check(now, silent_before);
-            Ok(step)
-        }
-        Err(refusal) => Err(refusal),
+    match reason_of(verdict) {
+        Some(reason) => Some(Untaken::HeldBack(reason)),
+        None => None,
     }
 }
 
@@ -123,16 +82,5 @@ fn reason_of(verdict: Verdict) -> Option<Reason>
         Verdict::Pass => None,
         Verdict::Stranger => Some(Reason::Stranger),
         Verdict::Crowd => Some(Reason::Crowd),
-    }
-}
-
-/// The reply of a participant.
-#[inline(always)]
-fn as_untaken(reply: Reply) -> GuardedReply
-    ensures { result ≡ as_refused reply }
-{
-    match reply {
-        Ok(step) => Ok(step),
-        Err(refusal) => Err(Untaken::Refused(refusal)),
     }
 }

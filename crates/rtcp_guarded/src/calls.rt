@@ -1,6 +1,7 @@
 //! The calls of a guarded participant, one for each event, as those of a participant: each writes its compound, if it
 //! has one, to the start of the caller's octets.
 
+ghost use Rattle.std.specs.Prelude.{◌≡◌};
 ghost use Rattle.rtcp_engine.specs.answers.Acts.{forget_asked, leave_asked, packet_sent, rtcp_arrived, rtp_arrived, settings_given, time_passed};
 ghost use Rattle.rtcp_engine.specs.state.Views.{settings_value};
 ghost use Rattle.rtcp_guarded.specs.Promises.{Replies};
@@ -8,7 +9,7 @@ ghost use Rattle.rtcp_guarded.specs.Views.{as_refused};
 
 use crate::apart;
 use crate::guarded::GuardedParticipant;
-use crate::untaken::GuardedReply;
+use crate::untaken::{GuardedReply, Untaken};
 use rtcp_engine::{Reply, Settings};
 use rtcp_members::MemberTable;
 use rtcp_wire::MAX_COMPOUND;
@@ -31,14 +32,19 @@ impl<T: MemberTable> GuardedParticipant<T> {
     ) -> GuardedReply
         ensures { Replies self.old (rtcp_arrived now peer w bytes.now) octets.old octets.new result self.new }
     {
-        apart::arrive_rtcp(
-            &mut self.participant,
+        if let Some(untaken) = apart::judge_rtcp(
+            &self.participant,
             &mut self.guard,
             now,
             peer,
             w,
             bytes,
-            octets,
+        ) {
+            return Err(untaken);
+        }
+        as_untaken(
+            self.participant
+                .arrive_rtcp_into(now, peer, w, bytes, octets),
         )
     }
 
@@ -59,14 +65,19 @@ impl<T: MemberTable> GuardedParticipant<T> {
     ) -> GuardedReply
         ensures { Replies self.old (rtp_arrived now peer w bytes.now) octets.old octets.new result self.new }
     {
-        apart::arrive_rtp(
-            &mut self.participant,
+        if let Some(untaken) = apart::judge_rtp(
+            &self.participant,
             &mut self.guard,
             now,
             peer,
             w,
             bytes,
-            octets,
+        ) {
+            return Err(untaken);
+        }
+        as_untaken(
+            self.participant
+                .arrive_rtp_into(now, peer, w, bytes, octets),
         )
     }
 
@@ -103,7 +114,14 @@ impl<T: MemberTable> GuardedParticipant<T> {
     ) -> Reply
         ensures { Replies self.old (time_passed now w1 w2) octets.old octets.new (as_refused result) self.new }
     {
-        apart::tick(&mut self.participant, &mut self.guard, now, w1, w2, octets)
+        let silent_before = self.participant.silent_before(now);
+        match self.participant.tick_into(now, w1, w2, octets) {
+            Ok(step) => {
+                self.guard.check(now, silent_before);
+                Ok(step)
+            }
+            Err(refusal) => Err(refusal),
+        }
     }
 
     /// Leaves the session: [`Participant::leave_into`](rtcp_engine::Participant::leave_into).
@@ -144,5 +162,16 @@ impl<T: MemberTable> GuardedParticipant<T> {
         ensures { Replies self.old (forget_asked now ssrc) octets.old octets.new (as_refused result) self.new }
     {
         self.participant.forget_into(now, ssrc, octets)
+    }
+}
+
+/// The reply of a participant.
+#[inline(always)]
+fn as_untaken(reply: Reply) -> GuardedReply
+    ensures { result ≡ as_refused reply }
+{
+    match reply {
+        Ok(step) => Ok(step),
+        Err(refusal) => Err(Untaken::Refused(refusal)),
     }
 }

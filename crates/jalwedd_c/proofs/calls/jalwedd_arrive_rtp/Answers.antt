@@ -1,54 +1,66 @@
 -- The moment is counted from the start of the session that is held.
-use Rattle.std.proofs.Common.{◌∙◌, Some, refl, sym, ap, option_map}
-use Rattle.std.specs.Box.{box_value, with_value}
+use Rattle.std.proofs.Common.{◌≡◌, ℕ, refl, subst, sym}
 use Rattle.rtcp_engine.specs.answers.Acts.{rtp_arrived}
+use Rattle.jalwedd_host.specs.Guards.{Judges}
 use Rattle.jalwedd_host.specs.declared.session.HostSession.{HostSession}
-use Rattle.jalwedd_c.proofs.Guarding.{from_guard, guarded_spares, spares_arrival, tells_guarded}
+use Rattle.jalwedd_c.proofs.Guarding.{same_session, spares_arrival, spares_held, spares_passed, tells_held, tells_passed}
 use Rattle.jalwedd_c.proofs.Serving.{tells}
 use Rattle.jalwedd_c.proofs.calls.jalwedd_arrive_rtp.Goals as goal
 
+judges : (c : goal.After-put_back) →
+    Judges c.deref_mut.result.now (rtp_arrived c.in-Ok.opened.1 c.args.peer c.args.word c.args.datagram.now) 0
+    c.deref_mut-2.result.now
+judges c =
+    let event = rtp_arrived c.in-Ok.opened.1 c.args.peer c.args.word c.args.datagram.now in
+    let after = subst (λ (mid : HostSession). Judges c.deref_mut.result.now event c.judge_rtp-status.result mid)
+    (sym c.deref_mut-2.ensures.value) c.judge_rtp-status.ensures.judges in
+    subst (λ (status : ℕ). Judges c.deref_mut.result.now event status c.deref_mut-2.result.now)
+    c.if-status-ne-TAKEN.false after
+
 pub returns-clause-tells : goal.returns-clause-tells
 returns-clause-tells c fits unguarded =
-    let (gives, left, counted) = c.in-Ok.ensures in
+    let (gives, out, counted) = c.in-Ok.ensures in
     let put = c.put_back.ensures in
     let reply = c.arrive_rtp_into-reply.ensures in
     tells (λ m. rtp_arrived m c.args.peer c.args.word c.args.datagram.now) _ gives counted
-    c.deref_mut-held.ensures.value refl reply put.held (put.status _)
+    (same_session gives c.deref_mut.ensures.value (judges c) unguarded) refl reply put.held (put.status _)
     (put.handed _ _ reply.writes.leaves) put.shown
 
-pub returns-in-Some-clause-guarded : goal.returns-in-Some-clause-guarded
-returns-in-Some-clause-guarded c fits =
-    let (gives, left, counted) = c.in-Ok.ensures in
-    let put = c.put_back_guarded.ensures in
-    let before = c.deref_mut-held.result.now in
-    let after : HostSession = record {
-      start = before.start;
-      participant = c.arrive_rtp-reply.new.participant;
-      guard = Some (with_value c.in-Some.guard c.arrive_rtp-reply.new.guard);
-    } in
-    let reply = c.arrive_rtp-reply.ensures in
-    tells_guarded {before = before} {after = after} (λ m. rtp_arrived m c.args.peer c.args.word c.args.datagram.now) c.arrive_rtp-reply.result gives
-    counted c.deref_mut-held.ensures.value refl
-    (from_guard before after c.deref_mut.result.now c.arrive_rtp-reply.new.guard
-    (ap (option_map box_value) c.in-Some.is ∙ ap Some (sym c.deref_mut.ensures.value)) refl reply)
-    put.held (put.status _) (put.handed _ _ reply.leaves) put.shown
+pub returns-clause-guarded : goal.returns-clause-guarded
+returns-clause-guarded c fits =
+    let (gives, out, counted) = c.in-Ok.ensures in
+    let put = c.put_back.ensures in
+    let reply = c.arrive_rtp_into-reply.ensures in
+    tells_passed {mid = c.deref_mut-2.result.now} (λ m. rtp_arrived m c.args.peer c.args.word c.args.datagram.now)
+    c.arrive_rtp_into-reply.result c.arrive_rtp_into-reply.new.self gives counted c.deref_mut.ensures.value (judges c)
+    reply put.held (put.status _) (put.handed _ _ reply.writes.leaves) put.shown
 
-pub returns-in-Some-clause-spares : goal.returns-in-Some-clause-spares
-returns-in-Some-clause-spares c =
-    let (gives, left, counted) = c.in-Ok.ensures in
-    let put = c.put_back_guarded.ensures in
-    let before = c.deref_mut-held.result.now in
-    let after : HostSession = record {
-      start = before.start;
-      participant = c.arrive_rtp-reply.new.participant;
-      guard = Some (with_value c.in-Some.guard c.arrive_rtp-reply.new.guard);
-    } in
-    let reply = c.arrive_rtp-reply.ensures in
-    guarded_spares {before = before} {after = after} _ c.arrive_rtp-reply.result (box_value c.in-Some.guard) gives c.deref_mut-held.ensures.value refl
-    (ap (option_map box_value) c.in-Some.is)
-    (from_guard before after c.deref_mut.result.now c.arrive_rtp-reply.new.guard
-    (ap (option_map box_value) c.in-Some.is ∙ ap Some (sym c.deref_mut.ensures.value)) refl reply)
-    put.held (put.status _)
+pub returns-clause-spares : goal.returns-clause-spares
+returns-clause-spares c =
+    let (gives, out, counted) = c.in-Ok.ensures in
+    let put = c.put_back.ensures in
+    spares_passed {mid = c.deref_mut-2.result.now} c.arrive_rtp_into-reply.result c.arrive_rtp_into-reply.new.self
+    gives c.deref_mut.ensures.value (judges c) c.arrive_rtp_into-reply.ensures put.held (put.status _)
+
+pub returns-then-status-ne-TAKEN-clause-guarded : goal.returns-then-status-ne-TAKEN-clause-guarded
+returns-then-status-ne-TAKEN-clause-guarded c fits =
+    let (gives, out, counted) = c.in-Ok.ensures in
+    let put = c.put_back_untold.ensures in
+    let event = λ (m : ℕ). rtp_arrived m c.args.peer c.args.word c.args.datagram.now in
+    tells_held event gives counted c.deref_mut.ensures.value
+    (subst (λ (status : ℕ). Judges c.deref_mut.result.now (event c.in-Ok.opened.1) status c.judge_rtp-status.new.self)
+    (sym put.status) c.judge_rtp-status.ensures.judges)
+    (subst (λ (status : ℕ). status ≡ 0 → ⊥) (sym put.status) c.if-status-ne-TAKEN.true) put.held put.nothing put.shown
+
+pub returns-then-status-ne-TAKEN-clause-spares : goal.returns-then-status-ne-TAKEN-clause-spares
+returns-then-status-ne-TAKEN-clause-spares c =
+    let (gives, out, counted) = c.in-Ok.ensures in
+    let put = c.put_back_untold.ensures in
+    let event = rtp_arrived c.in-Ok.opened.1 c.args.peer c.args.word c.args.datagram.now in
+    spares_held gives c.deref_mut.ensures.value
+    (subst (λ (status : ℕ). Judges c.deref_mut.result.now event status c.judge_rtp-status.new.self)
+    (sym put.status) c.judge_rtp-status.ensures.judges)
+    (subst (λ (status : ℕ). status ≡ 0 → ⊥) (sym put.status) c.if-status-ne-TAKEN.true) put.held
 
 pub returns-in-Err-clause-spares : goal.returns-in-Err-clause-spares
 returns-in-Err-clause-spares c = spares_arrival (c.in-Err.ensures.spares _)

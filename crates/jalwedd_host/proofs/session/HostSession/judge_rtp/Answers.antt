@@ -1,0 +1,19 @@
+use Rattle.std.proofs.Common.{◌∙◌, ℕ, Some, ap, option_map, subst, sym}
+use Rattle.std.specs.Box.{box_value, with_value}
+use Rattle.rtcp_engine.specs.answers.Acts.{rtp_arrived}
+use Rattle.jalwedd_host.specs.Guards.{Judges}
+use Rattle.jalwedd_host.specs.declared.session.HostSession.{HostSession}
+use Rattle.jalwedd_host.proofs.Judging.{judged}
+use Rattle.jalwedd_host.proofs.session.HostSession.judge_rtp.Goals as goal
+
+pub returns-in-Some : goal.returns-in-Some
+returns-in-Some c = record {
+  judges =
+      let event = rtp_arrived c.args.moment c.args.peer c.args.w c.args.datagram.now in
+      let later = with_value c.in-Some.guard c.judge_rtp.new.guard in
+      let new : HostSession = record c.args.self.now { guard = Some later } in
+      subst (λ (status : ℕ). Judges c.args.self.now event status new) (sym c.of_judged.ensures)
+      (judged c.args.self.now event c.judge_rtp.result c.deref_mut.result.now later
+      (ap (option_map box_value) c.in-Some.is ∙ ap Some (sym c.deref_mut.ensures.value)) c.judge_rtp.ensures.held
+      c.judge_rtp.ensures.passes);
+}
