@@ -12,7 +12,7 @@ ghost use Rattle.jalwedd_host.specs.Promises.{SparesArrival, SparesSession, Tell
 use jalwedd_host::config::{Item, Settings, blank_settings, fill_settings};
 use jalwedd_host::handle::Handle;
 use jalwedd_host::status::{TAKEN, TOO_LONG};
-use jalwedd_host::step::HostStep;
+use jalwedd_host::step::{Handing, HostStep};
 use std::alloc::Global;
 
 /// The most octets of a UDP datagram.
@@ -53,7 +53,7 @@ pub extern "C" fn jalwedd_arrive_rtcp(
     let reply = session
         .participant
         .arrive_rtcp_into(moment, peer, word, datagram, octets);
-    handle.put_back(session, &reply, step)
+    handle.put_back(session, &reply, Handing::Seldom, step)
 }
 
 /// An RTP datagram came, with the octets that UDP carried: as `jalwedd_arrive_rtcp`. Of one of more than 65,535 octets
@@ -96,7 +96,7 @@ pub extern "C" fn jalwedd_arrive_rtp(
     let reply = session
         .participant
         .arrive_rtp_into(moment, peer, word, datagram, octets);
-    handle.put_back(session, &reply, step)
+    handle.put_back(session, &reply, Handing::Seldom, step)
 }
 
 /// The host sent an RTP packet when its clock showed `now`, in microseconds, with this RTP timestamp and so many octets
@@ -128,7 +128,7 @@ pub extern "C" fn jalwedd_sent_rtp(
     let reply = session
         .participant
         .sent_rtp_into(moment, timestamp, size, octets);
-    handle.put_back(session, &reply, step)
+    handle.put_back(session, &reply, Handing::Seldom, step)
 }
 
 /// Asks, when the host's clock shows `now`, in microseconds, whether a report is due, or the BYE of a participant that
@@ -158,7 +158,7 @@ pub extern "C" fn jalwedd_tick(
         Err(status) => return status,
     };
     let reply = session.tick(moment, first_word, second_word, octets);
-    handle.put_back(session, &reply, step)
+    handle.put_back(session, &reply, Handing::Often, step)
 }
 
 /// Changes the settings of the session when the host's clock shows `now`, in microseconds, to these and these items
@@ -198,7 +198,7 @@ pub extern "C" fn jalwedd_configure(
         Err(status) => return status,
     };
     let reply = session.participant.configure_into(moment, &given, octets);
-    handle.put_back(session, &reply, step)
+    handle.put_back(session, &reply, Handing::Seldom, step)
 }
 
 /// Tells, when the host's clock shows `now`, in microseconds, that another source is gone, as the host knows by other
@@ -229,7 +229,7 @@ pub extern "C" fn jalwedd_forget(
         Err(status) => return status,
     };
     let reply = session.participant.forget_into(moment, ssrc, octets);
-    handle.put_back(session, &reply, step)
+    handle.put_back(session, &reply, Handing::Seldom, step)
 }
 
 /// Leaves the session when the host's clock shows `now`, in microseconds, with a random word for the draw of a backoff
@@ -257,5 +257,5 @@ pub extern "C" fn jalwedd_leave(
         Err(status) => return status,
     };
     let reply = session.participant.leave_into(moment, word, octets);
-    handle.put_back(session, &reply, step)
+    handle.put_back(session, &reply, Handing::Often, step)
 }

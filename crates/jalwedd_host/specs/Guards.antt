@@ -1,5 +1,5 @@
 -- What a call promises to a host in C whose session has a guard (RFC 3550, 8.2).
-use Rattle.std.specs.Prelude.{ℕ, ◌≡◌, ◌≢◌, ◌+◌, ◌-◌, ◌<◌, ◌^◌, List, [], Bool, true, false, Option, Some, None, Result, Ok, Err, IfOk, OnErr, option_map}
+use Rattle.std.specs.Prelude.{ℕ, ◌≡◌, ◌≢◌, ◌+◌, ◌-◌, ◌<◌, ◌^◌, List, [], Bool, true, false, Option, Some, None, IfSome, Result, Ok, Err, IfOk, OnErr, option_map}
 use Rattle.std.specs.Box.{box_value}
 use Rattle.rtcp_guard.specs.Guarding.{GuardValue, after, check_made, may_have, may_trust}
 use Rattle.rtcp_guard.specs.declared.verdict.HeldBack.{HeldBack as Counts}
@@ -11,7 +11,7 @@ use Rattle.rtcp_engine.specs.state.Promises.{Replies as ParticipantReplies}
 use Rattle.rtcp_engine.specs.state.States.{ParticipantValue, StandsAt}
 use Rattle.rtcp_engine.specs.answers.Acts.{Act, EventValue, IsActOfEvent}
 use Rattle.rtcp_guarded.specs.Guarded.{GuardedAct, GuardedAnswer, GuardedHistory, IsTakenInTime, expected, guard_at, guarded_answer, origin_of, passed_at, trusted, with_guarded, with_told}
-use Rattle.rtcp_guarded.specs.Promises.{Replies}
+use Rattle.rtcp_guarded.specs.Promises.{HoldsBack, PassesOn, Replies}
 use Rattle.rtcp_guarded.specs.Views.{as_refused, both}
 use Rattle.rtcp_guarded.specs.declared.untaken.Reason.{Reason}
 use Rattle.rtcp_guarded.specs.declared.untaken.Reason.TheVariants.{Stranger, Crowd}
@@ -84,6 +84,15 @@ RepliesGuarded old event before after reply new =
     (guard : GuardValue) → guard_of old ≡ Some guard →
     (later : GuardValue) × (guard_of new ≡ Some later)
     × Replies (both old.participant guard) event before after reply (both new.participant later)
+
+-- A guard before a participant says of a datagram by a status whether the participant is to be told of it.
+pub record IsJudged
+    (participant : ParticipantValue) (old : GuardValue) (event : EventValue) (status : ℕ) (new : GuardValue)
+    : Type 0 where
+  pub untaken : Option Untaken
+  pub told : status ≡ status_of_judged untaken
+  pub held : IfSome untaken (λ reason. HoldsBack participant old event reason new)
+  pub passes : untaken ≡ None → PassesOn participant old event new
 
 -- A session says of a datagram by a status whether its participant is to be told of it: without a guard it always is.
 pub record Judges (old : HostSession) (event : EventValue) (status : ℕ) (new : HostSession) : Type 0 where

@@ -17,7 +17,7 @@ use crate::owned::loose::Loose;
 use crate::session::HostSession;
 use crate::source::{HostSource, before};
 use crate::status::{EMPTY, OWN_SSRC, TAKEN, of_refusal};
-use crate::step::HostStep;
+use crate::step::{Handing, HostStep};
 use rtcp_engine::laws::listed_moments_have_passed;
 use rtcp_engine::{Refusal, Reply};
 use std::alloc::Global;
@@ -110,7 +110,13 @@ impl Handle {
     // Inlined, so that a call writes what it tells at once. A peer may come with the own SSRC again and again, so that
     // is told in line too, and the path of a call that is taken has nothing of rare refusals to jump over.
     #[inline(always)]
-    pub fn put_back(&mut self, session: Box<HostSession>, reply: &Reply, step: &mut HostStep) -> u32
+    pub fn put_back(
+        &mut self,
+        session: Box<HostSession>,
+        reply: &Reply,
+        handing: Handing,
+        step: &mut HostStep,
+    ) -> u32
         requires vacant { self.old.owned.held ≡ None }
         requires written { size_written (out_written reply.now) ≤ 1472 }
         requires standing { IfOk reply.now (λ told. SaysStanding told.standing session.value.participant) }
@@ -123,7 +129,7 @@ impl Handle {
     {
         match reply {
             Ok(told) => {
-                *step = session.step_after(told);
+                *step = session.step_after(told, handing);
                 self.put(session);
                 TAKEN
             }

@@ -1,17 +1,20 @@
 //! The participant that a handle holds, and what is told of it.
 
 ghost use Rattle.std.specs.Prelude.{◌≡◌, ◌≤◌, ◌<◌, ◌+◌, ℕ, List, Ok, OnErr, MatchOption};
-ghost use Rattle.rtcp_engine.specs.answers.Histories.{History, life_at};
+ghost use Rattle.rtcp_engine.specs.answers.Histories.{History, life_at, setup_at};
+ghost use Rattle.rtcp_engine.specs.answers.Lives.{silent_in_life};
+ghost use Rattle.rtcp_engine.specs.state.States.{StandsAt};
+ghost use Rattle.rtcp_guard.specs.Guarding.{after, check_made};
 ghost use Rattle.rtcp_engine.specs.answers.Acts.{rtcp_arrived, rtp_arrived, time_passed};
 ghost use Rattle.rtcp_engine.specs.state.Promises.{Replies as ParticipantReplies, SaysStanding};
 ghost use Rattle.rtcp_engine.specs.state.Views.{LeavesRest, reply_value, size_written};
 ghost use Rattle.jalwedd_host.specs.Answers.{HandsNothing, HandsOut, Shows, early_refusal};
 ghost use Rattle.rtcp_guarded.specs.Views.{as_refused};
-ghost use Rattle.jalwedd_host.specs.Guards.{Checks, GoesBy, Judges, RepliesGuarded};
+ghost use Rattle.jalwedd_host.specs.Guards.{Checks, GoesBy, IsJudged, Judges, RepliesGuarded};
 ghost use Rattle.jalwedd_host.specs.Handles.{Leads};
 
 use crate::status::{TAKEN, of_judged};
-use crate::step::HostStep;
+use crate::step::{Handing, HostStep};
 use rtcp_engine::{Participant, Refusal, Reply, WrittenStep};
 use rtcp_guard::Guard;
 use rtcp_guarded::apart;
@@ -48,14 +51,7 @@ impl HostSession {
         ensures judges { Judges self.old (rtcp_arrived moment peer w datagram.now) result self.new }
     {
         match &mut self.guard {
-            Some(guard) => of_judged(&apart::judge_rtcp(
-                &self.participant,
-                guard,
-                moment,
-                peer,
-                w,
-                datagram,
-            )),
+            Some(guard) => judged_rtcp(&self.participant, guard, moment, peer, w, datagram),
             None => TAKEN,
         }
     }
@@ -66,14 +62,7 @@ impl HostSession {
         ensures judges { Judges self.old (rtp_arrived moment peer w datagram.now) result self.new }
     {
         match &mut self.guard {
-            Some(guard) => of_judged(&apart::judge_rtp(
-                &self.participant,
-                guard,
-                moment,
-                peer,
-                w,
-                datagram,
-            )),
+            Some(guard) => judged_rtp(&self.participant, guard, moment, peer, w, datagram),
             None => TAKEN,
         }
     }
@@ -100,7 +89,7 @@ impl HostSession {
         ensures { GoesBy self.now moment result }
     {
         match &self.guard {
-            Some(_) => self.participant.silent_before(moment),
+            Some(_) => horizon(&self.participant, moment),
             None => 0,
         }
     }
@@ -111,7 +100,7 @@ impl HostSession {
         ensures { Checks self.old moment silent_before reply.now self.new }
     {
         match (&mut self.guard, reply) {
-            (Some(guard), Ok(_)) => guard.check(moment, silent_before),
+            (Some(guard), Ok(_)) => make_check(guard, moment, silent_before),
             _ => (),
         }
     }
@@ -127,7 +116,7 @@ impl HostSession {
 
     /// What there is to tell of a call that was taken, and left the participant so.
     #[inline(always)]
-    pub(crate) fn step_after(&self, told: &WrittenStep) -> HostStep
+    pub(crate) fn step_after(&self, told: &WrittenStep, handing: Handing) -> HostStep
         requires written { size_written told.now.out ≤ 1472 }
         requires standing { SaysStanding told.now.standing self.now.participant }
         ensures shown { (start : ℕ) (history : History) → Leads self.now start history →
@@ -135,6 +124,59 @@ impl HostSession {
         ensures handed { (was octets : List ℕ) → LeavesRest was octets told.now.out →
             HandsOut result was octets (reply_value octets (Ok told.now)) }
     {
-        HostStep::written(self.start, told)
+        HostStep::written(self.start, told, handing)
     }
+}
+
+// What a guard does is out of line, so that a host without one pays for a test alone.
+
+/// The status of an RTCP datagram before a guard.
+#[cold]
+#[inline(never)]
+fn judged_rtcp(
+    participant: &Participant<HeapTable>,
+    guard: &mut Guard,
+    moment: u64,
+    peer: u64,
+    w: u32,
+    datagram: &[u8],
+) -> u32
+    ensures { IsJudged participant.now guard.old (rtcp_arrived moment peer w datagram.now) result guard.new }
+{
+    of_judged(&apart::judge_rtcp(participant, guard, moment, peer, w, datagram))
+}
+
+/// The status of an RTP datagram before a guard.
+#[cold]
+#[inline(never)]
+fn judged_rtp(
+    participant: &Participant<HeapTable>,
+    guard: &mut Guard,
+    moment: u64,
+    peer: u64,
+    w: u32,
+    datagram: &[u8],
+) -> u32
+    ensures { IsJudged participant.now guard.old (rtp_arrived moment peer w datagram.now) result guard.new }
+{
+    of_judged(&apart::judge_rtp(participant, guard, moment, peer, w, datagram))
+}
+
+/// The horizon of silence of a tick.
+#[cold]
+#[inline(never)]
+fn horizon(participant: &Participant<HeapTable>, moment: u64) -> u64
+    ensures { (history : History) → StandsAt participant.now history →
+        result ≡ silent_in_life (setup_at history) moment (life_at history) }
+{
+    participant.silent_before(moment)
+}
+
+/// Makes the check of a tick.
+#[cold]
+#[inline(never)]
+fn make_check(guard: &mut Guard, moment: u64, silent_before: u64)
+    ensures { guard.new ≡ after (check_made moment silent_before) guard.old }
+{
+    guard.check(moment, silent_before);
 }

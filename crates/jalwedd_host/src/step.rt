@@ -1,6 +1,6 @@
 //! What a call tells of the participant.
 
-ghost use Rattle.std.specs.Prelude.{◌≡◌, ◌↔◌, ◌≤◌, ◌<◌, ◌+◌, ◌-◌, ◌^◌, ℕ, List, Ok, None, IfSome};
+ghost use Rattle.std.specs.Prelude.{◌≡◌, ◌↔◌, ◌≤◌, ◌<◌, ◌+◌, ◌-◌, ◌^◌, ℕ, List, Ok, Some, None, IfSome};
 ghost use Rattle.rtcp_engine.specs.state.Views.{LeavesRest, reply_value, size_written};
 ghost use Rattle.jalwedd_host.specs.Answers.{HandsNothing, HandsOut, IsBlank, ShowsStanding, moment_shown, number_written};
 
@@ -34,6 +34,13 @@ pub struct HostStep {
     /// 1 if the call changed the role of another source (away, member or sender), if only for a moment, else 0: then
     /// each source that `jalwedd_source` tells of has the role that it had.
     pub others_changed: u32,
+}
+
+/// How often a call hands out a compound. Where it seldom does, its path has nothing to choose for that.
+#[derive(Clone, Copy)]
+pub enum Handing {
+    Seldom,
+    Often,
 }
 
 impl HostStep {
@@ -74,47 +81,61 @@ impl HostStep {
 
     /// That of a call that was taken.
     #[inline(always)]
-    pub(crate) fn written(start: u64, told: &WrittenStep) -> HostStep
+    pub(crate) fn written(start: u64, told: &WrittenStep, handing: Handing) -> HostStep
         requires { size_written told.now.out ≤ 1472 }
         ensures shown { IfSome told.now.standing.next (λ next. start + next < 2 ^ 64 - 1) →
             ShowsStanding start result told.now.standing }
         ensures handed { (was octets : List ℕ) → LeavesRest was octets told.now.out →
             HandsOut result was octets (reply_value octets (Ok told.now)) }
     {
+        let (kind, size) = handed(&told.out, handing);
         HostStep {
             changed: u32::from(told.changed.is_some()),
-            kind: number_of(&told.out),
-            size: size_of(&told.out),
+            kind,
+            size,
             others_changed: u32::from(told.others_changed),
             ..HostStep::standing(start, &told.standing)
         }
     }
 }
 
-/// 0 where nothing was written, 1 for a report, 2 for a BYE.
+/// What is written of a compound: 0 and 0 where there is none, 1 for a report or 2 for a BYE, and its octets.
 #[inline(always)]
-fn number_of(written: &Option<Written>) -> u32
-    ensures { result ≡ number_written written.now }
+fn handed(written: &Option<Written>, handing: Handing) -> (u32, u32)
+    requires { size_written written.now ≤ 1472 }
+    ensures kind { result.0 ≡ number_written written.now }
+    ensures size { result.1 ≡ size_written written.now }
 {
-    match written {
-        None => 0,
-        Some(out) => match out.kind {
-            OutKind::Report => 1,
-            OutKind::Bye => 2,
-        },
+    match (written, handing) {
+        (None, _) => (0, 0),
+        (Some(out), Handing::Often) => number_and_size(out),
+        (Some(out), Handing::Seldom) => seldom_handed(out),
     }
 }
 
-/// The octets of what was written.
+/// The same where there is one.
 #[inline(always)]
-fn size_of(written: &Option<Written>) -> u32
-    requires { size_written written.now ≤ 1472 }
-    ensures { result ≡ size_written written.now }
+fn number_and_size(out: &Written) -> (u32, u32)
+    requires { out.now.size ≤ 1472 }
+    ensures kind { result.0 ≡ number_written (Some out.now) }
+    ensures size { result.1 ≡ out.now.size }
 {
-    match written {
-        None => 0,
-        Some(out) => out.size as u32,
-    }
+    let kind = match out.kind {
+        OutKind::Report => 1,
+        OutKind::Bye => 2,
+    };
+    (kind, out.size as u32)
+}
+
+/// The same, out of line.
+#[cold]
+#[inline(never)]
+fn seldom_handed(out: &Written) -> (u32, u32)
+    requires { out.now.size ≤ 1472 }
+    ensures kind { result.0 ≡ number_written (Some out.now) }
+    ensures size { result.1 ≡ out.now.size }
+{
+    number_and_size(out)
 }
 
 /// What the host's clock shows at a moment, or 2^64 - 1 where there is none. The clock showed `start` at moment 0.
@@ -123,7 +144,7 @@ pub(crate) fn on_clock(start: u64, moment: Option<u64>) -> u64
     ensures never { IfSome moment (λ m. start + m < 2 ^ 64 - 1) → (result ≡ 2 ^ 64 - 1) ↔ (moment ≡ None) }
 {
     match moment {
-        Some(moment) => start.saturating_add(moment),
+        Some(moment) => start.wrapping_add(moment),
         None => NEVER,
     }
 }

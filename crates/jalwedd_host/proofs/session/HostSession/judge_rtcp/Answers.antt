@@ -10,10 +10,11 @@ pub returns-in-Some : goal.returns-in-Some
 returns-in-Some c = record {
   judges =
       let event = rtcp_arrived c.args.moment c.args.peer c.args.w c.args.datagram.now in
-      let later = with_value c.in-Some.guard c.judge_rtcp.new.guard in
+      let judged_is = c.judged_rtcp.ensures in
+      let later = with_value c.in-Some.guard c.judged_rtcp.new.guard in
       let new : HostSession = record c.args.self.now { guard = Some later } in
-      subst (λ (status : ℕ). Judges c.args.self.now event status new) (sym c.of_judged.ensures)
-      (judged c.args.self.now event c.judge_rtcp.result c.deref_mut.result.now later
-      (ap (option_map box_value) c.in-Some.is ∙ ap Some (sym c.deref_mut.ensures.value)) c.judge_rtcp.ensures.held
-      c.judge_rtcp.ensures.passes);
+      subst (λ (status : ℕ). Judges c.args.self.now event status new) (sym judged_is.told)
+      (judged c.args.self.now event judged_is.untaken c.deref_mut.result.now later
+      (ap (option_map box_value) c.in-Some.is ∙ ap Some (sym c.deref_mut.ensures.value)) judged_is.held
+      judged_is.passes);
 }
