@@ -455,9 +455,9 @@ typedef struct jalwedd_role_change {
 /* ---- A participant */
 
 /* The memory, in octets, that suffices for a participant of this capacity with any library of this SONAME, even if each
- * block is rounded up to a multiple of 16, as for its alignment. The library takes less: today a block of 2,752 octets,
+ * block is rounded up to a multiple of 16, as for its alignment. The library takes less: today a block of 2,760 octets,
  * and blocks of 136 and of 8 octets for each source of the capacity; with a guard one more of 48 octets for each of
- * them, and one of GUARD_OCTETS. */
+ * them, and one of 496. */
 #ifdef __cplusplus
 #define JALWEDD_MEMORY(capacity) (sizeof(char[4096]) + sizeof(char[192]) * (capacity)) /* no cast in C's style */
 #else

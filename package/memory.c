@@ -1,5 +1,5 @@
 /* The memory of the library: malloc and free, unless jalwedd_memory named others. jalwedd_new allocates three blocks,
- * one of 2,744 octets and those of 136 and 8 octets for each source of the capacity, aligned as by malloc, and
+ * one of 2,760 octets and those of 136 and 8 octets for each source of the capacity, aligned as by malloc, and
  * jalwedd_free frees them: at most JALWEDD_MEMORY(capacity), each rounded up to a multiple of 16. No other call
  * allocates. A host without a heap that links libjalwedd.a may instead put its own rattle_alloc, rattle_realloc,
  * rattle_dealloc and jalwedd_memory before the archive: then this file is not linked. */

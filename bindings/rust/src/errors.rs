@@ -228,8 +228,8 @@ mod tests {
 
     #[test]
     fn a_status_that_has_no_name_is_an_error() {
-        assert_eq!(named(Refusal::of, Refusal::Unknown), [1, 2, 3, 4, 5, 6, 7, 14, 15, 16, 23]);
-        assert_eq!(named(NewError::of, NewError::Unknown), [11, 12, 13, 14, 15, 16, 17, 22]);
+        assert_eq!(named(Refusal::of, Refusal::Unknown), [1, 2, 3, 4, 5, 6, 7, 14, 15, 16, 23, 24, 25]);
+        assert_eq!(named(NewError::of, NewError::Unknown), [11, 12, 13, 14, 15, 16, 17, 18, 22]);
         assert_eq!(named(FaultReason::of, FaultReason::Unknown), [1, 2, 3, 4, 5, 6, 7, 8, 9, 10]);
         assert_eq!(named(RtpFault::of, RtpFault::Unknown), [10, 11, 12, 13, 14, 15]);
         assert_eq!(Refusal::of(u32::MAX), Refusal::Unknown(u32::MAX));
@@ -238,8 +238,8 @@ mod tests {
 
     #[test]
     fn texts_are_short_and_in_lower_case() {
-        let refusals = (0..=23).map(|number| Refusal::of(number).to_string());
-        let new_errors = (0..=23).map(|number| NewError::of(number).to_string());
+        let refusals = (0..=25).map(|number| Refusal::of(number).to_string());
+        let new_errors = (0..=25).map(|number| NewError::of(number).to_string());
         let reasons = (0..=10).map(|number| FaultReason::of(number).to_string());
         let of_heads = (10..=15).map(|number| RtpFault::of(number).to_string());
         for text in refusals.chain(new_errors).chain(reasons).chain(of_heads) {

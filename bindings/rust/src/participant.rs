@@ -75,7 +75,7 @@ impl Participant {
     /// 7 further items to send. `word` is random, for the draw of the first interval (6.3.1). No report goes
     /// out before the first [`tick`](Participant::tick).
     ///
-    /// The library allocates three blocks here, of 2,744 octets and of 136 and 8 for each source of
+    /// The library allocates three blocks here, of 2,760 octets and of 136 and 8 for each source of
     /// [`Config::capacity`], and none in any other call.
     ///
     /// The first [`next_tick`](Participant::next_tick) is more than a second later than [`Config::start`]. If it is

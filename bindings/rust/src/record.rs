@@ -269,7 +269,7 @@ fn write_hex(to: &mut impl Write, octets: &[u8]) -> fmt::Result {
 /// [`NoOption`] if a text, an item or a clock has no option. Numbers that `Participant::new` refuses are written all
 /// the same, and the program refuses them too, but for a start.
 pub fn command(config: &Config, cname: &[u8], items: &[Item], word: u32) -> Result<String, NoOption> {
-    let Config { ntp_base, start, ssrc, capacity, limit, sender_bw, receiver_bw, rate, clocks } = *config;
+    let Config { ntp_base, start, ssrc, capacity, limit, sender_bw, receiver_bw, rate, clocks, guard: _ } = *config;
     let cname = quoted(cname).ok_or(NoOption::Cname)?;
     if !items.is_sorted_by(|one, next| one.kind() < next.kind()) {
         return Err(NoOption::Item);
@@ -403,6 +403,7 @@ mod tests {
         receiver_bw: 300,
         rate: 8000,
         clocks: RtpClocks::NONE,
+        guard: None,
     };
 
     fn item(kind: ItemKind, text: &[u8]) -> Item {

@@ -40,7 +40,7 @@ fn three_blocks_are_taken_by_new_and_given_back_by_drop() {
     let mut session = Participant::new(&config, b"a", &[], 0).unwrap();
     let mut taken = sizes();
     taken.sort_unstable();
-    assert_eq!(taken, [20 * 8, 20 * 136, 2744]);
+    assert_eq!(taken, [20 * 8, 20 * 136, 2760]);
     let report = [0x80, 0xc9, 0, 1, 0, 0, 0, 7, 0x81, 0xca, 0, 2, 0, 0, 0, 7, 1, 1, 0x61, 0];
     session.arrive_rtcp(Moment::ZERO, 1, 0, &report).unwrap();
     session.tick(session.next_tick().unwrap(), 0, 0).unwrap();

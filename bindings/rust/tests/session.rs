@@ -389,6 +389,7 @@ fn the_library_says_what_the_step_does() {
         clock_count: 0,
         clocks: [sys::jalwedd_clock::default(); 16],
         reserved: 0,
+        guard: sys::jalwedd_guard::default(),
     };
     let no_item = sys::jalwedd_item { kind: 0, size: 0, text: [0; 255] };
     // SAFETY: all pointers are of local variables, and the handle is freed before it goes away

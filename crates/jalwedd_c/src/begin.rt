@@ -22,8 +22,8 @@ use std::alloc::{AllocError, Global};
 
 /// Puts a participant of a session that begins now, when the host's clock shows the configuration's `start`, into an
 /// empty handle. `word` is a random word, for the draw of the first interval. Call `jalwedd_tick` at the step's `next`.
-/// This call alone takes memory, in three blocks: 136 and 8 octets for each source of the capacity, and 2,752; with a
-/// guard in two more, 48 octets for each source of the capacity, and GUARD_OCTETS.
+/// This call alone takes memory, in three blocks: 136 and 8 octets for each source of the capacity, and 2,760; with a
+/// guard in two more, 48 octets for each source of the capacity, and 496.
 ///
 /// Statuses: 0; 21 where the handle holds a participant, which is then the one that the step tells of; 11 to 18 by the
 /// first of C1 to C8 that applies, where a CNAME of more than 255 octets, more than 7 items, and then more than 16

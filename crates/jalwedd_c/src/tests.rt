@@ -150,6 +150,6 @@ const TOO_LONG: [u8; 65_536] = [0x80; 65_536];
 /// The block of a session has the octets that `jalwedd_new` documents.
 #[test]
 fn memory(rt: HostRuntime) {
-    assert_eq!(rt; size_of::<jalwedd_host::session::HostSession>(), 2_752);
-    assert_eq!(rt; size_of::<rtcp_guard::Guard>(), 280);
+    assert_eq!(rt; size_of::<jalwedd_host::session::HostSession>(), 2_760);
+    assert_eq!(rt; size_of::<rtcp_guard::Guard>(), 496);
 }
