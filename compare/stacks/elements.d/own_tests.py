@@ -19,7 +19,18 @@ AVP = """
     test_change_sent_sdes test_disable_sr_timestamp test_disable_probation test_clear_pt_map_stress
     test_packet_rate test_stepped_packet_rate
 """.split()
-BY_DESIGN = {}
+BY_DESIGN = {
+    "test_multiple_senders_roundrobin_rbs":
+        "35 sources take 35 blocks in two packets of one compound, and not 31 and then 4 (RFC 3550, 6.1)",
+    "test_no_rbs_for_internal_senders":
+        "each SSRC of this host is a participant, and reports about the others too (6.4)",
+    "test_ignore_suspicious_bye": "a BYE from another host with an SSRC of this one is a collision (8.2)",
+    "test_ssrc_collision_never_send_on_non_internal_source":
+        "an SSRC that another source has stays its own; rtpsession says its goodbye, and takes it (8.2)",
+    "test_change_sent_sdes": "items besides the CNAME are sent in one of three reports (6.3.9)",
+    "test_disable_sr_timestamp": "a sender report has its moment (6.4.1)",
+    "test_aux_sender": "retransmission needs feedback, which AVP lacks (RFC 4585)",
+}
 
 # rtpsession asks its clock to wait for its next report alone. The element also wakes each second, so that to
 # crank the clock means to do it until RTCP went out.
@@ -31,7 +42,8 @@ UNTIL_SENT = """  for (guint i = 0; i < 60 && {sent}; i++) {{
 PATCHES = {
     "  gst_test_clock_crank (h->testclock);\n}\n":
         "  guint had = gst_harness_buffers_in_queue (h->rtcp_h);\n"
-        + UNTIL_SENT.format(sent="gst_harness_buffers_in_queue (h->rtcp_h) == had", clock="h->testclock") + "}\n",
+        + UNTIL_SENT.format(sent="gst_harness_buffers_in_queue (h->rtcp_h) == had", clock="h->testclock")
+        + "}\n",
     "  gst_test_clock_crank (tclock);\n  gst_test_clock_crank (tclock);\n":
         UNTIL_SENT.format(sent="buffers == NULL", clock="tclock"),
 }

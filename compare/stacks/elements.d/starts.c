@@ -1,17 +1,23 @@
-/* starts COUNT: starts and stops COUNT times a pipeline of two sessions that hear each other, while another
- * thread reads and sets their properties. Prints `started COUNT`. */
+/* starts COUNT: starts and stops COUNT times a pipeline of two sessions that hear each other, by turns of
+ * jalweddsession and of jalweddbin, while another thread reads and sets their properties. Prints `started
+ * COUNT`. */
 #include <gst/gst.h>
 #include <stdio.h>
 #include <stdlib.h>
 
 enum { SHORTEST = 1000, LONGEST = 100000 }; /* microseconds for which a pipeline plays */
 
-static const gchar *const description =
+static const gchar *const descriptions[] = {
     "jalweddsession name=s jalweddsession name=r audiotestsrc num-buffers=2000 ! audio/x-raw,rate=8000 ! "
     "alawenc ! rtppcmapay ! s.send_rtp_sink s.send_rtp_src ! r.recv_rtp_sink "
     "r.recv_rtp_src ! fakesink async=false s.send_rtcp_src ! queue ! r.recv_rtcp_sink "
     "r.send_rtcp_src ! udpsink host=127.0.0.1 port=45300 sync=false async=false "
-    "udpsrc address=127.0.0.1 port=45300 caps=application/x-rtcp ! s.recv_rtcp_sink";
+    "udpsrc address=127.0.0.1 port=45300 caps=application/x-rtcp ! s.recv_rtcp_sink",
+    "jalweddbin name=s jalweddbin name=r audiotestsrc is-live=true ! audio/x-raw,rate=8000 ! alawenc ! "
+    "rtppcmapay ! s.send_rtp_sink_0 s.send_rtp_src_0 ! queue ! r.recv_rtp_sink_0 "
+    "r. ! rtppcmadepay ! fakesink async=false s.send_rtcp_src_0 ! queue ! r.recv_rtcp_sink_0 "
+    "r.send_rtcp_src_0 ! udpsink host=127.0.0.1 port=45300 sync=false async=false "
+    "udpsrc address=127.0.0.1 port=45300 caps=application/x-rtcp ! s.recv_rtcp_sink_0"};
 static gint is_over;
 
 static void read_source(GObject *internal)
@@ -42,17 +48,30 @@ static void read_session(GstElement *session)
     g_object_unref(internal);
 }
 
+static void read_element(GstElement *element)
+{
+    GstElement *session = NULL;
+    if (g_signal_lookup("get-session", G_OBJECT_TYPE(element)) == 0) {
+        read_session(element);
+        return;
+    }
+    g_signal_emit_by_name(element, "get-session", 0, &session);
+    g_object_set(element, "latency", g_random_int_range(20, 200), NULL);
+    read_session(session);
+    gst_object_unref(session);
+}
+
 static gpointer read_all(gpointer pipeline)
 {
     while (!g_atomic_int_get(&is_over)) {
-        GstElement *session = gst_bin_get_by_name(pipeline, g_random_boolean() ? "s" : "r");
-        read_session(session);
-        gst_object_unref(session);
+        GstElement *element = gst_bin_get_by_name(pipeline, g_random_boolean() ? "s" : "r");
+        read_element(element);
+        gst_object_unref(element);
     }
     return NULL;
 }
 
-static void start_and_stop(void)
+static void start_and_stop(const gchar *description)
 {
     GstElement *pipeline = gst_parse_launch(description, NULL);
     GThread *reader;
@@ -72,7 +91,7 @@ int main(int count, char **words)
     if (count != 2)
         return 2;
     for (int at = 0; at < atoi(words[1]); at++)
-        start_and_stop();
+        start_and_stop(descriptions[at % 2]);
     printf("started %s\n", words[1]);
     gst_deinit();
     return 0;
