@@ -19,21 +19,19 @@ typedef struct {
 /* ---- What it says. With the lock */
 
 /* Before the participants hear it, as it names the SSRCs that this host had when it was sent. */
-static void read_blocks(JalweddSession *self, Datagram *datagram, GQueue *actions)
+static void read_blocks(JalweddSession *self, Datagram *datagram)
 {
     jalwedd_cursor cursor = JALWEDD_BEGIN;
     jalwedd_report report;
     while (datagram->block_count < MOST_BLOCKS &&
            jalwedd_next_block(datagram->data, datagram->size, &cursor, &report) == JALWEDD_TAKEN) {
         JalweddSource *own = source_find(self, report.ssrc);
-        if (own == NULL || !own->internal)
-            continue;
-        datagram->blocks[datagram->block_count++] = report;
-        action_signal(actions, ON_SENDER_SSRC_ACTIVE, own);
+        if (own != NULL && own->internal)
+            datagram->blocks[datagram->block_count++] = report;
     }
 }
 
-static void keep_blocks(JalweddSession *self, const Datagram *datagram)
+static void keep_blocks(JalweddSession *self, const Datagram *datagram, GQueue *actions)
 {
     Participant *one = participant_first(self);
     guint64 ntp;
@@ -42,10 +40,11 @@ static void keep_blocks(JalweddSession *self, const Datagram *datagram)
     ntp = jalwedd_ntp_of(one->config.ntp_base, moment_now(self) - one->config.start);
     for (guint at = 0; at < datagram->block_count; at++) {
         const jalwedd_report *report = &datagram->blocks[at];
-        JalweddSource *from = source_find(self, report->reporter);
+        JalweddSource *from = source_find(self, report->reporter), *own = source_find(self, report->ssrc);
         const gint32 trip = (gint32)jalwedd_round_trip((guint32)(ntp >> 16), report->lsr, report->dlsr);
-        if (from == NULL)
+        if (from == NULL || own == NULL)
             continue;
+        action_signal(actions, ON_SENDER_SSRC_ACTIVE, own);
         from->block = *report;
         from->has_block = TRUE;
         from->round_trip = report->lsr != 0 && trip > 0 ? (guint32)trip : 0;
@@ -142,15 +141,15 @@ static gboolean hear(JalweddSession *self, Datagram *datagram, guint64 peer, GQu
 {
     guint32 status;
     if (!self->leaves)
-        read_blocks(self, datagram, actions);
+        read_blocks(self, datagram);
     status = participants_hear_rtcp(self, NULL, peer, datagram->data, datagram->size, actions);
     if (status != JALWEDD_TAKEN) {
         self->refused_rtcp++;
         GST_DEBUG_OBJECT(self, "RTCP refused: %s", jalwedd_text(status));
     }
-    if (self->leaves)
+    if (self->leaves || status != JALWEDD_TAKEN)
         return FALSE;
-    keep_blocks(self, datagram);
+    keep_blocks(self, datagram, actions);
     read_items(self, datagram, actions);
     read_apps(datagram, actions);
     tell_active(self, datagram, actions);
