@@ -70,17 +70,28 @@ guint32 call_new(JalweddSession *self, Participant *one)
     const guint32 word = moment_word(self);
     const guint32 status = jalwedd_new(&one->handle, &one->config, (const guint8 *)cname,
                                        MIN(strlen(cname), 255), items, count, word, &one->step);
-    if (status == JALWEDD_TAKEN)
-        begin_record(self, one, items, count, word);
+    if (status != JALWEDD_TAKEN)
+        return status;
+    if (one->config.guard.names != 0)
+        jalwedd_trust(&one->handle, OWN_PEER); /* the other SSRCs of this host are no strangers */
+    begin_record(self, one, items, count, word);
     return status;
+}
+
+gboolean call_is_held_back(guint32 status)
+{
+    return status == JALWEDD_STRANGER || status == JALWEDD_CROWD;
 }
 
 guint32 call_arrive_rtp(JalweddSession *self, Participant *one, guint64 peer, const guint8 *data, gsize size)
 {
     const guint64 now = moment_now(self);
     const guint32 word = moment_word(self);
-    jalwedd_record_arrive_rtp(&one->record, now, peer, word, data, size);
-    return jalwedd_arrive_rtp(&one->handle, now, peer, word, data, size, &one->step, one->octets);
+    const guint32 status =
+        jalwedd_arrive_rtp(&one->handle, now, peer, word, data, size, &one->step, one->octets);
+    if (!call_is_held_back(status))
+        jalwedd_record_arrive_rtp(&one->record, now, peer, word, data, size);
+    return status;
 }
 
 guint32 call_arrive_rtcp(JalweddSession *self, Participant *one, guint64 peer, const guint8 *data,
@@ -88,8 +99,11 @@ guint32 call_arrive_rtcp(JalweddSession *self, Participant *one, guint64 peer, c
 {
     const guint64 now = moment_now(self);
     const guint32 word = moment_word(self);
-    jalwedd_record_arrive_rtcp(&one->record, now, peer, word, data, size);
-    return jalwedd_arrive_rtcp(&one->handle, now, peer, word, data, size, &one->step, one->octets);
+    const guint32 status =
+        jalwedd_arrive_rtcp(&one->handle, now, peer, word, data, size, &one->step, one->octets);
+    if (!call_is_held_back(status))
+        jalwedd_record_arrive_rtcp(&one->record, now, peer, word, data, size);
+    return status;
 }
 
 guint32 call_sent_rtp(JalweddSession *self, Participant *one, guint32 timestamp, gsize payload)

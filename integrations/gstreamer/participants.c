@@ -134,6 +134,9 @@ static void put_config(JalweddSession *self, jalwedd_config *config, gboolean ha
     config->limit = self->limit;
     config->rate = rate != 0 ? rate : RATE_IF_UNKNOWN;
     config->clock_count = settings_clocks(self, config->rate, config->clocks);
+    config->guard.names = self->guard_names;
+    config->guard.trusted_names = MOST_PARTICIPANTS;
+    config->guard.hold = self->guard_hold / 1000;
     settings_bandwidths(self, &self->sender_bandwidth, &self->receiver_bandwidth);
     config->sender_bw = self->sender_bandwidth;
     config->receiver_bw = self->receiver_bandwidth;

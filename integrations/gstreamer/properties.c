@@ -28,6 +28,8 @@ enum {
     PROP_REDUCED_SIZE,
     PROP_FAVOR_NEW,
     PROP_RECORD,
+    PROP_GUARD_NAMES,
+    PROP_GUARD_HOLD,
     PROP_DISABLE_SR,
     PROP_INTERNAL_SOURCE,
     PROP_SOURCE_OBJECTS,
@@ -88,6 +90,8 @@ static gboolean set_plain(JalweddSession *self, guint id, const GValue *value)
     case PROP_TIME_SOURCE: self->time_source = (guint)g_value_get_enum(value); break;
     case PROP_SYNC_SEND_TIME: self->sync_send_time = g_value_get_boolean(value); break;
     case PROP_PIPELINE_CLOCK: self->pipeline_clock = g_value_get_boolean(value); break;
+    case PROP_GUARD_NAMES: self->guard_names = g_value_get_uint(value); break;
+    case PROP_GUARD_HOLD: self->guard_hold = g_value_get_uint64(value); break;
     case PROP_CAPACITY: self->capacity = g_value_get_uint(value); break;
     case PROP_LIMIT: self->limit = g_value_get_uint(value) & ~3u; break;
     case PROP_TICK_INTERVAL: self->tick_interval = g_value_get_uint64(value); break;
@@ -214,6 +218,8 @@ static void get_plain(JalweddSession *self, guint id, GValue *value)
     case PROP_SYNC_SEND_TIME: g_value_set_boolean(value, self->sync_send_time); break;
     case PROP_NTP64: g_value_set_boolean(value, self->ntp64); break;
     case PROP_PIPELINE_CLOCK: g_value_set_boolean(value, self->pipeline_clock); break;
+    case PROP_GUARD_NAMES: g_value_set_uint(value, self->guard_names); break;
+    case PROP_GUARD_HOLD: g_value_set_uint64(value, self->guard_hold); break;
     case PROP_CAPACITY: g_value_set_uint(value, self->capacity); break;
     case PROP_LIMIT: g_value_set_uint(value, self->limit); break;
     case PROP_TICK_INTERVAL: g_value_set_uint64(value, self->tick_interval); break;
@@ -340,10 +346,25 @@ static void install_times(GObjectClass *class)
                               G_MAXUINT, MAX_MISORDER_TIME, READ_WRITE));
 }
 
+static void install_guard(GObjectClass *class)
+{
+    install(
+        class, PROP_GUARD_NAMES,
+        g_param_spec_uint("guard-names", "Guard names",
+                          "How many sources an address may have: datagrams with more, or with a source of "
+                          "another address, are held back (0 = no guard; usually 8)",
+                          0, 1024, 0, READ_WRITE));
+    install(class, PROP_GUARD_HOLD,
+            g_param_spec_uint64("guard-hold", "Guard hold",
+                                "For how many nanoseconds a source that is not heard belongs to its address",
+                                0, G_MAXUINT64, 60 * GST_SECOND, READ_WRITE));
+}
+
 void properties_install(GObjectClass *class)
 {
     install_shared(class);
     install_times(class);
+    install_guard(class);
     install(class, PROP_INTERNAL,
             g_param_spec_object("internal-session", "Internal Session",
                                 "Has the signals of rtpsession's internal session, with source objects",
@@ -400,6 +421,7 @@ void properties_init(JalweddSession *self)
     self->fraction = 0.05;
     self->rr_bandwidth = self->rs_bandwidth = -1;
     self->capacity = 256;
+    self->guard_hold = 60 * GST_SECOND;
     self->limit = 1400;
     self->probation = 2;
     self->profile = GST_RTP_PROFILE_AVP;

@@ -73,7 +73,7 @@ static gboolean hear(JalweddSession *self, Packet *packet, GQueue *actions)
         self->refused_rtp++;
         GST_DEBUG_OBJECT(self, "RTP refused: %s", jalwedd_text(status));
     }
-    if (status == JALWEDD_OWN_SSRC)
+    if (status == JALWEDD_OWN_SSRC || call_is_held_back(status))
         return FALSE;
     if (was_counted && source_state(self, ssrc, &after) && after.received == before.received) {
         keep_jump(source_find(self, ssrc), packet);

@@ -154,6 +154,8 @@ struct _JalweddSession {
     /* properties */
     gdouble bandwidth, fraction;
     gint rr_bandwidth, rs_bandwidth;
+    guint guard_names;
+    guint64 guard_hold;
     guint capacity, probation, limit, profile, time_source, max_dropout, max_misorder;
     guint64 min_interval, tick_interval;
     gboolean reduced_size, sync_send_time, favor_new, pipeline_clock, ntp64;
@@ -220,6 +222,7 @@ guint32 call_arrive_rtcp(JalweddSession *self, Participant *one, guint64 peer, c
 guint32 call_sent_rtp(JalweddSession *self, Participant *one, guint32 timestamp, gsize payload);
 guint32 call_tick(JalweddSession *self, Participant *one);
 guint32 call_configure(JalweddSession *self, Participant *one);
+gboolean call_is_held_back(guint32 status); /* the guard keeps such a datagram from the participant */
 guint32 call_forget(JalweddSession *self, Participant *one, guint32 ssrc);
 guint32 call_leave(JalweddSession *self, Participant *one);
 void call_free(Participant *one);

@@ -113,6 +113,16 @@ static void put_sources(JalweddSession *self, GstStructure *stats)
 }
 G_GNUC_END_IGNORE_DEPRECATIONS
 
+/* How many datagrams the guard of the first participant held back. With the lock. */
+static guint64 held_back(JalweddSession *self)
+{
+    Participant *one = participant_first(self);
+    jalwedd_counts counts;
+    if (one == NULL || jalwedd_held_back(&one->handle, &counts) != JALWEDD_TAKEN)
+        return 0;
+    return counts.strangers + counts.crowds;
+}
+
 GstStructure *statistics_of_session(JalweddSession *self)
 {
     GstStructure *stats = gst_structure_new(
@@ -122,7 +132,8 @@ GstStructure *statistics_of_session(JalweddSession *self)
     LOCK(self);
     put_sources(self, stats);
     gst_structure_set(stats, "jalwedd-refused-rtcp", G_TYPE_UINT64, self->refused_rtcp,
-                      "jalwedd-refused-rtp", G_TYPE_UINT64, self->refused_rtp, NULL);
+                      "jalwedd-refused-rtp", G_TYPE_UINT64, self->refused_rtp, "jalwedd-held-back",
+                      G_TYPE_UINT64, held_back(self), NULL);
     UNLOCK(self);
     return stats;
 }

@@ -82,6 +82,8 @@ static void print_session(const gchar *name, GstElement *session)
     if (gst_structure_get_uint64(stats, "jalwedd-refused-rtcp", &rtcp) &&
         gst_structure_get_uint64(stats, "jalwedd-refused-rtp", &rtp))
         printf("refused %s %" G_GUINT64_FORMAT " %" G_GUINT64_FORMAT "\n", name, rtcp, rtp);
+    if (gst_structure_get_uint64(stats, "jalwedd-held-back", &rtp))
+        printf("held %s %" G_GUINT64_FORMAT "\n", name, rtp);
     gst_structure_free(stats);
 }
 

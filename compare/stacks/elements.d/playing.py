@@ -10,12 +10,13 @@ SIGNAL = re.compile(r"signal (\S+) (\S+) ([0-9a-f]{8}) at ([\d.]+)")
 @dataclass
 class Played:
     """What a pipeline told: signals as (element, name, SSRC), the statistics of sources by element, the
-    datagrams that an element refused as (RTCP, RTP), the delays of streams in nanoseconds by (bin, session),
-    warnings, errors, and the seconds from EOS to the end, or None."""
+    datagrams that an element refused as (RTCP, RTP), or its guard held back, the delays of streams in
+    nanoseconds by (bin, session), warnings, errors, and the seconds from EOS to the end, or None."""
 
     signals: list = field(default_factory=list)
     stats: dict = field(default_factory=dict)
     refused: dict = field(default_factory=dict)
+    held: dict = field(default_factory=dict)
     offsets: dict = field(default_factory=dict)
     warnings: list = field(default_factory=list)
     errors: list = field(default_factory=list)
@@ -54,6 +55,8 @@ def parsed(text):
         elif first == "refused":
             name, rtcp, rtp = rest.split()
             played.refused[name] = int(rtcp), int(rtp)
+        elif first == "held":
+            played.held[rest.split()[0]] = int(rest.split()[1])
         elif first == "offset":
             name, session, offset = rest.split()
             played.offsets[name, int(session)] = int(offset)

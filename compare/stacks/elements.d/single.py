@@ -99,6 +99,32 @@ def third_party(build):
         yield f"the source is at {source.get('rtp-from')}"
 
 
+def talk_from_two_hosts(own, other):
+    """Packets of one SSRC from two addresses, by turns from the first on."""
+    time.sleep(3)
+    for at in range(100):
+        wire.send(own.rtp, wire.packet(OTHER, at, 160 * at), other.rtp)
+        wire.send(own.rtp, wire.packet(OTHER, 30_000 + at, 160 * at), other.rtp, "127.0.0.2")
+        time.sleep(0.01)
+
+
+def strangers(build):
+    """With a guard a source belongs to the address that named it first, before it is valid too."""
+    own, other = pipelines.two_sides()
+    receiver = pipelines.receiver("jalweddsession", "r", own, other, "guard-names=8")
+    player = Player(build, 8, receiver, "r")
+    in_background(talk_from_two_hosts, own, other)
+    yield
+    played = player.played()
+    source = played.source("r", OTHER)
+    yield from played.errors
+    counts = source.get("packets-received"), source.get("packets-lost")
+    if counts != (99, 0):
+        yield f"of 99 packets counted {counts[0]}, lost {counts[1]}"
+    if played.held.get("r") != 1:  # the one that came before the source was valid: no others reach the guard
+        yield f"held back {played.held.get('r')}"
+
+
 def collide(own):
     """Two packets under the SSRC of an element."""
     time.sleep(4)
@@ -188,6 +214,7 @@ def checks(build, program, room):
     """Each check, by its title."""
     found = mappings(build)
     found["third-party collision"] = third_party(build)
+    found["guard"] = strangers(build)
     found["collision with this host"] = own_collision(build)
     found["refusals"] = refusals(build, "jalweddsession", REFUSED)
     found["refusals of the bin"] = refusals(build, "jalweddbin", REFUSED_BY_BIN)

@@ -14,12 +14,12 @@ def packet(ssrc, sequence, timestamp, octets=160, payload_type=8):
     return head + bytes(octets)
 
 
-def send(port, octets, from_port=0):
+def send(port, octets, from_port=0, from_host=HOST):
     """Sends a datagram, from a port if one is given."""
     with socket.socket(socket.AF_INET, socket.SOCK_DGRAM) as sock:
         if from_port:
             sock.setsockopt(socket.SOL_SOCKET, socket.SO_REUSEADDR, 1)
-            sock.bind((HOST, from_port))
+            sock.bind((from_host, from_port))
         sock.sendto(octets, (HOST, port))
 
 
