@@ -7,6 +7,7 @@ from browser import DESK, TELEPHONE, Browser
 
 LOOKS = [(width, is_dark) for width in (TELEPHONE, DESK) for is_dark in (False, True)]
 FAULTS = """(() => {
+for (const folded of document.querySelectorAll("details")) folded.open = true
 const faults = [], width = document.documentElement.clientWidth, seen = element => element.getClientRects().length > 0
 const told = (what, element) => faults.push(what + ": " + element.textContent.trim().slice(0, 60))
 const light = colour => {
@@ -27,6 +28,11 @@ for (const element of document.querySelectorAll("h1, h2, h3, p, .keys span, th, 
   if (contrast(style.color) < 4.5) told("faint", element) }
 for (const box of document.querySelectorAll(".scroll"))
   if (box.scrollWidth > box.clientWidth + 1 && getComputedStyle(box).overflowX != "auto") told("does not scroll", box)
+for (const box of document.querySelectorAll(".scroll")) {
+  if (box.tabIndex != 0 || !box.getAttribute("aria-label")) told("not for a keyboard", box)
+  const isCut = box.scrollHeight > box.clientHeight + 1, before = box.previousElementSibling
+  if (isCut && !(before && before.matches("p.count") && /[0-9]/.test(before.textContent))) told("no count", box) }
+for (const head of document.querySelectorAll("th")) if (!head.getAttribute("scope")) told("no scope", head)
 for (const svg of document.querySelectorAll(".scroll > svg")) {
   if (!seen(svg)) continue
   const frame = svg.getBoundingClientRect(), texts = [...svg.querySelectorAll("text")]
@@ -50,13 +56,16 @@ MOST_MARKS = 3000  # of a plot
 
 # A fault, where it is to be seen, and what is replaced in the text of a page.
 PLANTED = [
-    ("wider than the window", TELEPHONE, ".tall { max-height: 560px; overflow-y: auto; }",
-     ".scroll { overflow: visible !important; }"),
+    ("wider than the window", TELEPHONE, "body { font:",
+     ".scroll { overflow: visible !important; } body { font:"),
     ("the window is", TELEPHONE, '<meta name="viewport" content="width=device-width, initial-scale=1">', ""),
     ("scaled down", TELEPHONE, "svg.wide { display: none; }\n  svg.narrow { display: block; }",
      "svg.wide { width: 100%; }"),
     ("of the other scheme", DESK, "prefers-color-scheme: dark", "prefers-color-scheme: light"),
-    ("small", DESK, "table.sources { font-size: 13px; }", "table.sources { font-size: 9px; }"),
+    ("small", DESK, "table.sources, table.numbers { font-size: 13px; }", "table.sources { font-size: 9px; }"),
+    ("not for a keyboard", DESK, 'tabindex="0"', ""),
+    ("no scope", TELEPHONE, 'scope="row"', ""),
+    ("no count", DESK, '<p class="count">', "<p>"),
     ("cut off", TELEPHONE, "p.keys { display: flex; flex-wrap: wrap;", "p.keys { display: flex; overflow: hidden;"),
     ("faint", DESK, "--faint: #5f6368;", "--faint: #aaa;"),
     ("covers", TELEPHONE, 'y="25.0"', 'y="42.0"'),

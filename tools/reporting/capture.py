@@ -12,6 +12,7 @@ LEAST_RTP, LEAST_RTCP = 12, 8  # octets
 FIRST_RTCP, LAST_RTCP = 192, 223  # second octets of RTCP (RFC 5761, 4): payload types 64 to 95 with a marker
 SENDER_REPORT, RECEIVER_REPORT = 200, 201
 MOST_AHEAD = 3000  # sequence numbers from a packet to the next one of a flow of RTP
+LISTENER = b"listener@capture"  # the CNAME of the participant of a record that was made of a capture
 CUT_SHORT = "cut short in the middle of a packet"
 FIELDS = ("frame.time_epoch", "frame.protocols", "ip.src", "ip.dst", "ipv6.src", "ipv6.dst", "udp.srcport",
           "udp.dstport", "udp.length", "udp.payload")

@@ -4,57 +4,112 @@ from __future__ import annotations
 from collections import Counter
 
 from reporting import plots
-from reporting.clock import duration_text, endpoint
+from reporting.clock import duration_text
+from reporting.headline import cname_of, headline, sentence
+from reporting.limits import Limits
+from reporting.media import media
+from reporting.parties import parties
 from reporting.plots import KIND_NAMES, LOOKS, clock_of, fault_of, rates_in_words
 from reporting.session import DISMISSED, Compound, Session
 from reporting.sources import name_of, one_by_one, losses, table_of_sources
 from reporting.style import STYLE
 from reporting.svg import BLUE, FAINT, GREEN, ORANGE, PURPLE, RED, number, plural, shown
-from reporting.words import MANY, percent, section
+from reporting.verdict import WORDS, Verdict, verdicts
+from reporting.words import MANY, MEANINGS, box, percent, section
 
 from participant import HEADERS, SECOND
 
 MOST_PEERS = 4  # that the head names
 
-MEANINGS = {
-    "E1": "this participant has left", "E2": "the moment lies before the latest one", "E3": "the moment is beyond 2^50",
-    "E4": "too many calls",
-    "E7": "it names this participant's SSRC, from a peer that did so before or after eight changes",
-    "C4": "a bandwidth that is none of 16 to 2^30", "C5": "a clock whose rate is none of 1 to 2^20",
-    "C6": "an item whose type is none of 2 to 8",
-    "F1": "fewer than 4 octets are left", "F2": "the version of RTCP is not 2",
-    "F3": "the first packet is neither an SR nor an RR", "F4": "the first packet has padding",
-    "F5": "a packet is longer than what is left", "F6": "padding that cannot be",
-    "F7": "a packet's body does not have the size that its type and count need",
-    "F8": "an item of an SDES does not end in its packet", "F9": "the reason of a BYE does not fit",
-    "F10": "more than 65,535 octets", "G1": "fewer octets than the head has", "G2": "the version of RTP is not 2",
-    "G3": "a payload type of 72 to 76, which may be RTCP", "G4": "an extension longer than the datagram",
-    "G5": "padding that cannot be",
-}
 
-def page(session: Session) -> str:
-    title = title_of(session)
+def page(session: Session, limits: Limits = Limits()) -> str:
+    """That of one session."""
+    found = verdicts(session, limits)
+    body = f"<h1>{heading(session, found)}</h1>\n" + contents(session, found, limits)
+    return document(title_of(session, found), body)
+
+
+def page_of_calls(sessions: list[Session], limits: Limits) -> str:
+    """That of several calls: an index, the worst call first, and then each call as a page of its own would be."""
+    calls = [(session, verdicts(session, limits)) for session in sessions]
+    calls.sort(key=lambda call: call[1][0].rank if call[1] else (len(WORDS),))
+    sections = "".join(f'<section id="call-{at}">\n<h1 class="call">Call {at}: {parties_of(session, found)}</h1>\n'
+                       + contents(session, found, limits) + "</section>\n"
+                       for at, (session, found) in enumerate(calls, 1))
+    return document(f"{number(len(calls))} calls of a capture", index(calls) + sections)
+
+
+def document(title: str, body: str) -> str:
     return (f'<!DOCTYPE html>\n<html lang="en"><head><meta charset="utf-8">'
             f'<meta name="viewport" content="width=device-width, initial-scale=1"><title>{title}</title>'
-            f"<style>{STYLE}</style></head>\n<body>\n<h1>RTCP session of {name_of(session.options['cname'])}</h1>\n"
-            + about(session) + cut(session) + facts(session) + refusals(session) + losses(session)
-            + table_of_sources(session) + members(session) + rates(session) + compounds(session)
-            + intervals(session) + one_by_one(session) + "</body></html>\n")
+            f"<style>{STYLE}</style></head>\n<body>\n{body}</body></html>\n")
+
+
+def contents(session: Session, found: list[Verdict], limits: Limits) -> str:
+    """The verdict, what it rests on, and what only those want who look at RTCP itself."""
+    return (about(session) + cut(session) + headline(session, found, limits) + parties(session, found)
+            + media(session, found) + refusals(session) + table_of_sources(session) + plumbing(session))
+
+
+def index(calls: list[tuple[Session, list[Verdict]]]) -> str:
+    """A row for each call."""
+    bad = sum(any(not verdict.is_good for verdict in found) for _, found in calls)
+    words = f"{number(bad)} of {number(len(calls))} calls had a stream that was not good." if bad else (
+        f"All {number(len(calls))} calls were good.")
+    rows = "".join(index_row(at, *call) for at, call in enumerate(calls, 1))
+    titles = ("call", "between", "verdict", "began", "lasted", "streams")
+    head = "".join(f'<th scope="col">{title}</th>' for title in titles)
+    table = f"<table>\n<thead><tr>{head}</tr></thead>\n<tbody>\n{rows}</tbody></table>"
+    return (f'<h1>{number(len(calls))} calls of a capture</h1>\n<p class="verdict">{words}</p>\n'
+            + box("Calls", table, f"{number(len(calls))} calls, the worst first", is_tall=len(calls) > 12))
+
+
+def index_row(at: int, session: Session, found: list[Verdict]) -> str:
+    kind = "bad" if found and not found[0].is_good else "good"
+    return (f'<tr class="{kind}"><th scope="row"><a href="#call-{at}">call {at}</a></th>'
+            f"<td>{parties_of(session, found)}</td><td>{sentence(session, found)}</td>"
+            f"<td>{clock_of(session).date(0)} {clock_of(session).moment(0, 0)}</td>"
+            f"<td>{duration_text(session.end)}</td><td>{number(len(found))}</td></tr>\n")
+
+
+def parties_of(session: Session, found: list[Verdict]) -> str:
+    """Who is in a call, by name or else by endpoint."""
+    names = list(dict.fromkeys(name_of(cname_of(session, verdict.ssrc)) for verdict in found
+                               if cname_of(session, verdict.ssrc) is not None))
+    names = names or list(session.names.values())
+    return " and ".join(names) if len(names) < 3 else f"{names[0]} and {number(len(names) - 1)} others"
+
+
+def plumbing(session: Session) -> str:
+    """How RTCP itself went. Of a capture it is what a listener there would have done."""
+    words = ("<p>Nobody listened at the capture: this is what a participant there would have counted and sent.</p>\n"
+             if session.is_captured else "")
+    return ("<details>\n<summary>RTCP itself: members, bandwidth, compounds, intervals</summary>\n" + words
+            + facts(session) + losses(session) + members(session) + rates(session) + compounds(session)
+            + intervals(session) + one_by_one(session) + "</details>\n")
 
 
 # The head
 
 
-def title_of(session: Session) -> str:
+def heading(session: Session, found: list[Verdict]) -> str:
+    if session.is_captured:
+        names = parties_of(session, found)
+        return f"RTP call of {names}" if names else "RTP call"
+    return f"RTCP session of {name_of(session.options['cname'])}"
+
+
+def title_of(session: Session, found: list[Verdict]) -> str:
     """The title of a window: whose session it is, with whom, and when it began."""
     began = f", {clock_of(session).date(0)} {clock_of(session).moment(0, 0)} UTC" if session.options["ntp"] else ""
-    return (f"RTCP session of {name_of(session.options['cname'])} ({session.options['ssrc']:08x})"
-            f"{with_whom(session)}{began}")
+    if session.is_captured:
+        return heading(session, found) + began
+    return f"{heading(session, found)} ({session.options['ssrc']:08x}){with_whom(session)}{began}"
 
 
 def with_whom(session: Session) -> str:
     """The peer, or how many there are; nothing where the record has no endpoints."""
-    names = [name for name in map(endpoint, session.peers) if name]
+    names = [name for name in map(session.endpoint, session.peers) if name]
     return "" if not names else f" with {names[0]}" if len(names) == 1 else f" with {len(names)} peers"
 
 
@@ -62,10 +117,13 @@ def about(session: Session) -> str:
     """The line below the heading."""
     clock, end = clock_of(session), session.end
     words = f"SSRC <code>{session.options['ssrc']:08x}</code>{with_whom(session)}"
+    if session.is_captured:
+        words = "A capture" + with_whom(session)
     if session.options["ntp"]:
         last = clock.date(end) if clock.date(end) != clock.date(0) else ""
         words += f"<br>{clock.date(0)}, {clock.moment(0, 0)} to {last} {clock.moment(end, 0)} UTC".replace("  ", " ")
-    return f'<p class="about">{words}</p>\n'
+    notes = "".join(f"<br>{shown(note)}" for note in session.notes)
+    return f'<p class="about">{words}{notes}</p>\n'
 
 
 def cut(session: Session) -> str:
@@ -88,7 +146,7 @@ def facts(session: Session) -> str:
         *peers(session),
         ("RTCP bandwidth", f"{number(session.bandwidth)} octets a second: {number(options['sender-bw'])} for senders, "
                            f"{number(options['receiver-bw'])} for the others"),
-        ("Media clock", f"{number(options['rate'])} units a second"),
+        ("Media clock", clocks(session)),
         *([("Other settings from", ", ".join(clock.moment(moment) for moment, *_ in session.shares[1:]))]
           if session.shares[1:] else []),
         ("Room for other sources", f"{number(options['capacity'])}; largest report {number(options['limit'])} octets"),
@@ -102,13 +160,22 @@ def facts(session: Session) -> str:
         ("Most at a time", most_at_a_time(session)),
         ("End", ending(session)),
     ]
-    body = "".join(f"<tr><th>{title}</th><td>{words}</td></tr>\n" for title, words in rows)
+    body = "".join(f'<tr><th scope="row">{title}</th><td>{words}</td></tr>\n' for title, words in rows)
     return f'<table class="facts">\n{body}</table>\n'
+
+
+def clocks(session: Session) -> str:
+    """The clocks of the payload types that came; otherwise that of those without a clock of their own."""
+    rates = {kind: rate for source in session.heard.values() if source.stream
+             for kind, (_, rate) in source.stream.kinds.items()}
+    if not rates:
+        return f"{number(session.options['rate'])} units a second"
+    return "; ".join(f"{number(rate)} units a second (payload type {kind})" for kind, rate in sorted(rates.items()))
 
 
 def peers(session: Session) -> list[tuple[str, str]]:
     """The endpoints that RTCP came from."""
-    names = [name for name in map(endpoint, session.peers) if name]
+    names = [name for name in map(session.endpoint, session.peers) if name]
     more = f" and {len(names) - MOST_PEERS} more" if len(names) > MOST_PEERS else ""
     return [("RTCP came from", ", ".join(names[:MOST_PEERS]) + more)] if names else []
 
@@ -178,8 +245,11 @@ def refusals(session: Session) -> str:
     counts = Counter((fault_of(refused.reason), refused.call) for refused in session.refused)
     rows = "".join(f'<tr><td class="number">{number(count)}</td><td>{names.get(call, call)}</td><td>{shown(fault)}</td>'
                    f"<td>{meaning(fault)}</td></tr>\n" for (fault, call), count in counts.most_common())
-    head = '<tr><th class="number">how many</th><th>call</th><th>fault</th><th>meaning</th></tr>'
-    return section("Refused", "") + f'<div class="scroll"><table>\n{head}\n{rows}</table></div>\n'
+    titles = ("call", "fault", "meaning")
+    head = "".join(f'<th scope="col">{title}</th>' for title in titles)
+    inside = (f'<table>\n<thead><tr><th scope="col" class="number">how many</th>{head}</tr></thead>\n<tbody>\n{rows}'
+              "</tbody></table>")
+    return section("Refused", "") + box("Refused", inside)
 
 
 def meaning(fault: str) -> str:
@@ -212,8 +282,8 @@ def rates(session: Session) -> str:
         return section("RTCP and its bandwidth", "No compound came in or went out.")
     words = (f"The octets of all compounds in and out, each with {HEADERS} of headers of UDP and IP, and the bandwidth "
              "that the session allows for them. Those that begin with an SR are of senders, the rest of the others. "
-             "While the senders are a greater part of the members than their share is of the bandwidth, all share the "
-             "whole.</p>\n"
+             "While the senders are a greater part of the members than their share is of the bandwidth, all members "
+             "share the whole alike.</p>\n"
              f"<p>{rates_in_words(session)}")
     return section("RTCP and its bandwidth", words, ("line", BLUE, "octets a second"),
                    ("dashes", RED, "the share of the bandwidth")) + plots.rates_plot(session)

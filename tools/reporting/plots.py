@@ -1,7 +1,10 @@
 """The plots of a session."""
 from __future__ import annotations
 
+import math
 from collections import defaultdict
+from collections.abc import Iterable
+from dataclasses import dataclass
 
 from reporting.clock import Clock, seconds
 from reporting.session import DISMISSED, JOINED, SAID_BYE, TIMED_OUT, Compound, Heard, Report, Session
@@ -37,6 +40,12 @@ def upper(values: list[float], least: float) -> float:
     return step * -(-high // step)
 
 
+def top_of(percents: Iterable[float]) -> int:
+    """The end of a scale in per cent that has room for these values."""
+    most = max(percents)
+    return next((top for top in TOPS if top >= most), 100)
+
+
 def fault_of(reason: str) -> str:
     """A refusal without the offset in the datagram: such as `E5 F1 Short`, `E6 G3 PayloadType`, `E7 OwnSsrc`."""
     number_and_name, _, fault = reason.partition(": ")
@@ -50,9 +59,8 @@ def line(panel: Panel, data: str, colour: str, more: str = "") -> None:
 # Loss
 
 
-def loss_panel(plot: Plot, title: str, fractions: list[Point], start: int) -> None:
+def loss_panel(plot: Plot, title: str, fractions: list[Point], start: int, top: int) -> None:
     """The part that was lost, in per cent, of the packets expected between two blocks: steps from block to block."""
-    top = next((top for top in TOPS if top >= max(value for _, value, _ in fractions)), 100)
     panel = plot.panel(HEIGHT, top, title)
     panel.scale([top * quarter / 4 for quarter in range(5)], " %")
     moments = [start, *(moment for moment, _, _ in fractions)]
@@ -96,13 +104,15 @@ def add_receptions(sums: dict[int, list[int]], source: Heard) -> None:
 def loss_plot(session: Session, sources: list[Heard]) -> str:
     """Loss of all sources together, if there are several, and of each of these."""
     reported = [source for source in session.heard.values() if source.receptions]
+    panels = [(f"{source.ssrc:08x}, fraction lost, %", loss_of(session, source), source.first) for source in sources]
+    if len(reported) > 1:
+        begins = min(source.first for source in reported)
+        panels.insert(0, ("all sources, lost of the packets expected, %", loss_of_all(session), begins))
+    top = top_of(value for _, points, _ in panels for _, value, _ in points)
 
     def draw(plot: Plot) -> None:
-        if len(reported) > 1:
-            begins = min(source.first for source in reported)
-            loss_panel(plot, "all sources, lost of the packets expected, %", loss_of_all(session), begins)
-        for source in sources:
-            loss_panel(plot, f"{source.ssrc:08x}, fraction lost, %", loss_of(session, source), source.first)
+        for panel in panels:
+            loss_panel(plot, *panel, top)
 
     return picture(session, "The part of the RTP packets that was lost, in per cent", draw)
 
@@ -166,24 +176,48 @@ def shade_leaving(session: Session, panel: Panel) -> None:
 
 def rates_plot(session: Session) -> str:
     """The octets a second of RTCP, in all and of senders and others, against their shares of the bandwidth."""
-    window = window_of(session)
+    window, end = window_of(session), max(session.end, LEAST_TIME)
+    parts = [(who, rates(session, compounds, window), shares) for who, compounds, shares in parts_of(session)]
+    high = upper([value for _, points, shares in parts for _, value in points + shares], 20)
 
     def draw(plot: Plot) -> None:
-        for who, compounds, shares in parts_of(session):
+        for who, points, shares in parts:
             title = f"{who}, octets a second over {number(window // SECOND)} s"
-            rate_panel(plot, title, rates(session, compounds, window), shares, session)
+            rate_panel(plot.panel(HEIGHT * 2 / 3, high, title).scaled(4), points, shares, end)
 
     return picture(session, "Octets a second of RTCP over time, and its shares of the bandwidth", draw)
 
 
-def parts_of(session: Session) -> list[tuple[str, list[Compound], list[tuple[int, int]]]]:
+def parts_of(session: Session) -> list[tuple[str, list[Compound], list[tuple[int, float]]]]:
     """All compounds, those of senders and those of others, each with the moments and the sizes of their share."""
-    compounds = session.came + session.handed_out
-    return [("all", compounds, [(moment, senders + others) for moment, senders, others in session.shares]),
+    compounds, shares = session.came + session.handed_out, shares_of(session)
+    return [("all", compounds, [(moment, senders + others) for moment, senders, others in shares]),
             ("senders", [compound for compound in compounds if compound.is_sender],
-             [(moment, senders) for moment, senders, _ in session.shares]),
+             [(moment, senders) for moment, senders, _ in shares]),
             ("others", [compound for compound in compounds if not compound.is_sender],
-             [(moment, others) for moment, _, others in session.shares])]
+             [(moment, others) for moment, _, others in shares])]
+
+
+def shares_of(session: Session) -> list[tuple[int, float, float]]:
+    """From which moment on senders and others may take which octets a second (RFC 3550, 6.3.1): each their share; or
+    all members alike, where the senders are a greater part of them than of the bandwidth."""
+    found, given, counts = [], iter([*session.shares, (math.inf, 0, 0)]), iter([*session.counts, (math.inf, 0, 0)])
+    next_share, next_count, share, count = next(given), next(counts), None, None
+    while min(next_share[0], next_count[0]) < math.inf:
+        moment = min(next_share[0], next_count[0])
+        while next_share[0] == moment:
+            share, next_share = next_share[1:], next(given)
+        while next_count[0] == moment:
+            count, next_count = next_count[1:], next(counts)
+        found.append((moment, *divided(*share, *count)))
+    return found
+
+
+def divided(senders_share: int, others_share: int, members: int, senders: int) -> tuple[float, float]:
+    whole = senders_share + others_share
+    if senders * whole > members * senders_share:
+        return whole * senders / members, whole * (members - senders) / members
+    return senders_share, others_share
 
 
 def rates_in_words(session: Session) -> str:
@@ -193,7 +227,7 @@ def rates_in_words(session: Session) -> str:
         octets = sum(compound.size + HEADERS for compound in compounds)
         most = max(rate for _, rate in rates(session, compounds, window))
         words.append(f"{who}: {number(octets * SECOND / max(session.end, LEAST_TIME), 1)} on the average, at most "
-                     f"{number(most, 1)}, share {number(shares[-1][1])}")
+                     f"{number(most, 1)}, share {number(shares[-1][1], 1)}")
     return f"Octets a second, over {number(window // SECOND)} seconds each: {'; '.join(words)}."
 
 
@@ -214,15 +248,11 @@ def rates(session: Session, compounds: list[Compound], window: int) -> list[tupl
     return [(number * window, octets * SECOND / length) for number, (octets, length) in enumerate(zip(sums, lengths))]
 
 
-def rate_panel(plot: Plot, title: str, points: list[tuple[int, float]], shares: list[tuple[int, int]],
-               session: Session) -> None:
-    values = [value for _, value in points + shares]
-    panel = plot.panel(HEIGHT * 2 / 3, upper(values, 20), title).scaled(4)
-    end = max(session.end, LEAST_TIME)
+def rate_panel(panel: Panel, points: list[tuple[int, float]], shares: list[tuple[int, float]], end: int) -> None:
     panel.area(points, end, BLUE)
     line(panel, panel.steps(points, end), BLUE)
     line(panel, panel.steps(shares, end), RED, 'stroke-dasharray="6 4"')
-    panel.name_right([(shares[-1][1], f"share: {number(shares[-1][1])}", RED)])
+    panel.name_right([(shares[-1][1], f"share: {number(shares[-1][1], 1)}", RED)])
 
 
 def compounds_plot(session: Session) -> str:
@@ -322,27 +352,47 @@ def spans(reports: list[Report], values: list[float]) -> list[tuple[int, float]]
 # One source
 
 
+@dataclass(frozen=True)
+class Scales:
+    """The ends of the scales of the plots of some sources: the same for all of them."""
+
+    jitter: float
+    trip: float
+    least_trip: float  # clocks that differ or a wrong DLSR can make a round trip negative
+    spacing: float
+
+
+def scales_of(sources: list[Heard]) -> Scales:
+    trips = [1000 * trip for source in sources for _, trip in source.round_trips]
+    return Scales(upper([reception.milliseconds for source in sources for reception in source.receptions], 1),
+                  upper(trips, 1), 1.1 * min(0.0, *trips, 0.0),
+                  upper([(after - before) / 1e6 for source in sources
+                         for before, after in zip(source.reports, source.reports[1:])], 6))
+
+
 def has_plot(source: Heard) -> bool:
     return bool(source.receptions or source.round_trips or len(source.reports) > 1)
 
 
-def source_plot(session: Session, source: Heard) -> str:
+def source_plot(session: Session, source: Heard, scales: Scales) -> str:
     """Jitter, round trips and the spacing of reports of a source, as far as there are any."""
     def draw(plot: Plot) -> None:
         if source.receptions:
-            jitter_panel(session, plot, source)
+            jitter_panel(session, plot.panel(HEIGHT * 2 / 3, scales.jitter, "jitter, ms").scaled(4), source)
         if source.round_trips:
-            round_trip_panel(session, plot, source)
+            panel = plot.panel(HEIGHT * 2 / 3, scales.trip, "round trip, ms", scales.least_trip).scaled(4)
+            trips = [(moment, 1000 * trip) for moment, trip in source.round_trips]
+            panel.marks(titled(session, "round trip", trips), "dot", PURPLE, " ms")
         if len(source.reports) > 1:
-            spacing_panel(session, plot, source)
+            spacing_panel(session, plot.panel(HEIGHT * 2 / 3, scales.spacing, "seconds between its reports").scaled(4),
+                          source)
 
     return picture(session, f"What is known of {source.ssrc:08x}, over time", draw)
 
 
-def jitter_panel(session: Session, plot: Plot, source: Heard) -> None:
+def jitter_panel(session: Session, panel: Panel, source: Heard) -> None:
     points = [(reception.moment, reception.milliseconds) for reception in source.receptions]
-    panel = plot.panel(HEIGHT * 2 / 3, upper([value for _, value in points], 1), "jitter, ms").scaled(4)
-    if not plot.is_full(len(points)):
+    if not panel.plot.is_full(len(points)):
         line(panel, panel.joined(points), GREEN, 'stroke-opacity="0.5"')
     panel.marks(titled(session, "jitter", points), "dot", GREEN, " ms")
 
@@ -353,23 +403,13 @@ def titled(session: Session, name: str, points: list[tuple[int, float]]) -> list
     return [(moment, value, f"{name} {number(value)} ms at {clock.moment(moment)}") for moment, value in points]
 
 
-def round_trip_panel(session: Session, plot: Plot, source: Heard) -> None:
-    """Round trips, which clocks that differ or a wrong DLSR can make negative."""
-    trips = [(moment, 1000 * trip) for moment, trip in source.round_trips]
-    values = [trip for _, trip in trips]
-    panel = plot.panel(HEIGHT * 2 / 3, upper(values, 1), "round trip, ms", 1.1 * min(0.0, *values)).scaled(4)
-    panel.marks(titled(session, "round trip", trips), "dot", PURPLE, " ms")
-
-
-def spacing_panel(session: Session, plot: Plot, source: Heard) -> None:
+def spacing_panel(session: Session, panel: Panel, source: Heard) -> None:
     """The time between two successive compounds that begin with a report of the source."""
-    clock = clock_of(session)
+    clock, plot = clock_of(session), panel.plot
     points = [(after, (after - before) / 1e6,
                f"{source.ssrc:08x} reported at {clock.moment(after)}, {seconds(after - before)} after its previous "
                "report")
               for before, after in zip(source.reports, source.reports[1:])]
-    panel = plot.panel(HEIGHT * 2 / 3, upper([value for _, value, _ in points], 6),
-                       "seconds between its reports").scaled(4)
     y = panel.y(LEAST_SPACING)
     plot.line(plot.left, y, plot.right, y, RED, 'stroke-width="1.5" stroke-dasharray="6 4"')
     panel.name_right([(LEAST_SPACING, "2.05 s", RED)])

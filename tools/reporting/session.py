@@ -16,6 +16,11 @@ from pathlib import Path
 
 sys.path.append(str(Path(__file__).resolve().parents[2] / "compare/model"))
 
+from reporting.capture import LISTENER
+from reporting.clock import endpoint
+from reporting.goodbyes import Goodbye, goodbyes_in
+from reporting.reports import Reports
+from reporting.stream import Stream
 from reporting.table import Table
 
 import decoder
@@ -144,6 +149,8 @@ class Heard:
     receptions: list[Reception] = field(default_factory=list)
     round_trips: list[tuple[int, float]] = field(default_factory=list)  # moments, seconds
     blocked: tuple[int, int] = (0, 0)  # expected and counted at the latest block about it
+    stream: Stream | None = None  # what its RTP packets say themselves
+    sender: int | None = None  # the peer that its latest RTP packet came from
 
     @property
     def datagrams(self) -> int:
@@ -176,6 +183,12 @@ class Session:
         self.identifiers = [(0, options["ssrc"])]  # with the moments at which they were taken
         self.changes: list[tuple[int, int, str]] = []  # of membership: moment, SSRC and what
         self.heard: dict[int, Heard] = {}
+        self.reported = Reports()  # by anybody, this participant included unless it was never there
+        self.is_captured = options["cname"] == LISTENER  # the participant is the one that tools/capture invents
+        self.names: dict[int, str] = {}  # of peers whose number does not tell the endpoint
+        self.notes: list[str] = []  # what is to be said of the capture
+        self.chosen: set[int] | None = None  # the sources that a reader wants to see, if not all
+        self.refused_goodbyes: list[Goodbye] = []
         self.peers: dict[int, None] = {}  # from which RTCP was taken, in their order
         self.packets_sent, self.octets_sent = 0, 0
         self.leave: int | None = None
@@ -200,6 +213,8 @@ class Session:
         self.lines[kind] += 1
         if answer.refusal:
             self.refused.append(Refused(moment, kind.decode(), answer.refusal))
+            if kind == b"rtcp":
+                self._refuse(moment, answer.refusal, *fields)
             if answer.refusal.startswith(EXAMINED):
                 self.end = max(self.end, moment)
             return
@@ -215,6 +230,11 @@ class Session:
             self._count_goodbyes(moment, answer.members - 1)
         if answer.next is None:
             self.left = moment
+
+    def _refuse(self, moment: int, reason: str, peer: bytes, word: bytes, datagram: bytes) -> None:
+        """Takes an RTCP datagram that was refused: whose BYE was in it."""
+        found = goodbyes_in(bytes.fromhex(datagram.decode().removeprefix("-")))
+        self.refused_goodbyes += [Goodbye(moment, ssrc, int(peer), reason) for ssrc in found]
 
     def _count(self, moment: int, answer: Answer) -> None:
         """Takes the members and senders of an answer."""
@@ -239,6 +259,20 @@ class Session:
         """How many packets were expected of all sources, and how many of these were lost."""
         return (sum(source.expected for source in self.heard.values()),
                 sum(source.lost for source in self.heard.values()))
+
+    @property
+    def own(self) -> set[int]:
+        """The SSRCs that this participant has had."""
+        return {ssrc for _, ssrc in self.identifiers}
+
+    def choose(self, ssrcs: set[int], cnames: set[bytes]) -> None:
+        """Leaves the sources that have one of these SSRCs or CNAMEs; all of them if none is given."""
+        if ssrcs or cnames:
+            self.chosen = {ssrc for ssrc, source in self.heard.items() if ssrc in ssrcs or source.cname in cnames}
+
+    def endpoint(self, peer: int | None) -> str:
+        """The address and port of a peer; empty where its number tells none."""
+        return "" if peer is None else self.names.get(peer) or endpoint(peer)
 
     def _is_own(self, ssrc: int) -> bool:
         return ssrc == self.identifiers[-1][1]
@@ -298,8 +332,10 @@ class Session:
             self._take_fact(what, ssrc, moment)
         if kind == DESCRIPTION:
             self._take_names(body, count)
-        if kind in (SENDER_REPORT, RECEIVER_REPORT) and self._told:
-            self._take_round_trips(moment, int.from_bytes(body[:4], "big"), blocks_of(kind, count, body))
+        if kind in (SENDER_REPORT, RECEIVER_REPORT):
+            self.reported.take(moment, kind, count, body)
+            if self._told:
+                self._take_round_trips(moment, int.from_bytes(body[:4], "big"), blocks_of(kind, count, body))
         return {ssrc for what, ssrc, _ in facts if what != "gone"}
 
     def _take_fact(self, what: str, ssrc: int, moment: int) -> None:
@@ -332,20 +368,30 @@ class Session:
                 self.heard[reporter].round_trips.append((moment, trip / 65536))
 
     def _rtp(self, _: Answer, moment: int, peer: bytes, word: bytes, datagram: bytes) -> None:
-        ssrc = int(datagram[16:24], 16)
+        head = int(datagram[:24], 16)
+        ssrc, sequence, kind = head & 0xffffffff, head >> 64 & 0xffff, head >> 80 & 0x7f
         source = self._hear(ssrc, moment)
         source.packets, source.peer = source.packets + 1, int(peer)
-        if self.leave is not None:
-            return
-        rate = self._rate_of(int(datagram[2:4], 16) & 0x7f)
-        expected, joins = self.table.take_packet(ssrc, int(datagram[4:8], 16), rate, moment)
+        source.sender = source.peer
+        if source.stream is None:
+            source.stream = Stream()
+        rate = self._rate_of(kind)
+        source.stream.take(moment, sequence, head >> 32 & 0xffffffff, kind, rate, len(datagram) // 2)
+        if self.leave is None and self._count_packet(source, moment, sequence, rate) and head >> 88 & 0xf:
+            self._hear_contributors(moment, datagram[24:24 + 8 * (head >> 88 & 0xf)])
+
+    def _count_packet(self, source: Heard, moment: int, sequence: int, rate: int) -> bool:
+        """Counts a packet, if the participant does."""
+        expected, joins = self.table.take_packet(source.ssrc, sequence, rate, moment)
         if joins:
-            self._change(moment, ssrc, JOINED)
+            self._change(moment, source.ssrc, JOINED)
         if expected is None:
-            return
+            return False
         source.expected, source.counted = source.expected + expected, source.counted + 1
-        csrcs_end = 24 + 8 * int(datagram[1:2], 16)
-        for csrc in [int(datagram[at:at + 8], 16) for at in range(24, csrcs_end, 8)]:
+        return True
+
+    def _hear_contributors(self, moment: int, csrcs: bytes) -> None:
+        for csrc in [int(csrcs[at:at + 8], 16) for at in range(0, len(csrcs), 8)]:
             if not self._is_own(csrc):
                 self._hear(csrc, moment)
                 self.table.hear(csrc, moment)
@@ -370,6 +416,7 @@ class Session:
         self.reports.append(Report(moment, moment - before, computed))
         self._hand_out(moment, answer, "SR" if is_sender else "RR")
         packets = list(decoder.packets(answer.out))
+        self._report_own(moment, packets)
         if is_sender:
             self._told.add((self.identifiers[-1][1], int.from_bytes(packets[0][2][6:10], "big")))
         blocks = [block for kind, count, body in packets if kind in (SENDER_REPORT, RECEIVER_REPORT)
@@ -377,6 +424,12 @@ class Session:
         for source, fraction, lost, _, jitter, *_ in blocks:
             ssrc = int(source, 16)
             self.heard[ssrc].receive(moment, int(fraction), int(lost), int(jitter), self.table.sources[ssrc].rate)
+
+    def _report_own(self, moment: int, packets: list[tuple[int, int, bytes]]) -> None:
+        """What this participant reported, if it was there."""
+        for kind, count, body in packets if not self.is_captured else []:
+            if kind in (SENDER_REPORT, RECEIVER_REPORT):
+                self.reported.take(moment, kind, count, body)
 
     def _leave(self, answer: Answer, moment: int, word: bytes) -> None:
         if self.leave is None:

@@ -4,11 +4,10 @@ from __future__ import annotations
 from dataclasses import dataclass
 
 from reporting import plots
-from reporting.clock import endpoint
 from reporting.plots import clock_of
 from reporting.session import DISMISSED, JOINED, SAID_BYE, TIMED_OUT, Heard, Session
 from reporting.svg import BLUE, GREEN, PURPLE, RED, number, plural, shown
-from reporting.words import MANY, percent, section
+from reporting.words import MANY, box, percent, section
 
 PLOTTED = 10  # sources with a plot of their own
 MOST_ROWS = 1500  # of the table of sources
@@ -80,6 +79,8 @@ class Column:
     kind: str = "number"
 
 
+COUNTED = ("Packets expected and lost are counted as in report blocks: without the packet that begins a run, and until "
+           "the leave, if there was one.")
 PACKETS, JITTER, TRIPS, PEERS = "packets", "jitter", "trips", "peers"  # columns where some source has such values
 COLUMNS = [
     ("", Column("SSRC", "")), ("", Column("CNAME", "name")), (PACKETS, Column("RTP packets in")),
@@ -90,31 +91,38 @@ COLUMNS = [
 ]
 
 
-def columns_of(sources: list[Heard]) -> set[str]:
+def columns_of(session: Session, sources: list[Heard]) -> set[str]:
     """What some source has a value of."""
     values = {PACKETS: any(source.packets for source in sources),
               JITTER: any(source.receptions for source in sources),
               TRIPS: any(source.round_trips for source in sources),
-              PEERS: any(endpoint(source.peer or 0) for source in sources)}
+              PEERS: any(session.endpoint(source.peer) for source in sources)}
     return {"", *(what for what, is_there in values.items() if is_there)}
+
+
+def whose(session: Session) -> str:
+    """Whose reports a session has."""
+    return "a listener at the capture, which was never there" if session.is_captured else "this participant"
 
 
 def table_of_sources(session: Session) -> str:
     sources = busiest(session)
     if not sources:
         return section("Sources", "No source was heard.")
-    has = columns_of(sources)
-    head = "".join(f'<th class="{column.kind}">{column.title}</th>' for what, column in COLUMNS if what in has)
+    has = columns_of(session, sources)
+    head = "".join(f'<th scope="col" class="{column.kind}">{column.title}</th>'
+                   for what, column in COLUMNS if what in has)
     rows = "".join(row(session, source, has) for source in sources[:MOST_ROWS])
     left_out = len(sources) - MOST_ROWS
     more = f"<p>{plural(left_out, 'more source')}, from which less came, left out.</p>\n" if left_out > 0 else ""
     words = ["Every source that an accepted datagram named, the busiest first."]
-    words += ["Packets expected and lost are counted until the leave, if there was one."] if PACKETS in has else []
-    words += ["Jitter is that of the report blocks of this participant."] if JITTER in has else []
+    words += [COUNTED] if PACKETS in has else []
+    words += [f"Jitter is that of the report blocks of {whose(session)}."] if JITTER in has else []
     words += ["A round trip is the latest one."] if TRIPS in has else []
     words += ["A dash: there is none."] if len(has) > 1 else []
+    table = f'<table class="sources">\n<thead><tr>{head}</tr></thead>\n<tbody>\n{rows}</tbody></table>'
     return (section("Sources", " ".join(words))
-            + f'<div class="scroll tall"><table class="sources">\n<tr>{head}</tr>\n{rows}</table></div>\n{more}')
+            + box("Sources", table, plural(len(sources), "source"), is_tall=len(sources) > 12) + more)
 
 
 def row(session: Session, source: Heard, has: set[str]) -> str:
@@ -127,10 +135,11 @@ def row(session: Session, source: Heard, has: set[str]) -> str:
         jitter = f"{sum(values) / len(values):,.2f}", f"{max(values):,.2f}"
     trip = f"{1000 * source.round_trips[-1][1]:,.2f}" if source.round_trips else "–"
     cells = [f"<code>{source.ssrc:08x}</code>", name_of(source.cname), number(source.packets), *lost, *jitter, trip,
-             number(source.compounds), endpoint(source.peer or 0) or "–", clock.moment(source.first),
+             number(source.compounds), session.endpoint(source.peer) or "–", clock.moment(source.first),
              clock.moment(source.last), fate(session, source)]
-    columns = [f'<td class="{column.kind}">{cell}</td>' for (what, column), cell in zip(COLUMNS, cells) if what in has]
-    return f"<tr>{''.join(columns)}</tr>\n"
+    columns = [f'<td class="{column.kind}">{cell}</td>' for (what, column), cell in zip(COLUMNS[1:], cells[1:])
+               if what in has]
+    return f'<tr><th scope="row">{cells[0]}</th>{"".join(columns)}</tr>\n'
 
 
 def fate(session: Session, source: Heard) -> str:
@@ -159,8 +168,8 @@ def one_by_one(session: Session) -> str:
     which = f"the {PLOTTED} busiest of {number(len(some))}" if len(some) > PLOTTED else plural(len(some), "source")
     shown_ones = some[:PLOTTED]
     words, entries = what_is_shown(shown_ones)
-    heading = section(f"Source by source: {which}", words, *entries)
-    return heading + "".join(source_section(session, source) for source in shown_ones)
+    heading, scales = section(f"Source by source: {which}", words, *entries), plots.scales_of(shown_ones)
+    return heading + "".join(source_section(session, source, scales) for source in shown_ones)
 
 
 def what_is_shown(sources: list[Heard]) -> tuple[str, list[tuple[str, str, str]]]:
@@ -181,7 +190,7 @@ def what_is_shown(sources: list[Heard]) -> tuple[str, list[tuple[str, str, str]]
     return " ".join([*words, MANY]), entries
 
 
-def source_section(session: Session, source: Heard) -> str:
+def source_section(session: Session, source: Heard, scales: plots.Scales) -> str:
     name = f"{name_of(source.cname)} — " if source.cname is not None else ""
     return (f"<h3><code>{source.ssrc:08x}</code> {name}{plural(source.packets, 'RTP packet')}, "
-            f"{plural(source.compounds, 'RTCP compound')}</h3>\n" + plots.source_plot(session, source))
+            f"{plural(source.compounds, 'RTCP compound')}</h3>\n" + plots.source_plot(session, source, scales))

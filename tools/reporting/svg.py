@@ -28,7 +28,12 @@ SHAPES = {
 
 def shown(text: object) -> str:
     """A text as HTML shows it: nothing of it is markup, and each unprintable character is seen as its number."""
-    return html.escape("".join(c if c.isprintable() else f"\\u{{{ord(c):x}}}" for c in str(text)))
+    return html.escape(unmarked(str(text)))
+
+
+def unmarked(text: str) -> str:
+    """A text in which each unprintable character is seen as its number."""
+    return "".join(c if c.isprintable() else f"\\u{{{ord(c):x}}}" for c in text)
 
 
 def number(value: float, places: int = 3) -> str:
@@ -203,7 +208,7 @@ def drawn(label: str, clock: Clock, end: int, draw: Callable[[Plot], None]) -> s
         plot = Plot(layout, clock, end)
         draw(plot)
         pictures += plot.svg(label)
-    return f'<div class="scroll">\n{pictures}</div>\n'
+    return f'<div class="scroll" tabindex="0" role="region" aria-label="{shown(label)}">\n{pictures}</div>\n'
 
 
 Point = tuple[int, float, str]  # its moment, its value and its title
