@@ -1,0 +1,37 @@
+"""The calls of a capture as records, each with the options that replay it."""
+from __future__ import annotations
+
+import random
+from dataclasses import dataclass
+
+from reporting.calls import Choice, calls_of, within
+from reporting.capture import Datagram, clocks_of, datagrams_of, told_apart
+from reporting.record import options_of, record_of, unused
+
+SEED = 1  # of the random words
+
+
+@dataclass(frozen=True)
+class Recorded:
+    """A call."""
+
+    record: bytes
+    options: list[str]  # of the replay
+    names: dict[int, str]  # the endpoints of the peers
+    notes: list[str]  # what is to be said of the capture
+
+
+def recorded_calls(path: str, choice: Choice) -> list[Recorded]:
+    everything, notes = datagrams_of(path, choice.filter)
+    datagrams, more = told_apart(everything, choice.rtp, choice.rtcp)
+    return [recorded(call, choice, [*notes, *more]) for call in calls_of(within(datagrams, choice))]
+
+
+def recorded(datagrams: list[Datagram], choice: Choice, notes: list[str]) -> Recorded:
+    clocks = {**clocks_of(datagrams), **choice.clocks}
+    rng = random.Random(SEED)
+    options = options_of(datagrams, clocks, unused(datagrams, rng))
+    names = {datagram.peer: datagram.source.text for datagram in datagrams}
+    guessed = [f"the clock of payload type {kind} is not known: 8000 is taken, unless --clock {kind}:RATE is given"
+               for kind, rate in sorted(clocks.items()) if rate is None]
+    return Recorded("".join(record_of(datagrams, rng)).encode(), options, names, [*notes, *guessed])
