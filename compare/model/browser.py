@@ -64,13 +64,13 @@ class Browser:
         first, _, self.rest = self.rest.partition(b"\0")
         return json.loads(first)
 
-    def open(self, path, width, is_dark):
-        """Opens a file. A telephone has touch, and a viewport as its page says."""
+    def open(self, path, width, is_dark, medium=""):
+        """Opens a file. A telephone has touch, and a viewport as its page says. The medium may be `print`."""
         is_telephone = width == TELEPHONE
         self.call("Emulation.setDeviceMetricsOverride", width=width, height=812 if is_telephone else 900,
                   deviceScaleFactor=1, mobile=is_telephone)
         scheme = {"name": "prefers-color-scheme", "value": "dark" if is_dark else "light"}
-        self.call("Emulation.setEmulatedMedia", media="", features=[scheme])
+        self.call("Emulation.setEmulatedMedia", media=medium, features=[scheme])
         self.events.clear()
         self.call("Page.navigate", url=f"file://{path}")
         while not any(event.get("method") == "Page.loadEventFired" for event in self.events):

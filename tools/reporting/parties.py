@@ -11,6 +11,7 @@ from reporting.svg import GREEN, PURPLE, RED, number, plural
 from reporting.verdict import Verdict, rate_of
 from reporting.words import Cell, box, section, table
 
+MOST_NAME = 15  # characters of a CNAME in a plot
 MOST_ROWS = 12  # without scrolling
 DRAWN = 6  # pairs with plots of their own
 MOST_PAIRS, MOST_BLOCKS = 400, 600  # rows of the tables
@@ -24,6 +25,8 @@ WORDS = ("What those who heard a source told of it in their report blocks, the w
          "between the source and the reporter, by LSR and DLSR; “at least” is only the way from here to the reporter "
          "and back. Jitter is in milliseconds where the source's clock is known.")
 
+NOBODY = " Nobody listened where the capture was made, so nothing was reported from there."
+
 
 def parties(session: Session, verdicts: list[Verdict]) -> str:
     """The reports of each source, the worst source first, and of these the worst report first."""
@@ -31,7 +34,7 @@ def parties(session: Session, verdicts: list[Verdict]) -> str:
     pairs = [pair for verdict in verdicts for pair in sorted(session.reported.about(verdict.ssrc), key=worst_first)]
     if not pairs:
         return section(title, "No report block came or went out.")
-    words = WORDS + (" Nobody listened where the capture was made: it reported nothing." if session.is_captured else "")
+    words = WORDS + (NOBODY if session.is_captured else "")
     rows = [cells_of_row(session, pair) for pair in pairs[:MOST_PAIRS]]
     more = f"; {number(len(pairs) - MOST_PAIRS)} more are left out" if len(pairs) > MOST_PAIRS else ""
     count = f"{plural(len(pairs), 'row')}: a source and who reported of it{more}"
@@ -119,7 +122,7 @@ def plain_name(session: Session, ssrc: int) -> str:
     if name is None:
         return f"{ssrc:08x}"
     words = name.decode(errors="replace")
-    return f"{words[:14] + ('…' if len(words) > 14 else '')}"
+    return words if len(words) <= MOST_NAME else words[:MOST_NAME].rstrip(".@-") + "…"
 
 
 def fractions(session: Session, pair: Pair) -> Series:

@@ -83,6 +83,7 @@ table.numbers th[scope=row] {{ font-weight: 400; white-space: nowrap; }}
   p.verdict {{ font-size: 16px; }}
   table.sources th[scope=row], table.numbers th[scope=row] {{ position: sticky; left: 0; background: var(--paper);
     max-width: 130px; white-space: normal; }}
+  table.sources td:nth-child(2):not(.number) {{ white-space: normal; min-width: 110px; overflow-wrap: anywhere; }}
 {CARDS}
 }}
 @media print {{
@@ -94,6 +95,7 @@ table.numbers th[scope=row] {{ font-weight: 400; white-space: nowrap; }}
   svg, tr {{ break-inside: avoid; }}
   h2, h3, p.keys {{ break-after: avoid; }}
   .cue {{ display: none; }}
+  .by, p.count {{ font-size: 11px; }}
   table.sources, table.numbers {{ font-size: 10px; }}
   table.sources th, table.sources td, table.numbers td {{ white-space: normal; padding-right: 6px; min-width: 0; }}
 }}
