@@ -39,9 +39,9 @@ CUT_AT_ONCE = Session("rtcp 0 1", [["Duration", "0.000 s"]],
 CUT_AFTER_REFUSAL = Session(FIRST_TICK + "leave 1026037 00000000\ntick 2000000 00000000 00000000\nt",
                             words=["The record was cut after 0:00:02.000: its last line, of which there is 1 octet"])
 
-# Of source 9 the packets 1, 2, 4 and 5 come, of source b the packets 1 to 5; the first of each only begins a run. So of
-# 4 and of 4 expected 1 does not come: 12.5 % of all. Then 7, 9 and 10 of source 9 come: 6 and 8 are missing of 5 more.
-# The second report comes 2.052 seconds after the first, and has no block about b.
+# Of source 9 the packets 1, 2, 4 and 5 come, of source b the packets 1 to 5; the first of each only begins a run. So
+# of 4 and of 4 expected 1 does not come: 12.5 % of all. Then 7, 9 and 10 of source 9 come: 6 and 8 are missing of 5
+# more. The second report comes 2.052 seconds after the first, and has no block about b.
 LOST = Session("".join(media(20_000 * at, 9, at) + media(20_000 * at + 1, 11, at) for at in (1, 2, 4, 5))
                + media(100_002, 11, 3) + FIRST_TICK + "".join(media(2_000_000 + at, 9, at) for at in (7, 9, 10))
                + "tick 3078111 00000000 00000000\n",
@@ -56,7 +56,8 @@ WHOLE = Session("".join(media(20_000 * at, 9, at) for at in (1, 2, 3, 4)) + FIRS
                 [["RTP lost", "0 of 3 packets expected, 0 %"]],
                 words=["Nothing was lost: all of the 3 RTP packets expected came."],
                 none_of=["The part of the RTP packets that was lost", "fraction lost, %", "round trip, ms"])
-# The jitter of the blocks is 0 and then, as a packet comes 32 ms late, 256 / 16 = 16 units: 2 ms, and 1 on the average.
+# The jitter of the blocks is 0 and then, as a packet comes 32 ms late, 256 / 16 = 16 units: 2 ms, and 1 on the
+# average.
 JITTER = Session("".join(f"rtp {20_000 * at} 3 00000000 8000{at:04x}{160 * at:08x}00000009\n" for at in (1, 2, 3))
                  + FIRST_TICK + f"rtp {1_112_000} 3 00000000 80000004{160 * 54:08x}00000009\n"
                  + "tick 3078111 00000000 00000000\n",
@@ -108,8 +109,8 @@ BACKOFF = Session(FIRST_TICK + CROWD + "leave 2000000 80000000\n"
 ENDED = Session(compound(0, RR_7 + NAME_7) + FIRST_TICK + "leave 2000000 00000000\n", words=[">2 members<"],
                 none_of=[">0 members<", "backoff"])
 
-# The NTP timestamp 83aa7e80 is 1970-01-01, 00:00:00 UTC; half a second more is 80000000. From 24 hours less one second
-# on the time of day begins anew. The peer is 127.0.0.1:5005.
+# The NTP timestamp 83aa7e80 is 1970-01-01, 00:00:00 UTC; half a second more is 80000000. From 24 hours less one
+# second on the time of day begins anew. The peer is 127.0.0.1:5005.
 DATED = Session(compound(0, RR_7 + NAME_7, 0x7F000001_138D) + "tick 86399500000 00000000 00000000\n",
                 [["RTCP came from", "127.0.0.1:5005"], ["SSRC", "000000aa from 00:00:00.500 on"],
                  ["00000007", "a", "1", "127.0.0.1:5005", "00:00:00.500", "00:00:00.500", "timed out at 00:00:00.000"]],
@@ -133,7 +134,80 @@ PEERS = Session(compound(0, RR_7, 0x7F000001_138D) + compound(0, SR_7, 0x0A00000
                 [["RTCP came from", "127.0.0.1:5005, 10.0.0.1:5005"]],
                 ["RTCP session of a (000000aa) with 2 peers"])
 
+# 7 sends a report with the NTP timestamp 0.0, whose middle is 00000001. A tenth of a second later 8 has a block about
+# it with a DLSR of 6,144/65,536 seconds: from here to 8 and back it takes 100 - 93.75 = 6.25 ms. Another tenth later
+# 7 has one about 8, with 2,048/65,536: 100 - 31.25 = 68.75 ms. Both together are 75 ms. No clock is known, and no
+# number of packets: of 256 parts 64 and 0 are lost.
+def sender_report(ssrc, ntp, blocks=""):
+    count = len(blocks) // 48
+    return f"{0x80 + count:02x}c8{6 + 6 * count:04x}{ssrc:08x}{ntp:016x}" + "00" * 12 + blocks
+
+
+def block(ssrc, fraction, lost, highest, jitter=0, last_report=0, delay=0):
+    return f"{ssrc:08x}{fraction:02x}{lost:06x}{highest:08x}{jitter:08x}{last_report:08x}{delay:08x}"
+
+
+TRIPS = Session(compound(0, sender_report(7, 1 << 16))
+                + compound(100_000, sender_report(8, 2 << 16, block(7, 64, 5, 100, 40, 1, 6144)))
+                + compound(200_000, sender_report(7, 3 << 16, block(8, 0, 0, 100, 0, 2, 2048))),
+                [["00000007", "00000008", "5", "25.0 % at 0:00:00", "40, at most 40 units", "75.0, at most 75.0", "1",
+                  "0:00:00", "0:00:00"],
+                 ["00000008", "00000007", "0", "0 %", "0, at most 0 units", "75.0, at most 75.0", "1", "0:00:00",
+                  "0:00:00"],
+                 ["\u2717 lossy", "name not known 00000007", "25.0\u00a0% at most, of a block by 00000008",
+                  "75.0 at most 75.0 by 00000008"]],
+                ["round trip 75 ms, by a block at 0:00:00.200"])
+# 8 has two blocks about 7, from 100 to 300 expected packets later: of these 200 it lost 10 more. 7 reports of nobody.
+ONE_WAY = Session(compound(0, sender_report(7, 1 << 16))
+                  + compound(1_000_000, "81c90007" + "00000008" + block(7, 0, 5, 100, 0, 1, 0xe000))
+                  + compound(2_000_000, "81c90007" + "00000008" + block(7, 12, 15, 300, 0, 1, 0x1e000)),
+                  [["00000007", "00000008", "5.0\u00a0%", "10", "200", "4.7 % at 0:00:02", "0, at most 0 units",
+                    "at least 125.0, at most 125.0", "2", "0:00:01", "0:00:02"]],
+                  words=["<strong>5.0\u00a0%</strong>", "10 of 200 by <code>00000008"])
+# The participant sends. 7 reports of it: 3 of 64 packets lost from block to block, 3,000 and 3,064 being the highest.
+# Its report went out at 1,026,037 microseconds with the LSR 000106aa. The block of a second later has a DLSR of 3/4
+# of a second.
+OWN = Session("sent 500000 0 160\n" + FIRST_TICK
+              + compound(2_026_037, "81c90007" + "00000007" + block(0xaa, 0, 1, 3000, 16, 0x000106aa, 0xc000))
+              + compound(3_026_037, "81c90007" + "00000007" + block(0xaa, 12, 4, 3064, 32, 0x000106aa, 0x1c000)),
+              [["a 000000aa (this participant)", "00000007", "4.7\u00a0%", "3", "64", "4.7 % at 0:00:03",
+                "3.00, at most 4.00 ms", "250.0, at most 250.0", "2", "0:00:02", "0:00:03"]],
+              words=["<strong>a</strong> lost 4.7\u00a0%"])
+# Of source 9 the packets 1, 2, 3, 6, 5, 6 again and 9 come: 9 are expected, 4, 7 and 8 are lost, 5 is late. Each
+# comes a second after the one before, with a timestamp 20 ms later: each step is 980 ms too long, so after n of them
+# the jitter is 980 (1 - (15/16)^n).
+ORDER = Session("".join(f"rtp {1_000_000 * at} 3 00000000 8000{number:04x}{160 * at:08x}00000009\n"
+                        for at, number in enumerate((1, 2, 3, 6, 5, 6, 9))),
+                [["00000009", "7", "9", "3", "33.3\u00a0%", "1", "1", "2 times, at most 2 at 0:00:06",
+                  "1.00 s from 0:00:00 on", "193.39", "314.64", "1.0", "0.1", "0 (8,000 Hz): 7 packets"]],
+                ["1 of 2 packets lost, 50.0 %, in the second from 0:00:03 on",
+                 "2 of 3 packets lost, 66.7 %, in the second from 0:00:06 on"],
+                ["lost 33.3\u00a0%", "1 packet came again"])
+# Twelve packets of 12 octets come twice, 5 microseconds apart, all with one timestamp: the steps are 0.005 and 19.995
+# ms in turn, and the rates those of 0.220005 seconds. Then the source falls silent for 3 seconds: until the last
+# tick.
+TWICE = Session("".join(media(20_000 * at, 9, at) + media(20_000 * at + 5, 9, at) for at in range(12))
+                + "tick 3300000 00000000 00000000\n",
+                [["00000009", "24", "12", "0", "0\u00a0%", "0", "12", "0.02 s from 0:00:00 on", "4.78", "7.83", "104.5",
+                  "10.5", "0 (8,000 Hz): 24 packets"]],
+                words=["has sent no media since 0:00:00", "each packet twice: loss cannot be told"])
+# Numbers that begin anew are no loss: 1 to 3, and then 40000 to 40002, the first of which is a stray until the
+# second.
+ANEW = Session("".join(media(20_000 * at, 9, number) for at, number in enumerate((1, 2, 3, 40_000, 40_001, 40_002))),
+               words=["The stream was good.", "0 of 6 here", "1 restart of its numbers"])
+# A BYE in a datagram with no report before it, of a source that had sent.
+REFUSED = Session(media(0, 7, 1) + media(20_000, 7, 2) + compound(30_000, BYE_7, 0x7F000001_138D),
+                  words=["said BYE, which was refused",
+                         "BYE from 127.0.0.1:5005 refused at 0:00:00: E5 F3 FirstType, the first packet is neither an "
+                         "SR nor an RR"])
+# Two of three members send, so all three share the bandwidth of 400 octets a second: 2/3 of it are theirs.
+SHARED = Session(compound(0, SR_7 + NAME_7)
+                 + compound(0, "80c90001" + "00000008" + "81ca0002" + "00000008" + "01016200")
+                 + media(0, 7, 1) + media(1, 7, 2) + media(2, 8, 1) + media(3, 8, 2),
+                 words=["senders: 68 on the average, at most 68, share 266.7; others:", "share 133.3"])
+
 SESSIONS = {"cut": CUT, "cut at once": CUT_AT_ONCE, "cut after a refusal": CUT_AFTER_REFUSAL, "lost": LOST,
             "whole": WHOLE, "jitter": JITTER, "kinds": KINDS, "rates": RATES, "spaced": SPACED, "backoff": BACKOFF,
             "ended": ENDED, "dated": DATED, "next era": NEXT_ERA, "undated": UNDATED, "peers": PEERS,
-            "furthest": FURTHEST, "furthest undated": FURTHEST_UNDATED}
+            "furthest": FURTHEST, "furthest undated": FURTHEST_UNDATED, "trips": TRIPS, "one way": ONE_WAY, "own": OWN,
+            "order": ORDER, "twice": TWICE, "anew": ANEW, "refused": REFUSED, "shared": SHARED}

@@ -80,7 +80,7 @@ def reason(session: Session, verdict: Verdict) -> str:
     if verdict.word == STOPPED:
         return f"has sent no media since {moment(verdict.stopped, 0)}"
     if verdict.word == LOSSY and LOSS in verdict.over:
-        return f"lost {per_cent(verdict.worst.loss.percent)}"
+        return f"lost {per_cent(verdict.worst.percent)}"
     if verdict.word == LOSSY:
         return f"lost {per_cent(verdict.minute.percent)} in the minute from {moment(verdict.minute.moment, 0)} on"
     if verdict.word == DOUBLED:
@@ -141,11 +141,12 @@ def lost(session: Session, verdict: Verdict) -> str:
     if not verdict.losses:
         return ""
     worst, *rest = verdict.losses
-    of = f"{number(worst.loss.lost)} of {number(worst.loss.expected)}{seen_by(session, worst)}"
-    here = next((f"; {per_cent(other.loss.percent)} here" for other in rest if other.reporter is None), "")
+    of = f"{number(worst.loss.lost)} of {number(worst.loss.expected)}" if worst.loss else "at most, of a block"
+    here = next((f"; {per_cent(other.percent)} here" for other in rest if other.reporter is None), "")
     others = [other for other in rest if other.reporter is not None]
-    more = f"; {per_cent(others[0].loss.percent)}{seen_by(session, others[0])}" if others and not here else ""
-    return f'<strong>{per_cent(worst.loss.percent)}</strong> <span class="by">{of}{here}{more}</span>'
+    more = f"; {per_cent(others[0].percent)}{seen_by(session, others[0])}" if others and not here else ""
+    by = f"{of}{seen_by(session, worst)}{here}{more}"
+    return f'<strong>{per_cent(worst.percent)}</strong> <span class="by">{by}</span>'
 
 
 def seen_by(session: Session, measured: Measured | Value) -> str:

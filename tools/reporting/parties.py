@@ -14,7 +14,7 @@ from reporting.words import Cell, box, section, table
 MOST_NAME = 15  # characters of a CNAME in a plot
 MOST_ROWS = 12  # without scrolling
 DRAWN = 6  # pairs with plots of their own
-MOST_PAIRS, MOST_BLOCKS = 400, 600  # rows of the tables
+MOST_PAIRS, MOST_BLOCKS = 400, 300  # rows of the tables
 TITLES = ("of", "reported by", "lost, %", "lost", "expected", "greatest fraction lost", "jitter", "round trip, ms",
           "blocks", "from", "to")
 NUMBERS = ["of, by, at", "fraction, %", "lost in all", "highest number", "jitter", "round trip"]

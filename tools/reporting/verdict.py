@@ -26,8 +26,13 @@ class Measured:
     """What was lost of a stream: as seen here, or as one who hears it reports."""
 
     reporter: int | None  # none for the packets that came here
-    loss: Loss
+    loss: Loss | None  # none where blocks do not tell of how many packets
     minute: Loss | None
+    fraction: float = 0.0  # per cent, as the worst of these blocks has it
+
+    @property
+    def percent(self) -> float:
+        return self.loss.percent if self.loss else self.fraction
 
 
 @dataclass(frozen=True)
@@ -79,7 +84,7 @@ class Verdict:
     @property
     def rank(self) -> tuple:
         """Its place among all streams: the worst comes first."""
-        lost = self.worst.loss.percent if self.worst else 0.0
+        lost = self.worst.percent if self.worst else 0.0
         return WORDS.index(self.word), -lost, -(self.stream.came if self.stream else 0), self.ssrc
 
 
@@ -129,11 +134,11 @@ def measured(stream: Stream | None, pairs: list[Pair]) -> list[Measured]:
     if stream is not None and not stream.is_doubled:
         found.append(Measured(None, stream.loss, worst_minute(stream.by_second())))
     for pair in pairs:
-        if loss := pair.loss(stream):
-            found.append(Measured(pair.reporter, loss, pair.worst_minute(stream)))
-    found.sort(key=lambda one: -one.loss.percent)
+        worst = max(block.percent for block in pair.blocks)
+        found.append(Measured(pair.reporter, pair.loss(stream), pair.worst_minute(stream), worst))
+    found.sort(key=lambda one: -one.percent)
     here = next((one for one in found if one.reporter is None), None)
-    if here and found[0].loss.percent <= MORE * here.loss.percent + LITTLE:
+    if here and found[0].percent <= MORE * here.percent + LITTLE:
         found.sort(key=lambda one: one.reporter is not None)
     return found
 
@@ -175,7 +180,7 @@ def trip_of(session: Session, pairs: list[Pair]) -> Value | None:
 def over(verdict: Verdict, limits: Limits) -> set[str]:
     """What passes its limit."""
     found, minute = set(), verdict.minute
-    if verdict.worst and verdict.worst.loss.percent > limits.loss:
+    if verdict.worst and verdict.worst.percent > limits.loss:
         found.add(LOSS)
     if minute and minute.percent > limits.minute:
         found.add(MINUTE)
