@@ -291,5 +291,17 @@ def two_calls():
     return Call([carol, dave], 30, begin=10 * SECOND).put_on(wire)
 
 
+def with_picture():
+    """Sound and picture of Alice and Bob, each with a port and an SSRC of its own. Of her picture 60 packets are lost."""
+    rng = random.Random(107)
+    wire = Call(pair(), 30).put_on(Wire())
+    (near, _), (far, _) = V4
+    alice, bob = pair(((near, 4002), (far, 6002)))
+    alice.ssrc, bob.ssrc, alice.lost_before = ALICE + 1, BOB + 1, chosen(rng, 60, 1500)
+    for party in (alice, bob):
+        party.kind, party.units = 96, 1800
+    return Call([alice, bob], 30, begin=SECOND // 2).put_on(wire)
+
+
 CAPTURES = {"asymmetric": asymmetric, "stopped": stopped, "refused": refused, "doubled": doubled, "opus": opus,
-            "crowd": crowd, "ipv6": over_ipv6, "two calls": two_calls}
+            "crowd": crowd, "ipv6": over_ipv6, "two calls": two_calls, "with picture": with_picture}

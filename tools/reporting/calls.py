@@ -6,8 +6,11 @@ from dataclasses import dataclass, field
 from datetime import datetime
 
 from reporting.capture import LEAST_RTCP, LEAST_RTP, Datagram, Endpoint, Failure
+from reporting.goodbyes import packets_of
 from reporting.reports import BLOCK, RECEIVER_REPORT, SENDER_REPORT
 
+DESCRIPTION, CNAME = 202, 1  # the types of a packet and of its item
+TOGETHER = 3 * 10**6  # microseconds between the first datagrams of sound and picture
 DAY = 86_400 * 10**6  # microseconds
 TIME = re.compile(r"(\+)?(?:([0-9]{1,3}):)?(?:([0-9]{1,2}):)?([0-9]{1,6}(?:\.[0-9]{1,6})?)")
 DATED = re.compile(r"([0-9]{4}-[0-9]{2}-[0-9]{2})[T ]([0-9]{2}:[0-9]{2}:[0-9]{2})")
@@ -81,13 +84,15 @@ class Groups:
 
 def calls_of(datagrams: list[Datagram]) -> list[list[Datagram]]:
     """The datagrams by call, those of the call that began first before. A call is of the ports that exchange datagrams,
-    with those of the same SSRC from the same host, and of those who report of each other."""
+    with those of the same SSRC from the same host, and of those who report of each other. Sound and picture of a host
+    are one call if they have one CNAME and begin together."""
     groups = Groups()
     for datagram in datagrams:
         groups.join(port_of(datagram.source), port_of(datagram.target))
         if (ssrc := ssrc_of(datagram)) is not None:
             groups.join(port_of(datagram.source), (datagram.source.address, ssrc))
     join_reports(groups, datagrams)
+    join_names(groups, datagrams)
     calls: dict[object, list[Datagram]] = {}
     for datagram in datagrams:
         calls.setdefault(groups.of(port_of(datagram.source)), []).append(datagram)
@@ -116,6 +121,33 @@ def join_reports(groups: Groups, datagrams: list[Datagram]) -> None:
             those = {groups.of(thing) for thing in of_ssrc.get(source, ())}
             if len(those) == 1:
                 groups.join(port_of(datagram.source), those.pop())
+
+
+def join_names(groups: Groups, datagrams: list[Datagram]) -> None:
+    """What a host sends under one CNAME belongs together, if it begins together."""
+    began: dict[object, int] = {}
+    of_name: dict[tuple[str, bytes], list[object]] = {}
+    for datagram in datagrams:
+        port = port_of(datagram.source)
+        began.setdefault(groups.of(port), datagram.time)
+        if name := cname_in(datagram):
+            of_name.setdefault((datagram.source.address, name), []).append(port)
+    for ports in of_name.values():
+        first, *rest = sorted({groups.of(port) for port in ports}, key=lambda group: began[group])
+        for group in rest:
+            if began[group] - began[first] <= TOGETHER:
+                groups.join(first, group)
+
+
+def cname_in(datagram: Datagram) -> bytes:
+    """The CNAME of the first chunk of a compound; empty if it has none."""
+    for kind, count, body in packets_of(datagram.octets) if datagram.kind == "rtcp" else ():
+        at = 4  # after the SSRC
+        while kind == DESCRIPTION and count and at + 1 < len(body) and body[at]:
+            if body[at] == CNAME:
+                return body[at + 2:at + 2 + body[at + 1]]
+            at += 2 + body[at + 1]
+    return b""
 
 
 def sources_of(datagram: Datagram) -> list[int]:

@@ -11,6 +11,7 @@ UDP_HEADER = 8
 LEAST_RTP, LEAST_RTCP = 12, 8  # octets
 FIRST_RTCP, LAST_RTCP = 192, 223  # second octets of RTCP (RFC 5761, 4): payload types 64 to 95 with a marker
 SENDER_REPORT, RECEIVER_REPORT = 200, 201
+LEAST_SENDER_REPORT = 28  # octets
 MOST_AHEAD = 3000  # sequence numbers from a packet to the next one of a flow of RTP
 LISTENER = b"listener@capture"  # the CNAME of the participant of a record that was made of a capture
 CUT_SHORT = "cut short in the middle of a packet"
@@ -179,21 +180,34 @@ def carries_rtcp(flow: list[bytes]) -> bool:
 
 def clocks_of(datagrams: list[Datagram]) -> dict[int, int | None]:
     """The clock of each payload type that came, in units a second: that of RFC 3551, or the usual one that is nearest
-    to what its timestamps say; none if no usual one is near."""
+    to what sender reports say, or else the timestamps of packets; none if no usual one is near."""
     runs: dict[tuple[int, bytes], list[tuple[int, int]]] = defaultdict(list)
     for datagram in datagrams:
         if datagram.kind == "rtp" and len(datagram.octets) >= LEAST_RTP:
             octets = datagram.octets
             runs[octets[1] & 0x7f, octets[8:12]].append((datagram.time, int.from_bytes(octets[4:8], "big")))
-    longest: dict[int, list[tuple[int, int]]] = {}
-    for (kind, _), run in runs.items():
-        longest[kind] = max(run, longest.get(kind, []), key=len)
-    return {kind: STATIC.get(kind, 8000) if kind <= LAST_STATIC else rate_of(run) for kind, run in longest.items()}
+    longest: dict[int, tuple[bytes, list[tuple[int, int]]]] = {}
+    for (kind, ssrc), run in runs.items():
+        longest[kind] = max((ssrc, run), longest.get(kind, (b"", [])), key=lambda one: len(one[1]))
+    reported = sender_reports(datagrams)
+    return {kind: STATIC.get(kind, 8000) if kind <= LAST_STATIC else rate_of(reported[ssrc]) or rate_of(run)
+            for kind, (ssrc, run) in longest.items()}
+
+
+def sender_reports(datagrams: list[Datagram]) -> dict[bytes, list[tuple[int, int]]]:
+    """The moments and the RTP timestamps that the sender reports of each SSRC tell, in microseconds and in units."""
+    found: dict[bytes, list[tuple[int, int]]] = defaultdict(list)
+    for datagram in datagrams:
+        octets = datagram.octets
+        if datagram.kind == "rtcp" and len(octets) >= LEAST_SENDER_REPORT and octets[1] == SENDER_REPORT:
+            ntp, timestamp = int.from_bytes(octets[8:16], "big"), int.from_bytes(octets[16:20], "big")
+            found[octets[4:8]].append((ntp * 10**6 >> 32, timestamp))
+    return found
 
 
 def rate_of(run: list[tuple[int, int]]) -> int | None:
     """The usual rate that is nearest to that of timestamps, which begin anew after 2^32 - 1."""
-    time = run[-1][0] - run[0][0]
+    time = run[-1][0] - run[0][0] if run else 0
     if time < LEAST_TIME:
         return None
     steps = [(after - before + 2**31) % 2**32 - 2**31 for (_, before), (_, after) in zip(run, run[1:])]

@@ -19,6 +19,7 @@ class Recorded:
     options: list[str]  # of the replay
     names: dict[int, str]  # the endpoints of the peers
     notes: list[str]  # what is to be said of the capture
+    guessed: set[int]  # payload types whose clock is not known
 
 
 def recorded_calls(path: str, choice: Choice) -> list[Recorded]:
@@ -32,6 +33,7 @@ def recorded(datagrams: list[Datagram], choice: Choice, notes: list[str]) -> Rec
     rng = random.Random(SEED)
     options = options_of(datagrams, clocks, unused(datagrams, rng))
     names = {datagram.peer: datagram.source.text for datagram in datagrams}
-    guessed = [f"the clock of payload type {kind} is not known: 8000 is taken, unless --clock {kind}:RATE is given"
-               for kind, rate in sorted(clocks.items()) if rate is None]
-    return Recorded("".join(record_of(datagrams, rng)).encode(), options, names, [*notes, *guessed])
+    guessed = {kind for kind, rate in clocks.items() if rate is None}
+    more = [f"the clock of payload type {kind} is not known, so no jitter is told, unless --clock {kind}:RATE is given"
+            for kind in sorted(guessed)]
+    return Recorded("".join(record_of(datagrams, rng)).encode(), options, names, [*notes, *more], guessed)

@@ -8,8 +8,8 @@ from reporting.series import Series, figure, losses_figure, numbers
 from reporting.session import Session
 from reporting.sources import name_of
 from reporting.stream import SECOND, Part, Stream, by_parts
-from reporting.svg import BLUE, GREEN, RED, number, plural
-from reporting.verdict import Verdict
+from reporting.svg import BLUE, GREEN, RED, Point, number, plural
+from reporting.verdict import Verdict, has_jitter
 from reporting.words import Cell, box, section, table
 
 DRAWN = 6  # streams with plots of their own
@@ -41,7 +41,7 @@ def cells_of_row(session: Session, verdict: Verdict) -> list[Cell]:
     stream = verdict.stream
     time = max(stream.last - stream.first, 1) / SECOND
     strays = f" and {number(stream.strays)} of no run" if stream.strays else ""
-    jitters = (stream.mean_jitter, stream.most_jitter) if stream.is_measured else ()
+    jitters = (stream.mean_jitter, stream.most_jitter) if has_jitter(session, stream) else ()
     rates = ((stream.came - 1) / time, 8 * stream.octets / time / 1000) if stream.came > 1 else ()
     return [Cell(label(session, verdict)),
             *(Cell(number(count), True) for count in (stream.came, stream.expected, stream.lost)),
@@ -49,16 +49,16 @@ def cells_of_row(session: Session, verdict: Verdict) -> list[Cell]:
             Cell(number(stream.repeated) + strays, True), Cell(in_a_row(session, stream)),
             Cell(silence_of(session, stream)),
             *([Cell(f"{jitter:,.2f}", True) for jitter in jitters] or [Cell("", True)] * 2),
-            *([Cell(f"{rate:,.1f}", True) for rate in rates] or [Cell("", True)] * 2), Cell(kinds(stream))]
+            *([Cell(f"{rate:,.1f}", True) for rate in rates] or [Cell("", True)] * 2), Cell(kinds(session, stream))]
 
 
 def in_a_row(session: Session, stream: Stream) -> str:
     """The losses one after the other: how often, and where most were lost."""
-    bursts = stream.bursts()
-    if not bursts:
+    if not stream.gaps:
         return ""
-    most = max(bursts, key=lambda burst: burst.size)
-    return f"{plural(len(bursts), 'time')}, at most {number(most.size)} at {clock_of(session).moment(most.moment, 0)}"
+    most = max(stream.gaps, key=lambda gap: gap.size)
+    when = clock_of(session).moment(most.moment, 0)
+    return f"{plural(len(stream.gaps), 'time')}, at most {number(most.size)} at {when}"
 
 
 def silence_of(session: Session, stream: Stream) -> str:
@@ -66,9 +66,10 @@ def silence_of(session: Session, stream: Stream) -> str:
     return f"{stream.gap / SECOND:,.2f} s from {when} on" if stream.gap else ""
 
 
-def kinds(stream: Stream) -> str:
+def kinds(session: Session, stream: Stream) -> str:
     """The payload types that came, with their clocks."""
-    return "; ".join(f"{kind} ({number(rate)} Hz): {plural(count, 'packet')}"
+    return "; ".join(f"{kind} ({'clock not known' if kind in session.guessed else f'{number(rate)} Hz'}): "
+                     f"{plural(count, 'packet')}"
                      for kind, (count, rate) in sorted(stream.kinds.items(), key=lambda kind: -kind[1][0]))
 
 
@@ -92,14 +93,16 @@ def pictures(session: Session, verdicts: list[Verdict], count: int) -> str:
         count, "stream")
     size = part_size(session)
     parts = {verdict.ssrc: by_parts(verdict.stream, size) for verdict in verdicts}
-    lossy = [verdict for verdict in verdicts if verdict.stream.missing]
+    lossy = [verdict for verdict in verdicts if verdict.stream.lost]
     plots = ""
     if lossy:
         plots += section_of(f"Lost in each second: {which}", ("area", RED, "lost, of those expected in a second"))
         plots += losses_figure(session, "lost in each second", [losses_of(session, verdict) for verdict in lossy])
-    plots += section_of(f"Jitter: {which}", ("dot", GREEN, f"on the average of {size} s"))
-    plots += figure(session, "jitter", "ms", [jitters_of(session, verdict, parts[verdict.ssrc])
-                                              for verdict in verdicts], GREEN)
+    jitters = [jitters_of(session, verdict, parts[verdict.ssrc]) for verdict in verdicts
+               if has_jitter(session, verdict.stream)]
+    if jitters:
+        plots += section_of(f"Jitter: {which}", ("dot", GREEN, f"on the average of {size} s"))
+        plots += figure(session, "jitter", "ms", jitters, GREEN)
     plots += section_of(f"Bit rate: {which}", ("dot", BLUE, f"on the average of {size} s"))
     plots += figure(session, "bit rate", "kbit/s", [rates_of(session, verdict, parts[verdict.ssrc], size)
                                                     for verdict in verdicts], BLUE)
@@ -119,9 +122,13 @@ def part_size(session: Session) -> int:
 
 def losses_of(session: Session, verdict: Verdict) -> Series:
     moment, end = clock_of(session).moment, max(session.end, LEAST_TIME)
-    points = [(min(loss.moment + SECOND, end), loss.percent,
-               f"{number(loss.lost)} of {plural(loss.expected, 'packet')} lost, {loss.percent:.1f} %, in the second "
-               f"from {moment(loss.moment, 0)} on") for loss in verdict.stream.by_second()]
+    points: list[Point] = []
+    for loss in verdict.stream.by_second():
+        if points and loss.moment > points[-1][0]:  # seconds in which nothing came
+            points.append((loss.moment, 0.0, ""))
+        words = (f"{number(loss.lost)} of {plural(loss.expected, 'packet')} lost, {loss.percent:.1f} %, in the second "
+                 f"from {moment(loss.moment, 0)} on")
+        points.append((min(loss.moment + SECOND, end), loss.percent, words))
     return Series(plain(session, verdict), points, verdict.stream.first // SECOND * SECOND)
 
 
@@ -152,6 +159,7 @@ def bit_rate(stream: Stream, part: Part, size: int) -> float:
 
 def cells_of(session: Session, verdict: Verdict, part: Part, size: int) -> list[str]:
     when, stream = clock_of(session).moment(part.moment, 0), verdict.stream
+    jitters = [number(value, 2) if has_jitter(session, stream) else "–" for value in (part.jitter, part.most)]
     return [f"{label(session, verdict)} {when}", number(part.came), number(part.lost), f"{part.percent:.1f}",
-            number(part.again), number(part.jitter, 2), number(part.most, 2),
+            number(part.again), *jitters,
             f"{part.came / length_of(stream, part, size):,.1f}", f"{bit_rate(stream, part, size):,.1f}"]

@@ -59,7 +59,7 @@ def index(calls: list[tuple[Session, list[Verdict]]]) -> str:
     rows = "".join(index_row(at, *call) for at, call in enumerate(calls, 1))
     titles = ("call", "between", "verdict", "began", "lasted", "streams")
     head = "".join(f'<th scope="col">{title}</th>' for title in titles)
-    table = f"<table>\n<thead><tr>{head}</tr></thead>\n<tbody>\n{rows}</tbody></table>"
+    table = f'<table class="calls">\n<thead><tr>{head}</tr></thead>\n<tbody>\n{rows}</tbody></table>'
     return (f'<h1>{number(len(calls))} calls of a capture</h1>\n<p class="verdict">{words}</p>\n'
             + box("Calls", table, f"{number(len(calls))} calls, the worst first", is_tall=len(calls) > 12))
 
@@ -170,7 +170,9 @@ def clocks(session: Session) -> str:
              for kind, (_, rate) in source.stream.kinds.items()}
     if not rates:
         return f"{number(session.options['rate'])} units a second"
-    return "; ".join(f"{number(rate)} units a second (payload type {kind})" for kind, rate in sorted(rates.items()))
+    words = {kind: "not known" if kind in session.guessed else f"{number(rate)} units a second"
+             for kind, rate in sorted(rates.items())}
+    return "; ".join(f"{text} (payload type {kind})" for kind, text in words.items())
 
 
 def peers(session: Session) -> list[tuple[str, str]]:

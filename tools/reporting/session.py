@@ -187,6 +187,7 @@ class Session:
         self.is_captured = options["cname"] == LISTENER  # the participant is the one that tools/capture invents
         self.names: dict[int, str] = {}  # of peers whose number does not tell the endpoint
         self.notes: list[str] = []  # what is to be said of the capture
+        self.guessed: set[int] = set()  # payload types whose clock is not known
         self.chosen: set[int] | None = None  # the sources that a reader wants to see, if not all
         self.refused_goodbyes: list[Goodbye] = []
         self.peers: dict[int, None] = {}  # from which RTCP was taken, in their order

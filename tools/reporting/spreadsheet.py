@@ -13,7 +13,7 @@ from reporting.reports import Pair
 from reporting.session import Session
 from reporting.stream import SECOND, Part, Stream, by_parts
 from reporting.svg import unmarked
-from reporting.verdict import by_source, rate_of
+from reporting.verdict import by_source, has_jitter, rate_of
 
 TITLES = ("call", "ssrc", "cname", "by", "from", "to", "expected", "lost", "lost_percent", "came", "again", "jitter_ms",
           "greatest_jitter_ms", "kbit_s", "round_trip_ms", "round_trip_is_whole")
@@ -64,8 +64,9 @@ def time_of(session: Session, moment: int) -> str:
 def part_cells(session: Session, stream: Stream, part: Part, interval: int) -> list:
     begin, end = max(part.moment, stream.first), min(part.moment + interval * SECOND, stream.last)
     rate = 8 * part.octets / max(end - begin, SECOND) * SECOND / 1000
+    jitters = [f"{value:.3f}" if has_jitter(session, stream) else "" for value in (part.jitter, part.most)]
     return [time_of(session, begin), time_of(session, end), part.expected, part.lost, f"{part.percent:.3f}", part.came,
-            part.again, f"{part.jitter:.3f}", f"{part.most:.3f}", f"{rate:.3f}", "", ""]
+            part.again, *jitters, f"{rate:.3f}", "", ""]
 
 
 def block_cells(session: Session, pair: Pair) -> list[list]:

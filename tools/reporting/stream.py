@@ -4,6 +4,7 @@ Unlike the participant's report blocks, this counts from the first packet of a r
 never taken for one that was lost."""
 from __future__ import annotations
 
+from bisect import bisect_left
 from collections import Counter
 from dataclasses import dataclass
 from itertools import accumulate
@@ -13,6 +14,7 @@ from reporting.table import MOST_AHEAD, MOST_BEHIND
 SECOND = 10**6  # microseconds
 WINDOW = 60  # seconds of a worst minute
 CYCLE = 2**16  # sequence numbers
+MOST = 10_000  # parts of the time, of which some may have nothing
 DOUBLED = 0.9  # the part of the packets that has to come again where each is said to come twice
 
 
@@ -40,20 +42,26 @@ class Loss:
         return 100 * self.lost / self.expected if self.expected > 0 else 0.0
 
 
-@dataclass(frozen=True)
-class Burst:
-    """Packets lost one after the other. The moment is that of the packet after them."""
+@dataclass(frozen=True, slots=True)
+class Gap:
+    """Packets in a row that did not come: their extended sequence numbers, from the first one to the end, which is one
+    that came. The moment is that of the packet which showed it."""
 
+    first: int
+    end: int
     moment: int
-    size: int
+
+    @property
+    def size(self) -> int:
+        return self.end - self.first
 
 
 class Stream:
     """The RTP packets of a source: filled by one call of `take` for each, in the order in which they came."""
 
     __slots__ = ("came", "repeated", "late", "strays", "restarts", "octets", "first", "last", "gap", "gap_from",
-                 "seconds", "kinds", "jitter", "most", "missing", "first_sequence", "_sum", "_measured", "_expected",
-                 "_first", "_greatest", "_stray", "_rate", "_timestamp")
+                 "seconds", "kinds", "jitter", "most", "gaps", "lost", "first_sequence", "_sum", "_measured",
+                 "_expected", "_first", "_greatest", "_run", "_stray", "_rate", "_timestamp")
 
     def __init__(self) -> None:
         self.came = self.repeated = self.late = self.strays = self.restarts = self.octets = 0
@@ -63,9 +71,11 @@ class Stream:
         self.kinds: dict[int, list[int]] = {}  # by payload type: how many packets, and the rate of its clock
         self.jitter = self.most = self._sum = 0.0  # as RFC 3550, A.8, in microseconds: now, the greatest, their sum
         self._measured = 0  # packets that the jitter was computed at
-        self.missing: dict[int, int] = {}  # extended sequence numbers that did not come, and when that was seen
+        self.gaps: list[Gap] = []  # in the order of their numbers
+        self.lost = 0  # packets in all of these
         self._expected = 0  # packets of the runs before this one
         self._first = self._greatest = -1  # extended sequence numbers of this run
+        self._run = 0  # how many gaps are of the runs before
         self._stray: int | None = None
         self._rate = self._timestamp = 0
 
@@ -112,7 +122,8 @@ class Stream:
         """Takes a packet that is not the next one. Whether it is one more of those that came before, or of no run."""
         ahead = (sequence - self._greatest) % CYCLE
         if 0 < ahead < MOST_AHEAD:
-            self.missing.update(dict.fromkeys(range(self._greatest + 1, self._greatest + ahead), moment))
+            self.gaps.append(Gap(self._greatest + 1, self._greatest + ahead, moment))
+            self.lost += ahead - 1
             self._greatest += ahead
             return False
         if ahead == 0 or ahead > CYCLE - MOST_BEHIND:
@@ -127,20 +138,35 @@ class Stream:
     def _take_late(self, moment: int, number: int) -> bool:
         """Takes a packet of this extended number, which lies behind. Whether it had not come before."""
         if number < self._first:
-            self.missing.update(dict.fromkeys(range(number + 1, self._first), moment))
+            if size := self._first - number - 1:
+                self.gaps.insert(self._run, Gap(number + 1, self._first, moment))
+                self.lost += size
             self._first = number
-        elif self.missing.pop(number, None) is None:
+        elif not self._fill(number):
             self.repeated += 1
             return False
         self.late += 1
         return True
+
+    def _fill(self, number: int) -> bool:
+        """Takes a number out of the gap that it is in. Whether there is one."""
+        for at in range(len(self.gaps) - 1, self._run - 1, -1):
+            gap = self.gaps[at]
+            if number >= gap.end:
+                break
+            if number >= gap.first:
+                rest = [Gap(gap.first, number, gap.moment), Gap(number + 1, gap.end, gap.moment)]
+                self.gaps[at:at + 1] = [one for one in rest if one.size]
+                self.lost -= 1
+                return True
+        return False
 
     def _begin_anew(self, sequence: int) -> None:
         """A run begins with a stray and this packet, which follows it. Its numbers are those of a later cycle."""
         self._expected += self._greatest - self._first + 1
         self._greatest = (self._greatest // CYCLE + 2) * CYCLE + sequence
         self._first = self._greatest - 1
-        self._stray = None
+        self._stray, self._run = None, len(self.gaps)
         self.restarts, self.strays = self.restarts + 1, self.strays - 1
 
     # What follows from all of them
@@ -149,10 +175,6 @@ class Stream:
     def expected(self) -> int:
         """Packets from the first to the greatest sequence number, of all runs."""
         return self._expected + self._greatest - self._first + 1
-
-    @property
-    def lost(self) -> int:
-        return len(self.missing)
 
     @property
     def rate(self) -> int:
@@ -184,40 +206,33 @@ class Stream:
 
     def lost_by_second(self) -> dict[int, int]:
         """How many were lost in each second: when the next packet that came showed it."""
-        return Counter(moment // SECOND for moment in self.missing.values())
+        found: Counter[int] = Counter()
+        for gap in self.gaps:
+            found[gap.moment // SECOND] += gap.size
+        return found
 
     def by_second(self) -> list[Loss]:
-        """The loss of each second from the first packet to the last one."""
-        lost, nothing = self.lost_by_second(), Second()
-        found = []
-        for at in range(self.first // SECOND, self.last // SECOND + 1):
-            second = self.seconds.get(at, nothing)
-            found.append(Loss(at * SECOND, lost.get(at, 0), second.came - second.again + lost.get(at, 0)))
-        return found
-
-    def bursts(self) -> list[Burst]:
-        """The packets lost in a row, by their sequence numbers."""
-        found: list[Burst] = []
-        before = None
-        for number in sorted(self.missing):
-            if number - 1 == before:
-                found[-1] = Burst(found[-1].moment, found[-1].size + 1)
-            else:
-                found.append(Burst(self.missing[number], 1))
-            before = number
-        return found
+        """The loss of each second in which a packet came."""
+        lost = self.lost_by_second()
+        return [Loss(at * SECOND, lost.get(at, 0), second.came - second.again + lost.get(at, 0))
+                for at, second in sorted(self.seconds.items())]
 
 
 def worst_minute(seconds: list[Loss]) -> Loss | None:
-    """The sixty seconds in a row with the greatest part lost, or all of them where there are fewer."""
+    """The sixty seconds with the greatest part lost; all of them, where they are fewer."""
     if not seconds:
         return None
-    size = min(WINDOW, len(seconds))
+    moments = [second.moment // SECOND for second in seconds]
     lost = [0, *accumulate(second.lost for second in seconds)]
     expected = [0, *accumulate(second.expected for second in seconds)]
-    windows = [Loss(seconds[at].moment, lost[at + size] - lost[at], expected[at + size] - expected[at])
-               for at in range(len(seconds) - size + 1)]
-    return max(windows, key=lambda window: (window.percent, window.lost))
+    first, last = moments[0], max(moments[0], moments[-1] - WINDOW + 1)
+    # Where a second with packets leaves the sixty seconds, or comes into them
+    starts = {first, *(at for moment in moments for at in (moment + 1, moment - WINDOW + 1) if first <= at <= last)}
+    windows = []
+    for start in starts:
+        begin, end = bisect_left(moments, start), bisect_left(moments, start + WINDOW)
+        windows.append(Loss(start * SECOND, lost[end] - lost[begin], expected[end] - expected[begin]))
+    return max(windows, key=lambda window: (window.percent, window.lost, -window.moment))
 
 
 @dataclass(frozen=True)
@@ -242,11 +257,15 @@ class Part:
 
 
 def by_parts(stream: Stream, size: int) -> list[Part]:
-    """Parts of so many seconds each, from that of the first packet to that of the last one."""
-    lost, sums = stream.lost_by_second(), {}
-    for at in range(stream.first // SECOND, stream.last // SECOND + 1):
-        sums.setdefault(at // size, []).append((stream.seconds.get(at, Second()), lost.get(at, 0)))
-    return [part_of(at * size * SECOND, seconds) for at, seconds in sums.items()]
+    """Parts of so many seconds each, from that of the first packet to that of the last one; those in which nothing came
+    are left out where there are very many."""
+    lost, first, last = stream.lost_by_second(), stream.first // SECOND // size, stream.last // SECOND // size
+    parts: dict[int, list[tuple[Second, int]]] = {}
+    if last - first < MOST:
+        parts = {at: [] for at in range(first, last + 1)}
+    for at, second in sorted(stream.seconds.items()):
+        parts.setdefault(at // size, []).append((second, lost.get(at, 0)))
+    return [part_of(at * size * SECOND, seconds) for at, seconds in parts.items()]
 
 
 def part_of(moment: int, seconds: list[tuple[Second, int]]) -> Part:
@@ -254,4 +273,4 @@ def part_of(moment: int, seconds: list[tuple[Second, int]]) -> Part:
     return Part(moment, came, sum(second.again for second, _ in seconds), sum(lost for _, lost in seconds),
                 sum(second.octets for second, _ in seconds),
                 sum(second.jitter for second, _ in seconds) / came / 1000 if came else 0.0,
-                max(second.most for second, _ in seconds) / 1000)
+                max((second.most for second, _ in seconds), default=0.0) / 1000)

@@ -54,6 +54,7 @@ td.number, th.number {{ text-align: right; font-variant-numeric: tabular-nums; }
 code {{ font-family: ui-monospace, monospace; white-space: nowrap; }}
 .by {{ color: var(--faint); font-size: 13px; font-weight: 400; }}
 table.facts th {{ white-space: nowrap; }}
+table.calls th, table.calls td:nth-child(5) {{ white-space: nowrap; }}
 table.verdicts {{ width: 100%; font-variant-numeric: tabular-nums; }}
 table.verdicts .by {{ display: block; line-height: 1.3; }}
 table.verdicts th, table.verdicts td {{ overflow-wrap: anywhere; min-width: 74px; padding-right: 10px; }}

@@ -146,7 +146,7 @@ def measured(stream: Stream | None, pairs: list[Pair]) -> list[Measured]:
 def jitter_of(session: Session, verdict: Verdict, pairs: list[Pair]) -> Value | None:
     """The greatest jitter on the average: as seen here, or as others report it where a clock is known."""
     found = []
-    if verdict.stream is not None and verdict.stream.is_measured:
+    if verdict.stream is not None and has_jitter(session, verdict.stream):
         found.append(Value(None, verdict.stream.mean_jitter, verdict.stream.most_jitter))
     rate = rate_of(session, verdict.ssrc)
     for pair in pairs if rate else []:
@@ -155,11 +155,16 @@ def jitter_of(session: Session, verdict: Verdict, pairs: list[Pair]) -> Value | 
     return max(found, key=lambda value: value.mean, default=None)
 
 
+def has_jitter(session: Session, stream: Stream) -> bool:
+    """Whether a jitter can be told of a stream: that takes a clock that is known."""
+    return stream.is_measured and not session.guessed & stream.kinds.keys()
+
+
 def rate_of(session: Session, ssrc: int) -> int | None:
     """The clock of a source: that of its newest packet, or what its sender reports say."""
     source = session.heard.get(ssrc)
     if source and source.stream:
-        return source.stream.rate
+        return None if session.guessed & source.stream.kinds.keys() else source.stream.rate
     if ssrc in session.own:
         return session.options["rate"]
     return session.reported.clock(ssrc)
