@@ -5,6 +5,7 @@ from collections import Counter
 
 from reporting import plots
 from reporting.clock import duration_text
+from reporting.folded import compounds_numbers, intervals_numbers, members_numbers, rates_numbers
 from reporting.headline import cname_of, headline, sentence
 from reporting.limits import Limits
 from reporting.media import media
@@ -275,7 +276,7 @@ def members(session: Session) -> str:
                ("down", ORANGE, "it said BYE"), ("cross", RED, "it timed out")]
     if any(what == DISMISSED for _, _, what in session.changes):
         entries.append(("down", PURPLE, "the host said that it is gone"))
-    return section("Members and senders", words, *entries) + plots.members_plot(session)
+    return section("Members and senders", words, *entries) + plots.members_plot(session) + members_numbers(session)
 
 
 def rates(session: Session) -> str:
@@ -288,7 +289,7 @@ def rates(session: Session) -> str:
              "share the whole alike.</p>\n"
              f"<p>{rates_in_words(session)}")
     return section("RTCP and its bandwidth", words, ("line", BLUE, "octets a second"),
-                   ("dashes", RED, "the share of the bandwidth")) + plots.rates_plot(session)
+                   ("dashes", RED, "the share of the bandwidth")) + plots.rates_plot(session) + rates_numbers(session)
 
 
 def compounds(session: Session) -> str:
@@ -302,7 +303,8 @@ def compounds(session: Session) -> str:
     note = f"<p>{plural(off, 'datagram')} refused at a moment off the axis, not drawn.</p>\n" if off else ""
     words = ("Sizes without the headers of UDP and IP. Where there are too many compounds for marks, bars show the "
              "least and the greatest size at a time, and a lane for each kind how many came.")
-    return section("Compounds in and out", words, *entries) + plots.compounds_plot(session) + note
+    return (section("Compounds in and out", words, *entries) + plots.compounds_plot(session) + note
+            + compounds_numbers(session))
 
 
 def intervals(session: Session) -> str:
@@ -317,6 +319,6 @@ def intervals(session: Session) -> str:
              "computed interval; the least allowed is 1 / (2 · 1.21828) = 0.410 of it. " + MANY)
     if not all(report.is_lawful for report in session.reports):
         words += " <strong>Some reports came too soon.</strong>"
-    return section("Intervals between reports", words, ("dot", BLUE, "time since the previous report"),
-                   ("line", FAINT, "computed interval"),
-                   ("dashes", RED, "the least: half of it, over 1.21828")) + plots.intervals_plot(session)
+    heading = section("Intervals between reports", words, ("dot", BLUE, "time since the previous report"),
+                      ("line", FAINT, "computed interval"), ("dashes", RED, "the least: half of it, over 1.21828"))
+    return heading + plots.intervals_plot(session) + intervals_numbers(session)

@@ -5,7 +5,7 @@ from dataclasses import dataclass
 
 from reporting.plots import HEIGHT, line, picture, top_of, upper
 from reporting.session import Session
-from reporting.svg import RED, Panel, Plot, Point
+from reporting.svg import RED, Panel, Plot, Point, plural
 from reporting.words import Cell, box, table
 
 PANEL = HEIGHT * 3 / 5
@@ -70,6 +70,6 @@ def numbers(label: str, titles: list[str], rows: list[list[str]], note: str = ""
         return ""
     cells = [[Cell(words, at > 0) for at, words in enumerate(row)] for row in rows]
     inside = table(titles, cells, "numbers")
-    count = f"{len(rows):,} rows" + note
+    count = plural(len(rows), "row") + note
     inside = box(label, inside, count, is_tall=len(rows) > MOST_ROWS)
     return f"<details>\n<summary>{label}</summary>\n{inside}</details>\n"
