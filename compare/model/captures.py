@@ -291,8 +291,19 @@ def two_calls():
     return Call([carol, dave], 30, begin=10 * SECOND).put_on(wire)
 
 
+def many_calls(count):
+    """So many calls of 6 seconds, of which each loses a packet more than the one before, and the first none."""
+    wire, rng = Wire(), random.Random(108)
+    for number in range(count):
+        near, far = (f"10.0.0.{number + 1}", 4000), ("10.1.0.1", 6000 + 2 * number)
+        caller = Party(0x5000 + number, f"caller{number}@example.org", near, far)
+        called = Party(0x6000 + number, f"called{number}@example.org", far, near, lost_before=chosen(rng, number, 300))
+        Call([caller, called], 6, begin=number * SECOND // 5).put_on(wire)
+    return wire
+
+
 def with_picture():
-    """Sound and picture of Alice and Bob, each with a port and an SSRC of its own. Of her picture 60 packets are lost."""
+    """Sound and picture of Alice and Bob, each with a port and an SSRC of its own. Of her picture 60 packets go."""
     rng = random.Random(107)
     wire = Call(pair(), 30).put_on(Wire())
     (near, _), (far, _) = V4

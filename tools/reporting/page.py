@@ -21,6 +21,7 @@ from reporting.words import MANY, MEANINGS, box, percent, section
 from participant import HEADERS, SECOND
 
 MOST_PEERS = 4  # that the head names
+MOST_CALLS = 20  # of a capture that have a section
 
 
 def page(session: Session, limits: Limits = Limits()) -> str:
@@ -36,7 +37,7 @@ def page_of_calls(sessions: list[Session], limits: Limits) -> str:
     calls.sort(key=lambda call: call[1][0].rank if call[1] else (len(WORDS),))
     sections = "".join(f'<section id="call-{at}">\n<h1 class="call">Call {at}: {parties_of(session, found)}</h1>\n'
                        + contents(session, found, limits) + "</section>\n"
-                       for at, (session, found) in enumerate(calls, 1))
+                       for at, (session, found) in enumerate(calls[:MOST_CALLS], 1))
     return document(f"{number(len(calls))} calls of a capture", index(calls) + sections)
 
 
@@ -58,17 +59,20 @@ def index(calls: list[tuple[Session, list[Verdict]]]) -> str:
     words = f"{number(bad)} of {number(len(calls))} calls had a stream that was not good." if bad else (
         f"All {number(len(calls))} calls were good.")
     rows = "".join(index_row(at, *call) for at, call in enumerate(calls, 1))
-    titles = ("call", "between", "verdict", "began", "lasted", "streams")
+    which = "the worst first" if len(calls) <= MOST_CALLS else (
+        f"the worst {MOST_CALLS} below; --ssrc, --cname, --from and --to choose others")
+    titles = ("call", "verdict", "between", "began", "lasted", "streams")
     head = "".join(f'<th scope="col">{title}</th>' for title in titles)
     table = f'<table class="calls">\n<thead><tr>{head}</tr></thead>\n<tbody>\n{rows}</tbody></table>'
     return (f'<h1>{number(len(calls))} calls of a capture</h1>\n<p class="verdict">{words}</p>\n'
-            + box("Calls", table, f"{number(len(calls))} calls, the worst first", is_tall=len(calls) > 12))
+            + box("Calls", table, f"{number(len(calls))} calls, {which}", is_tall=len(calls) > 12))
 
 
 def index_row(at: int, session: Session, found: list[Verdict]) -> str:
     kind = "bad" if found and not found[0].is_good else "good"
-    return (f'<tr class="{kind}"><th scope="row"><a href="#call-{at}">call {at}</a></th>'
-            f"<td>{parties_of(session, found)}</td><td>{sentence(session, found)}</td>"
+    name = f'<a href="#call-{at}">call {at}</a>' if at <= MOST_CALLS else f"call {at}"
+    return (f'<tr class="{kind}"><th scope="row">{name}</th>'
+            f"<td>{sentence(session, found)}</td><td>{parties_of(session, found)}</td>"
             f"<td>{clock_of(session).date(0)} {clock_of(session).moment(0, 0)}</td>"
             f"<td>{duration_text(session.end)}</td><td>{number(len(found))}</td></tr>\n")
 

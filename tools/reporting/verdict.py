@@ -211,4 +211,5 @@ def word_of(verdict: Verdict) -> str:
     for what, word in ((SILENCE, SILENT), (JITTER, JITTERY), (TRIP, SLOW)):
         if what in verdict.over:
             return word
-    return GOOD if verdict.losses else UNKNOWN
+    is_one_packet = verdict.stream is not None and verdict.stream.came == 1 == len(verdict.losses)
+    return GOOD if verdict.losses and not is_one_packet else UNKNOWN
