@@ -36,30 +36,36 @@ def arguments_of(words: list[str]) -> Arguments:
         if word == "--csv":
             arguments.is_csv = True
         elif not word.startswith("-"):
-            if arguments.capture is not None:
-                raise Failure(f"Only one capture can be given: {SEE}.", 2)
-            arguments.capture = word
+            take_capture(arguments, word)
         elif word in OF_BOTH:
-            take_common(arguments, word, value_of(word, rest))
+            take_common(arguments, word, next(rest, ""))
         else:
             pairs.append((word, next(rest, None)))
-    if arguments.capture is None:
-        arguments.options = [word for pair in pairs for word in pair if word is not None]
-        check_record(arguments.options)
-    else:
-        for name, value in pairs:
-            take_choice(arguments.choice, name, value)
+    take_others(arguments, pairs)
     return arguments
 
 
-def value_of(name: str, rest) -> str:
-    value = next(rest, None)
-    if value is None:
-        raise Failure(f"{name} has no value.", 2)
-    return value
+def take_capture(arguments: Arguments, path: str) -> None:
+    """Takes the file of a capture, of which there is one."""
+    if arguments.capture is not None:
+        raise Failure(f"Only one capture can be given: {SEE}.", 2)
+    arguments.capture = path
+
+
+def take_others(arguments: Arguments, pairs: list[tuple[str, str | None]]) -> None:
+    """Takes the options that mean one thing for a record and another one for a capture."""
+    if arguments.capture is None:
+        arguments.options = [word for pair in pairs for word in pair if word is not None]
+        check_record(arguments.options)
+        return
+    for name, value in pairs:
+        take_choice(arguments.choice, name, value)
 
 
 def take_common(arguments: Arguments, name: str, value: str) -> None:
+    """Takes an option of both."""
+    if name == "--program" and not value:
+        raise Failure("--program has no value.", 2)
     if name == "--program":
         arguments.program = value
     elif name == "--limits":
@@ -73,6 +79,7 @@ def take_common(arguments: Arguments, name: str, value: str) -> None:
 
 
 def check_record(options: list[str]) -> None:
+    """Refuses the options of a record that tell no participant."""
     if missing := [name for name in REQUIRED if name not in options[::2]]:
         said = f"{' and '.join(missing)} {'is' if len(missing) == 1 else 'are'} missing"
         raise Failure(f"{said}: a session is of an SSRC and a CNAME. Of a capture give the file: {SEE}.", 2)
@@ -97,4 +104,5 @@ def take_choice(choice: Choice, name: str, value: str | None) -> None:
 
 
 def is_clock(found: re.Match) -> bool:
+    """Whether a payload type and a rate are in range."""
     return int(found[1]) < 128 and 1 <= int(found[2]) <= 2**20

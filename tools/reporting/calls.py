@@ -79,6 +79,7 @@ class Groups:
         return above
 
     def join(self, one: object, other: object) -> None:
+        """From now on these belong together, and all that belongs to either."""
         self._above[self.of(one)] = self.of(other)
 
 
@@ -112,31 +113,29 @@ def ssrc_of(datagram: Datagram) -> int | None:
 
 def join_reports(groups: Groups, datagrams: list[Datagram]) -> None:
     """Those who report of a source that only one call has belong to that."""
-    of_ssrc: dict[int, set[object]] = {}
+    of_ssrc: dict[int | None, set[object]] = {}
     for datagram in datagrams:
-        if (ssrc := ssrc_of(datagram)) is not None:
-            of_ssrc.setdefault(ssrc, set()).add(groups.of(port_of(datagram.source)))
-    for datagram in datagrams:
-        for source in sources_of(datagram) if datagram.kind == "rtcp" else []:
-            those = {groups.of(thing) for thing in of_ssrc.get(source, ())}
-            if len(those) == 1:
-                groups.join(port_of(datagram.source), those.pop())
+        of_ssrc.setdefault(ssrc_of(datagram), set()).add(groups.of(port_of(datagram.source)))
+    about = [(port_of(datagram.source), source) for datagram in datagrams for source in sources_of(datagram)]
+    for port, source in about:
+        those = {groups.of(thing) for thing in of_ssrc.get(source, ())}
+        if len(those) == 1:
+            groups.join(port, those.pop())
 
 
 def join_names(groups: Groups, datagrams: list[Datagram]) -> None:
     """What a host sends under one CNAME belongs together, if it begins together."""
     began: dict[object, int] = {}
-    of_name: dict[tuple[str, bytes], list[object]] = {}
+    of_name: dict[tuple[str, bytes], set[object]] = {}
     for datagram in datagrams:
-        port = port_of(datagram.source)
-        began.setdefault(groups.of(port), datagram.time)
+        group = groups.of(port_of(datagram.source))
+        began.setdefault(group, datagram.time)
         if name := cname_in(datagram):
-            of_name.setdefault((datagram.source.address, name), []).append(port)
-    for ports in of_name.values():
-        first, *rest = sorted({groups.of(port) for port in ports}, key=lambda group: began[group])
-        for group in rest:
-            if began[group] - began[first] <= TOGETHER:
-                groups.join(first, group)
+            of_name.setdefault((datagram.source.address, name), set()).add(group)
+    firsts = [(min(some, key=began.__getitem__), some) for some in of_name.values()]
+    for first, group in [(first, group) for first, some in firsts for group in some]:
+        if began[group] - began[first] <= TOGETHER:
+            groups.join(first, group)
 
 
 def cname_in(datagram: Datagram) -> bytes:
@@ -153,7 +152,7 @@ def cname_in(datagram: Datagram) -> bytes:
 def sources_of(datagram: Datagram) -> list[int]:
     """Whom the first report of a compound has blocks about."""
     octets = datagram.octets
-    if len(octets) < LEAST_RTCP or octets[1] not in (SENDER_REPORT, RECEIVER_REPORT):
+    if datagram.kind != "rtcp" or len(octets) < LEAST_RTCP or octets[1] not in (SENDER_REPORT, RECEIVER_REPORT):
         return []
     start = 28 if octets[1] == SENDER_REPORT else 8
     ends = min(len(octets) - BLOCK.size + 1, start + BLOCK.size * (octets[0] & 0x1f))

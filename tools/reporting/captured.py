@@ -23,12 +23,14 @@ class Recorded:
 
 
 def recorded_calls(path: str, choice: Choice) -> list[Recorded]:
+    """The calls of a capture that are chosen; a failure where there is none."""
     everything, notes = datagrams_of(path, choice.filter)
     datagrams, more = told_apart(everything, choice.rtp, choice.rtcp)
     return [recorded(call, choice, [*notes, *more]) for call in calls_of(within(datagrams, choice))]
 
 
 def recorded(datagrams: list[Datagram], choice: Choice, notes: list[str]) -> Recorded:
+    """A call of these datagrams."""
     clocks = {**clocks_of(datagrams), **choice.clocks}
     rng = random.Random(SEED)
     options = options_of(datagrams, clocks, unused(datagrams, rng))

@@ -16,6 +16,7 @@ def limited(label: str, titles: list[str], rows: list[list[str]]) -> str:
 
 
 def members_numbers(session: Session) -> str:
+    """How many members and senders there were, from change to change."""
     moment = clock_of(session).moment
     return limited("The numbers of this plot", ["from", "members", "senders"],
                    [[moment(at), number(members), number(senders)] for at, members, senders in session.counts])
@@ -37,6 +38,7 @@ def rates_numbers(session: Session) -> str:
 
 
 def compounds_numbers(session: Session) -> str:
+    """The compounds in and out, in the order of their moments."""
     moment = clock_of(session).moment
     both = sorted([*session.came, *session.handed_out], key=lambda compound: compound.moment)
     rows = [[moment(compound.moment), "out" if compound.is_out else "in", compound.kind, number(compound.size)]
@@ -45,6 +47,7 @@ def compounds_numbers(session: Session) -> str:
 
 
 def intervals_numbers(session: Session) -> str:
+    """The time before each report, with what was computed, and the least that could be drawn."""
     moment = clock_of(session).moment
     rows = [[moment(report.moment), *(f"{value / 1e6:,.3f}" for value in (report.since, report.computed, report.least))]
             for report in session.reports]

@@ -20,6 +20,7 @@ COLUMNS = (("lost", LOSS), ("worst minute", MINUTE), ("jitter, ms", JITTER), ("r
 
 
 def headline(session: Session, verdicts: list[Verdict], limits: Limits) -> str:
+    """The sentence, the table of the streams, and the limits."""
     if not verdicts:
         return ('<p class="verdict">No stream: no RTP packet came, and no report block tells of one.</p>\n')
     cells = [cells_of(session, verdict) for verdict in verdicts]
@@ -93,6 +94,7 @@ def reason(session: Session, verdict: Verdict) -> str:
 
 
 def value_of(verdict: Verdict) -> Value:
+    """What is too long of a jittery or a slow stream."""
     return verdict.trip if verdict.word == SLOW else verdict.jitter
 
 
@@ -115,6 +117,7 @@ def row(session: Session, verdict: Verdict, texts: list[str], used: list[int]) -
 
 
 def cells_of(session: Session, verdict: Verdict) -> list[str]:
+    """The texts of the columns; empty where nothing is known."""
     return [lost(session, verdict), minute(session, verdict), timed(session, verdict.jitter),
             timed(session, verdict.trip), silence(session, verdict), notes(session, verdict)]
 
@@ -127,6 +130,7 @@ def cell(title: str, words: str, is_over: bool) -> str:
 
 
 def named(session: Session, verdict: Verdict) -> str:
+    """Whose stream it is: name, SSRC, and where its packets came from."""
     name = cname_of(session, verdict.ssrc)
     source = verdict.source
     peer = session.endpoint(source.peer if source.sender is None else source.sender) if source else ""
@@ -136,6 +140,7 @@ def named(session: Session, verdict: Verdict) -> str:
 
 
 def lost(session: Session, verdict: Verdict) -> str:
+    """What was lost, where most was, and of what who else lost."""
     if verdict.is_doubled and not verdict.losses:
         return 'cannot be told <span class="by">each packet came twice</span>'
     if not verdict.losses:
@@ -150,6 +155,7 @@ def lost(session: Session, verdict: Verdict) -> str:
 
 
 def seen_by(session: Session, measured: Measured | Value) -> str:
+    """Where or by whom it was measured."""
     if measured.reporter is None:
         return " here"
     name = cname_of(session, measured.reporter)
@@ -164,6 +170,7 @@ def minute(session: Session, verdict: Verdict) -> str:
 
 
 def timed(session: Session, value: Value | None) -> str:
+    """Milliseconds: the mean, and below it the greatest."""
     if value is None:
         return ""
     least = "" if value.is_whole else "at least "
@@ -172,6 +179,7 @@ def timed(session: Session, value: Value | None) -> str:
 
 
 def silence(session: Session, verdict: Verdict) -> str:
+    """Since when there were no media, or else the longest time without a packet."""
     if verdict.stream is None:
         return ""
     moment = clock_of(session).moment

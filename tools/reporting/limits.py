@@ -19,6 +19,7 @@ class Limits:
 
     @property
     def text(self) -> str:
+        """The limits in words."""
         return (f"lost {self.loss:g} %, in the worst minute {self.minute:g} %, jitter {self.jitter:g} ms, round trip "
                 f"{self.trip:g} ms, silence {self.silence:g} s")
 

@@ -28,6 +28,7 @@ WORDS = ("What the RTP packets that came here say themselves, the worst stream f
 
 
 def media(session: Session, verdicts: list[Verdict]) -> str:
+    """The section: a row for each stream, and the plots of the worst ones."""
     some = [verdict for verdict in verdicts if verdict.stream]
     if not some:
         return section("From the packets", "No RTP packet came.")
@@ -74,6 +75,7 @@ def kinds(session: Session, stream: Stream) -> str:
 
 
 def label(session: Session, verdict: Verdict) -> str:
+    """A stream's name and SSRC, as HTML."""
     name = cname_of(session, verdict.ssrc)
     return f"{name_of(name) + ' ' if name is not None else ''}<code>{verdict.ssrc:08x}</code>"
 
@@ -89,6 +91,7 @@ def plain(session: Session, verdict: Verdict) -> str:
 
 
 def pictures(session: Session, verdicts: list[Verdict], count: int) -> str:
+    """The plots of these streams, of so many, and their numbers."""
     which = f"the {number(len(verdicts))} worst of {plural(count, 'stream')}" if count > len(verdicts) else plural(
         count, "stream")
     size = part_size(session)
@@ -154,6 +157,7 @@ def length_of(stream: Stream, part: Part, size: int) -> float:
 
 
 def bit_rate(stream: Stream, part: Part, size: int) -> float:
+    """In kbit/s."""
     return 8 * part.octets / length_of(stream, part, size) / 1000
 
 

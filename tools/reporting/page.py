@@ -42,6 +42,7 @@ def page_of_calls(sessions: list[Session], limits: Limits) -> str:
 
 
 def document(title: str, body: str) -> str:
+    """A page with this title and body, both HTML."""
     return (f'<!DOCTYPE html>\n<html lang="en"><head><meta charset="utf-8">'
             f'<meta name="viewport" content="width=device-width, initial-scale=1"><title>{title}</title>'
             f"<style>{STYLE}</style></head>\n<body>\n{body}</body></html>\n")
@@ -98,6 +99,7 @@ def plumbing(session: Session) -> str:
 
 
 def heading(session: Session, found: list[Verdict]) -> str:
+    """Whose call or session it is."""
     if session.is_captured:
         names = parties_of(session, found)
         return f"RTP call of {names}" if names else "RTP call"

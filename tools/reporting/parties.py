@@ -7,6 +7,7 @@ from reporting.reports import Block, Pair, Trip
 from reporting.series import Series, figure, losses_figure, numbers
 from reporting.session import Session
 from reporting.sources import name_of
+from reporting.stream import Loss
 from reporting.svg import GREEN, PURPLE, RED, number, plural
 from reporting.verdict import Verdict, rate_of
 from reporting.words import Cell, box, section, table
@@ -43,16 +44,19 @@ def parties(session: Session, verdicts: list[Verdict]) -> str:
 
 
 def worst_first(pair: Pair) -> tuple[float, int]:
+    """The key by which the reports of a source are sorted."""
     return -max(block.fraction for block in pair.blocks), pair.reporter
 
 
 def party(session: Session, ssrc: int) -> str:
+    """A name with its SSRC, as HTML."""
     name = cname_of(session, ssrc)
     own = " (this participant)" if ssrc in session.own else ""
     return f"{name_of(name) + ' ' if name is not None else ''}<code>{ssrc:08x}</code>{own}"
 
 
 def cells_of_row(session: Session, pair: Pair) -> list[Cell]:
+    """The row of a source and one who reports of it."""
     moment, blocks = clock_of(session).moment, pair.blocks
     loss = loss_of(session, pair)
     worst = max(blocks, key=lambda block: block.fraction)
@@ -65,7 +69,8 @@ def cells_of_row(session: Session, pair: Pair) -> list[Cell]:
             Cell(number(len(blocks)), True), Cell(moment(blocks[0].moment, 0)), Cell(moment(blocks[-1].moment, 0))]
 
 
-def loss_of(session: Session, pair: Pair):
+def loss_of(session: Session, pair: Pair) -> Loss | None:
+    """What the reporter missed in all."""
     source = session.heard.get(pair.source)
     return pair.loss(source.stream if source else None)
 
@@ -80,6 +85,7 @@ def jitter_in_words(session: Session, pair: Pair) -> str:
 
 
 def trips_in_words(session: Session, pair: Pair) -> str:
+    """The mean and the greatest round trip; empty if none can be told."""
     trips = session.reported.trips(pair, session.own)
     some = [trip for trip in trips if trip.is_whole] or trips
     if not some:
@@ -93,6 +99,7 @@ def trips_in_words(session: Session, pair: Pair) -> str:
 
 
 def pictures(session: Session, pairs: list[Pair]) -> str:
+    """The plots of the first pairs, and their numbers."""
     some = pairs[:DRAWN]
     which = f"the {DRAWN} first of {number(len(pairs))} rows" if len(pairs) > DRAWN else plural(len(pairs), "row")
     lossy = [pair for pair in some if any(block.fraction for block in pair.blocks)]
@@ -114,6 +121,7 @@ def heading(title: str, *entries: tuple[str, str, str]) -> str:
 
 
 def plain(session: Session, pair: Pair) -> str:
+    """Who reports of whom, as a text for a plot."""
     return f"{plain_name(session, pair.source)} by {plain_name(session, pair.reporter)}"
 
 
@@ -154,6 +162,7 @@ def in_words(trip: Trip) -> str:
 
 
 def table_of_blocks(session: Session, pairs: list[Pair]) -> str:
+    """The blocks of the pairs that are drawn, one by one."""
     blocks = [(pair, block) for pair in pairs for block in pair.blocks]
     trips = {(pair.reporter, pair.source, trip.moment): trip for pair in pairs
              for trip in session.reported.trips(pair, session.own)}

@@ -1,7 +1,6 @@
 """The plots of a session."""
 from __future__ import annotations
 
-import math
 from collections import defaultdict
 from collections.abc import Iterable
 from dataclasses import dataclass
@@ -201,19 +200,17 @@ def parts_of(session: Session) -> list[tuple[str, list[Compound], list[tuple[int
 def shares_of(session: Session) -> list[tuple[int, float, float]]:
     """From which moment on senders and others may take which octets a second (RFC 3550, 6.3.1): each their share; or
     all members alike, where the senders are a greater part of them than of the bandwidth."""
-    found, given, counts = [], iter([*session.shares, (math.inf, 0, 0)]), iter([*session.counts, (math.inf, 0, 0)])
-    next_share, next_count, share, count = next(given), next(counts), None, None
-    while min(next_share[0], next_count[0]) < math.inf:
-        moment = min(next_share[0], next_count[0])
-        while next_share[0] == moment:
-            share, next_share = next_share[1:], next(given)
-        while next_count[0] == moment:
-            count, next_count = next_count[1:], next(counts)
-        found.append((moment, *divided(*share, *count)))
-    return found
+    changes = [(moment, "shares", values) for moment, *values in session.shares]
+    changes += [(moment, "counts", values) for moment, *values in session.counts]
+    latest, found = {"shares": session.shares[0][1:], "counts": session.counts[0][1:]}, {}
+    for moment, what, values in sorted(changes, key=lambda change: change[0]):
+        latest[what] = values
+        found[moment] = divided(*latest["shares"], *latest["counts"])
+    return [(moment, *both) for moment, both in found.items()]
 
 
 def divided(senders_share: int, others_share: int, members: int, senders: int) -> tuple[float, float]:
+    """What senders and others may take, of shares that are for so many members and senders."""
     whole = senders_share + others_share
     if senders * whole > members * senders_share:
         return whole * senders / members, whole * (members - senders) / members
@@ -363,6 +360,7 @@ class Scales:
 
 
 def scales_of(sources: list[Heard]) -> Scales:
+    """Those that have room for all values of these sources."""
     trips = [1000 * trip for source in sources for _, trip in source.round_trips]
     return Scales(upper([reception.milliseconds for source in sources for reception in source.receptions], 1),
                   upper(trips, 1), 1.1 * min(0.0, *trips, 0.0),

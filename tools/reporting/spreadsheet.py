@@ -32,6 +32,7 @@ def spreadsheet(sessions: list[Session], interval: int) -> str:
 
 
 def rows_of(session: Session, interval: int) -> list[list]:
+    """The rows of a session, without the number of its call."""
     about, rows = by_source(session), []
     for ssrc in sorted({*about, *(ssrc for ssrc, source in session.heard.items() if source.stream)}):
         if session.chosen is not None and ssrc not in session.chosen:
@@ -62,6 +63,7 @@ def time_of(session: Session, moment: int) -> str:
 
 
 def part_cells(session: Session, stream: Stream, part: Part, interval: int) -> list:
+    """The cells of what came in an interval."""
     begin, end = max(part.moment, stream.first), min(part.moment + interval * SECOND, stream.last)
     rate = 8 * part.octets / max(end - begin, SECOND) * SECOND / 1000
     jitters = [f"{value:.3f}" if has_jitter(session, stream) else "" for value in (part.jitter, part.most)]

@@ -39,6 +39,7 @@ class Loss:
 
     @property
     def percent(self) -> float:
+        """The part lost; 0 where nothing was expected."""
         return 100 * self.lost / self.expected if self.expected > 0 else 0.0
 
 
@@ -183,6 +184,7 @@ class Stream:
 
     @property
     def loss(self) -> Loss:
+        """What was lost of all that was expected."""
         return Loss(self.first, self.lost, self.expected)
 
     @property
@@ -202,6 +204,7 @@ class Stream:
 
     @property
     def most_jitter(self) -> float:
+        """The greatest of these jitters, in milliseconds."""
         return self.most / 1000
 
     def lost_by_second(self) -> dict[int, int]:

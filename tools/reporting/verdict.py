@@ -32,6 +32,7 @@ class Measured:
 
     @property
     def percent(self) -> float:
+        """The part lost."""
         return self.loss.percent if self.loss else self.fraction
 
 
@@ -70,6 +71,7 @@ class Verdict:
 
     @property
     def worst(self) -> Measured | None:
+        """Where most was lost; or here, if others lost no more."""
         return self.losses[0] if self.losses else None
 
     @property
@@ -79,6 +81,7 @@ class Verdict:
 
     @property
     def is_good(self) -> bool:
+        """Whether nothing is bad of it, though perhaps nothing is known."""
         return self.word in (GOOD, UNKNOWN)
 
     @property
@@ -111,6 +114,7 @@ def by_source(session: Session) -> dict[int, list[Pair]]:
 
 
 def verdict_of(session: Session, ssrc: int, pairs: list[Pair], refused: Goodbye | None, limits: Limits) -> Verdict:
+    """The verdict of a stream, by its packets and by those who report of it."""
     verdict = Verdict(ssrc, session.heard.get(ssrc))
     others = [pair for pair in pairs if verdict.stream is None or pair.reporter not in session.own]
     verdict.losses = measured(verdict.stream, others)

@@ -34,6 +34,7 @@ class Source:
 
     @property
     def name(self) -> str:
+        """Its CNAME, as it is quoted; empty if none is known."""
         return unmarked(self.fields.get("cname", '""')[1:-1])
 
     def word(self, now: float, limits: Limits) -> str:
@@ -119,6 +120,7 @@ class Watched:
 
 
 def clock(seconds: float) -> str:
+    """h:mm:ss."""
     return f"{int(seconds) // 3600}:{int(seconds) // 60 % 60:02}:{int(seconds) % 60:02}"
 
 
@@ -146,6 +148,7 @@ def frame(watched: Watched, width: int, height: int, is_coloured: bool) -> list[
 
 
 def table(watched: Watched, rows: list[tuple[str, Source]], width: int, room: int, is_coloured: bool) -> list[str]:
+    """The lines of a table of at most so many rows, and how many more there are."""
     columns, name_width = fitting(rows, width)
     titles = "".join(f"{title:<{size + 1}}" if title != "SSRC" else f"{'CNAME':<{name_width + 1}}{title:<{size + 1}}"
                      for title, _, size, _ in columns)
@@ -171,6 +174,7 @@ def fitting(rows: list[tuple[str, Source]], width: int) -> tuple[list[tuple], in
 
 
 def row(word: str, source: Source, columns: list[tuple], name_width: int) -> str:
+    """A line of the table."""
     name = source.name or "name not known"
     name = name if len(name) <= name_width else name[:name_width - 1] + "…"
     cells = {"word": word, "ssrc": source.ssrc, **source.fields}
