@@ -13,6 +13,7 @@ from reporting.words import MEANINGS, box
 
 SIGNS = {GOOD: "✓", UNKNOWN: "–"}  # before a verdict's word: ✗ for all others
 NO_BREAK = "\u00a0"
+MOST_STREAMS = 300  # that have a row
 MOST_ROWS = 8  # without scrolling
 NAMED = 3  # streams in the sentence
 COLUMNS = (("lost", LOSS), ("worst minute", MINUTE), ("jitter, ms", JITTER), ("round trip, ms", TRIP),
@@ -23,15 +24,17 @@ def headline(session: Session, verdicts: list[Verdict], limits: Limits) -> str:
     """The sentence, the table of the streams, and the limits."""
     if not verdicts:
         return ('<p class="verdict">No stream: no RTP packet came, and no report block tells of one.</p>\n')
-    cells = [cells_of(session, verdict) for verdict in verdicts]
+    listed = verdicts[:MOST_STREAMS]
+    cells = [cells_of(session, verdict) for verdict in listed]
     used = [at for at in range(len(COLUMNS)) if any(row[at] for row in cells)]
     head = "".join(f'<th scope="col">{title}</th>' for title in ("verdict", "stream", *(COLUMNS[at][0] for at in used)))
-    rows = "".join(row(session, verdict, texts, used) for verdict, texts in zip(verdicts, cells))
-    count = f"{plural(len(verdicts), 'stream')}, the worst first"
+    rows = "".join(row(session, verdict, texts, used) for verdict, texts in zip(listed, cells))
+    which = "the worst first" if len(verdicts) <= MOST_STREAMS else f"the worst {MOST_STREAMS} here"
+    count = f"{plural(len(verdicts), 'stream')}, {which}"
     table = f'<table class="verdicts">\n<thead><tr>{head}</tr></thead>\n<tbody>\n{rows}</tbody></table>'
     return (f'<p class="verdict">{sentence(session, verdicts)}</p>\n'
             + box("Verdicts", table, count, is_tall=len(verdicts) > MOST_ROWS, kind="cards")
-            + f'<p class="about">Good is: at most {limits.text}. Other limits: --limits. '
+            + f'<p class="about">A good stream has at most {limits.text}; --limits sets others. '
               f"{measured_where(session)}</p>\n")
 
 

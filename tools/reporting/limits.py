@@ -20,8 +20,8 @@ class Limits:
     @property
     def text(self) -> str:
         """The limits in words."""
-        return (f"lost {self.loss:g} %, in the worst minute {self.minute:g} %, jitter {self.jitter:g} ms, round trip "
-                f"{self.trip:g} ms, silence {self.silence:g} s")
+        return (f"{self.loss:g} % lost, {self.minute:g} % in the worst minute, {self.jitter:g} ms of jitter, "
+                f"{self.trip:g} ms of round trip and {self.silence:g} s of silence")
 
 
 def limits_of(words: str) -> Limits | None:

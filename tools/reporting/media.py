@@ -2,7 +2,7 @@
 how much came, and of which payload types."""
 from __future__ import annotations
 
-from reporting.headline import cname_of, per_cent
+from reporting.headline import MOST_STREAMS, cname_of, per_cent
 from reporting.plots import LEAST_TIME, WINDOWS, clock_of
 from reporting.series import Series, figure, losses_figure, numbers
 from reporting.session import Session
@@ -12,6 +12,7 @@ from reporting.svg import BLUE, GREEN, RED, Point, number, plural
 from reporting.verdict import Verdict, has_jitter
 from reporting.words import Cell, box, section, table
 
+MOST_ROWS = 12  # without scrolling
 DRAWN = 6  # streams with plots of their own
 MOST_PARTS = 40  # of the time, in the table of numbers
 LEAST_PART = 0.3  # of a part, in which packets could come, for a bit rate that is drawn
@@ -32,9 +33,11 @@ def media(session: Session, verdicts: list[Verdict]) -> str:
     some = [verdict for verdict in verdicts if verdict.stream]
     if not some:
         return section("From the packets", "No RTP packet came.")
-    rows = [cells_of_row(session, verdict) for verdict in some]
+    rows = [cells_of_row(session, verdict) for verdict in some[:MOST_STREAMS]]
+    more = f", the worst {MOST_STREAMS} here" if len(some) > MOST_STREAMS else ""
     return (section("From the packets", WORDS)
-            + box("Streams, from the packets", table(TITLES, rows), plural(len(some), "stream"), is_tall=len(some) > 12)
+            + box("Streams, from the packets", table(TITLES, rows), plural(len(some), "stream") + more,
+                  is_tall=len(some) > MOST_ROWS)
             + pictures(session, some[:DRAWN], len(some)))
 
 
