@@ -50,12 +50,13 @@ LOST = Session("".join(media(20_000 * at, 9, at) + media(20_000 * at + 1, 11, at
                 "1 of 8 packets lost, 12.5 %, 0:00:01.026", "2 of 5 packets lost, 40.0 %, 0:00:03.078"],
                ["Of 13 RTP packets expected 3 did not come: 23.08 %.", "Blocks about 1 more source report no loss.",
                 ">0 %<", ">10 %<", ">20 %<", ">30 %<", ">40 %<"],
-               ["Nothing was lost", "round trip, ms"])
+               ["Nothing was lost", "round trip, ms", ">round trip<"])
 # Nothing is lost: a sentence, and no plot.
 WHOLE = Session("".join(media(20_000 * at, 9, at) for at in (1, 2, 3, 4)) + FIRST_TICK,
                 [["RTP lost", "0 of 3 packets expected, 0 %"]],
                 words=["Nothing was lost: all of the 3 RTP packets expected came."],
-                none_of=["The part of the RTP packets that was lost", "fraction lost, %", "round trip, ms"])
+                none_of=["The part of the RTP packets that was lost", "fraction lost, %", "round trip, ms",
+                         ">round trip<"])
 # The jitter of the blocks is 0 and then, as a packet comes 32 ms late, 256 / 16 = 16 units: 2 ms, and 1 on the
 # average.
 JITTER = Session("".join(f"rtp {20_000 * at} 3 00000000 8000{at:04x}{160 * at:08x}00000009\n" for at in (1, 2, 3))
@@ -155,7 +156,7 @@ TRIPS = Session(compound(0, sender_report(7, 1 << 16))
                  ["00000008", "00000007", "0", "0 %", "0, at most 0 units", "75.0, at most 75.0", "1", "0:00:00",
                   "0:00:00"],
                  ["\u2717 lossy", "name not known 00000007", "25.0\u00a0% at most, of a block by 00000008",
-                  "75.0 at most 75.0 by 00000008"]],
+                  "75.0\u00a0ms at most 75.0 by 00000008"]],
                 ["round trip 75 ms, by a block at 0:00:00.200"])
 # 8 has two blocks about 7, from 100 to 300 expected packets later: of these 200 it lost 10 more. 7 reports of nobody.
 ONE_WAY = Session(compound(0, sender_report(7, 1 << 16))

@@ -16,7 +16,7 @@ NO_BREAK = "\u00a0"
 MOST_STREAMS = 300  # that have a row
 MOST_ROWS = 8  # without scrolling
 NAMED = 3  # streams in the sentence
-COLUMNS = (("lost", LOSS), ("worst minute", MINUTE), ("jitter, ms", JITTER), ("round trip, ms", TRIP),
+COLUMNS = (("lost", LOSS), ("worst minute", MINUTE), ("jitter", JITTER), ("round trip", TRIP),
            ("longest silence", SILENCE), ("to know", ""))  # after verdict and stream; with what may pass its limit
 
 
@@ -34,7 +34,7 @@ def headline(session: Session, verdicts: list[Verdict], limits: Limits) -> str:
     table = f'<table class="verdicts">\n<thead><tr>{head}</tr></thead>\n<tbody>\n{rows}</tbody></table>'
     return (f'<p class="verdict">{sentence(session, verdicts)}</p>\n'
             + box("Verdicts", table, count, is_tall=len(verdicts) > MOST_ROWS, kind="cards")
-            + f'<p class="about">A good stream has at most {limits.text}; --limits sets others. '
+            + f'<p class="about">A good stream has at most {limits.text}; <code>--limits</code> sets others. '
               f"{measured_where(session)}</p>\n")
 
 
@@ -178,7 +178,7 @@ def timed(session: Session, value: Value | None) -> str:
         return ""
     least = "" if value.is_whole else "at least "
     by = f"{seen_by(session, value)}" if value.reporter is not None else " here"
-    return f'{least}{value.mean:,.1f} <span class="by">at most {value.most:,.1f}{by}</span>'
+    return f'{least}{value.mean:,.1f}{NO_BREAK}ms <span class="by">at most {value.most:,.1f}{by}</span>'
 
 
 def silence(session: Session, verdict: Verdict) -> str:

@@ -166,7 +166,7 @@ def bit_rate(stream: Stream, part: Part, size: int) -> float:
 
 def cells_of(session: Session, verdict: Verdict, part: Part, size: int) -> list[str]:
     when, stream = clock_of(session).moment(part.moment, 0), verdict.stream
-    jitters = [f"{value:,.2f}" if has_jitter(session, stream) else "–" for value in (part.jitter, part.most)]
+    jitters = [f"{value:,.2f}" if has_jitter(session, stream) else "" for value in (part.jitter, part.most)]
     return [f"{label(session, verdict)} {when}", number(part.came), number(part.lost), f"{part.percent:.1f}",
             number(part.again), *jitters,
             f"{part.came / length_of(stream, part, size):,.1f}", f"{bit_rate(stream, part, size):,.1f}"]

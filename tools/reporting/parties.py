@@ -179,4 +179,4 @@ def cells_of(session: Session, pair: Pair, block: Block, trip: Trip | None) -> l
     when = clock_of(session).moment(block.moment)
     return [f"<code>{pair.source:08x}</code> <code>{pair.reporter:08x}</code> {when}",
             f"{block.percent:.1f}", number(block.lost), number(block.highest), jitter,
-            f"{'' if trip.is_whole else 'at least '}{1000 * trip.time:,.2f} ms" if trip else "–"]
+            f"{'' if trip.is_whole else 'at least '}{1000 * trip.time:,.2f} ms" if trip else ""]
