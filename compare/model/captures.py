@@ -220,6 +220,11 @@ def asymmetric():
     return Call(pair(alice=alice, bob=bob), 60).put_on(Wire())
 
 
+def burst():
+    """Of Alice's 3,000 packets 50 in a row do not come to the wire: those of the second that begins after 20."""
+    return Call(pair(alice={"lost_before": set(range(1000, 1050))}), 60).put_on(Wire())
+
+
 def stopped():
     """Bob's media stop after 50 of 80 seconds, and his reports go on."""
     return Call(pair(bob={"stops": 50 * SECOND}), 80).put_on(Wire())
@@ -314,5 +319,5 @@ def with_picture():
     return Call([alice, bob], 30, begin=SECOND // 2).put_on(wire)
 
 
-CAPTURES = {"asymmetric": asymmetric, "stopped": stopped, "refused": refused, "doubled": doubled, "opus": opus,
-            "crowd": crowd, "ipv6": over_ipv6, "two calls": two_calls, "with picture": with_picture}
+CAPTURES = {"asymmetric": asymmetric, "burst": burst, "stopped": stopped, "refused": refused, "doubled": doubled,
+            "opus": opus, "crowd": crowd, "ipv6": over_ipv6, "two calls": two_calls, "with picture": with_picture}

@@ -6,6 +6,7 @@ from reporting.plots import clock_of, fault_of
 from reporting.session import Session
 from reporting.sources import name_of
 from reporting.stream import SECOND
+from reporting.strip import pieces, strip
 from reporting.svg import number, plural, shown
 from reporting.verdict import (DOUBLED, GOOD, JITTER, JITTERY, LOSS, LOSSY, MINUTE, REFUSED, SILENCE, SILENT, SLOW,
                                STOPPED, TRIP, UNKNOWN, Measured, Value, Verdict)
@@ -16,8 +17,9 @@ NO_BREAK = "\u00a0"
 MOST_STREAMS = 300  # that have a row
 MOST_ROWS = 8  # without scrolling
 NAMED = 3  # streams in the sentence
+# After verdict and stream, with what may pass its limit
 COLUMNS = (("lost", LOSS), ("worst minute", MINUTE), ("jitter", JITTER), ("round trip", TRIP),
-           ("longest silence", SILENCE), ("to know", ""))  # after verdict and stream; with what may pass its limit
+           ("longest silence", SILENCE), ("to know", ""), ("over time", ""))
 
 
 def headline(session: Session, verdicts: list[Verdict], limits: Limits) -> str:
@@ -25,7 +27,8 @@ def headline(session: Session, verdicts: list[Verdict], limits: Limits) -> str:
     if not verdicts:
         return ('<p class="verdict">No stream: no RTP packet came, and no report block tells of one.</p>\n')
     listed = verdicts[:MOST_STREAMS]
-    cells = [cells_of(session, verdict) for verdict in listed]
+    strips, top = strips_of(session, listed, limits)
+    cells = [[*cells_of(session, verdict), picture] for verdict, picture in zip(listed, strips)]
     used = [at for at in range(len(COLUMNS)) if any(row[at] for row in cells)]
     head = "".join(f'<th scope="col">{title}</th>' for title in ("verdict", "stream", *(COLUMNS[at][0] for at in used)))
     rows = "".join(row(session, verdict, texts, used) for verdict, texts in zip(listed, cells))
@@ -35,7 +38,15 @@ def headline(session: Session, verdicts: list[Verdict], limits: Limits) -> str:
     return (f'<p class="verdict">{sentence(session, verdicts)}</p>\n'
             + box("Verdicts", table, count, is_tall=len(verdicts) > MOST_ROWS, kind="cards")
             + f'<p class="about">A good stream has at most {limits.text}; <code>--limits</code> sets others. '
-              f"{measured_where(session)}</p>\n")
+              f"{measured_where(session)} Over time: a line where packets came, and bars of what was lost, up to "
+              f"{per_cent(top)}.</p>\n")
+
+
+def strips_of(session: Session, verdicts: list[Verdict], limits: Limits) -> tuple[list[str], float]:
+    """A strip for each stream, all on one scale, and the greatest value of that, in per cent."""
+    some = [pieces(session, verdict) for verdict in verdicts]
+    top = max([2 * limits.loss, 0.1, *(piece.percent for row in some for piece in row)])
+    return [strip(session, verdict, row, top) for verdict, row in zip(verdicts, some)], top
 
 
 def measured_where(session: Session) -> str:
@@ -127,8 +138,8 @@ def cells_of(session: Session, verdict: Verdict) -> list[str]:
 
 def cell(title: str, words: str, is_over: bool) -> str:
     """A cell; a narrow window shows its title too, and leaves out an empty one."""
-    some = f'{"over" if is_over else ""}{"" if words else " none"}'.strip()
-    mark = " class=" + f'"{some}"' if some else ""
+    kinds = [kind for kind, is_so in (("over", is_over), ("none", not words), ("time", "<svg" in words)) if is_so]
+    mark = f' class="{" ".join(kinds)}"' if kinds else ""
     return f'<td{mark} data-title="{title}">{words or "–"}</td>'
 
 

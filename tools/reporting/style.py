@@ -15,6 +15,10 @@ CARDS = """  table.verdicts, table.verdicts tbody, table.verdicts tr { display: 
   table.verdicts .by { display: none; }
   table.verdicts td.over .by { display: inline; }
   .tall.cards { max-height: none; }
+  table.verdicts td.time { display: block; padding: 4px 0 0; }
+  table.verdicts td.time::before { display: none; }
+  .cards svg.strip { width: 100%; height: 18px; }
+  .good td.time, .tall.cards td.time { display: none !important; }
   .cards + p { margin-top: 12px; }"""
 STYLE = f"""
 :root {{ {LIGHT} }}
@@ -44,6 +48,7 @@ summary {{ font-size: 16px; font-weight: 600; margin: 20px 0 4px; cursor: pointe
 svg {{ display: block; font: 12px system-ui, sans-serif; }}
 svg.wide {{ width: {WIDE.width}px; height: auto; }}
 svg.narrow {{ display: none; width: 100%; min-width: {NARROW.width}px; max-width: 480px; height: auto; }}
+svg.strip {{ width: 160px; height: 24px; }}
 svg.key {{ flex: none; width: 18px; height: 16px; }}
 p.keys {{ display: flex; flex-wrap: wrap; gap: 2px 20px; max-width: none; }}
 .keys span {{ display: flex; align-items: center; gap: 5px; }}
