@@ -61,6 +61,7 @@ class Party:
     lost_before: set = field(default_factory=set)  # of its packets, by number, those that do not come to the wire
     lost_after: set = field(default_factory=set)  # those that pass the wire, and do not come to who hears it
     late: dict = field(default_factory=dict)  # by number: how much later a packet comes to the wire
+    again: set = field(default_factory=set)  # those that come to the wire once more, 37 ms later
     stops: int | None = None  # the moment from which on it sends no media
     leaves: int | None = None  # the moment of its BYE
     is_bare: bool = False  # whether its BYE comes without a report before it
@@ -165,7 +166,8 @@ class Call:
         passes = moment + party.way + party.late.get(number, 0)
         octets = struct.pack(">BBHII", 0x80, party.kind, (party.first + number) % 65536, number * party.units % 2**32,
                              party.ssrc) + bytes(160)
-        self.pass_by(passes, party.source, party.target, octets)
+        for after in (0, 37_000) if number in party.again else (0,):
+            self.pass_by(passes + after, party.source, party.target, octets)
         for other in self.others(party) if number not in party.lost_after else []:
             self.heard[other.ssrc][party.ssrc].comes(passes + other.way, number)
 
@@ -218,6 +220,17 @@ def asymmetric():
     alice = {"lost_before": chosen(rng, 240, 3000), "late": late, "leaves": 60 * SECOND}
     bob = {"lost_after": chosen(rng, 60, 3000), "leaves": 60 * SECOND}
     return Call(pair(alice=alice, bob=bob), 60).put_on(Wire())
+
+
+def unordered():
+    """Of Alice's 1,500 packets 20 do not come to the wire, 12 others come again, and a third comes 45 or 70 ms late. Her
+    numbers do not pass 65,535, as tshark counts 65,536 lost if packets are out of order there."""
+    rng = random.Random(109)
+    late = {number: rng.choice((0, 0, 0, 0, 45_000, 70_000)) for number in range(1500)}
+    lost = chosen(rng, 20, 1500)
+    again = set(rng.sample(sorted(set(range(10, 1490)) - lost), 12))
+    alice = {"lost_before": lost, "late": late, "again": again, "first": 1000, "leaves": 30 * SECOND}
+    return Call(pair(alice=alice, bob={"leaves": 30 * SECOND}), 30).put_on(Wire())
 
 
 def burst():
@@ -320,4 +333,5 @@ def with_picture():
 
 
 CAPTURES = {"asymmetric": asymmetric, "burst": burst, "stopped": stopped, "refused": refused, "doubled": doubled,
-            "opus": opus, "crowd": crowd, "ipv6": over_ipv6, "two calls": two_calls, "with picture": with_picture}
+            "unordered": unordered, "opus": opus, "crowd": crowd, "ipv6": over_ipv6,
+            "two calls": two_calls, "with picture": with_picture}
