@@ -201,6 +201,12 @@ REFUSED = Session(media(0, 7, 1) + media(20_000, 7, 2) + compound(30_000, BYE_7,
                   words=["said BYE, which was refused",
                          "BYE from 127.0.0.1:5005 refused at 0:00:00: E5 F3 FirstType, the first packet is neither an "
                          "SR nor an RR"])
+# After a BYE that was refused 7 says BYE in a compound: then nothing is bad.
+ACCEPTED = Session(media(0, 7, 1) + media(20_000, 7, 2) + compound(30_000, BYE_7) + compound(40_000, RR_7 + BYE_7),
+                   words=["The stream was good.", "BYE refused at 0:00:00: E5 F3 FirstType", "BYE at 0:00:00"])
+# A BYE that is refused while media still come is no end of these: they stop a second later, at 1.02 seconds.
+EARLY = Session(media(0, 7, 1) + compound(10_000, BYE_7) + media(1_020_000, 7, 2) + "tick 9000000 00000000 00000000\n",
+                words=["has sent no media since 0:00:01", "BYE refused at 0:00:00"])
 # Two of three members send, so all three share the bandwidth of 400 octets a second: 2/3 of it are theirs.
 SHARED = Session(compound(0, SR_7 + NAME_7)
                  + compound(0, "80c90001" + "00000008" + "81ca0002" + "00000008" + "01016200")
@@ -211,4 +217,5 @@ SESSIONS = {"cut": CUT, "cut at once": CUT_AT_ONCE, "cut after a refusal": CUT_A
             "whole": WHOLE, "jitter": JITTER, "kinds": KINDS, "rates": RATES, "spaced": SPACED, "backoff": BACKOFF,
             "ended": ENDED, "dated": DATED, "next era": NEXT_ERA, "undated": UNDATED, "peers": PEERS,
             "furthest": FURTHEST, "furthest undated": FURTHEST_UNDATED, "trips": TRIPS, "one way": ONE_WAY, "own": OWN,
-            "order": ORDER, "twice": TWICE, "anew": ANEW, "refused": REFUSED, "shared": SHARED}
+            "order": ORDER, "twice": TWICE, "anew": ANEW, "refused": REFUSED, "shared": SHARED,
+            "accepted": ACCEPTED, "early": EARLY}

@@ -6,7 +6,7 @@ from reporting.plots import clock_of, fault_of
 from reporting.session import Session
 from reporting.sources import name_of
 from reporting.stream import SECOND
-from reporting.strip import pieces, strip
+from reporting.strip import Piece, in_words, part_size, pieces, strip
 from reporting.svg import number, plural, shown
 from reporting.verdict import (DOUBLED, GOOD, JITTER, JITTERY, LOSS, LOSSY, MINUTE, REFUSED, SILENCE, SILENT, SLOW,
                                STOPPED, TRIP, UNKNOWN, Measured, Value, Verdict)
@@ -16,6 +16,7 @@ SIGNS = {GOOD: "✓", UNKNOWN: "–"}  # before a verdict's word: ✗ for all ot
 NO_BREAK = "\u00a0"
 MOST_STREAMS = 300  # that have a row
 MOST_ROWS = 8  # without scrolling
+PEAK = 3  # times the loss of all the time, from which on it is said when most was lost
 NAMED = 3  # streams in the sentence
 # After verdict and stream, with what may pass its limit
 COLUMNS = (("lost", LOSS), ("worst minute", MINUTE), ("jitter", JITTER), ("round trip", TRIP),
@@ -27,8 +28,9 @@ def headline(session: Session, verdicts: list[Verdict], limits: Limits) -> str:
     if not verdicts:
         return ('<p class="verdict">No stream: no RTP packet came, and no report block tells of one.</p>\n')
     listed = verdicts[:MOST_STREAMS]
-    strips, top = strips_of(session, listed, limits)
-    cells = [[*cells_of(session, verdict), picture] for verdict, picture in zip(listed, strips)]
+    lost_over_time = [pieces(session, verdict) for verdict in listed]
+    top = max([2 * limits.loss, 0.1, *(piece.percent for some in lost_over_time for piece in some)])
+    cells = [cells_of(session, verdict, some, top) for verdict, some in zip(listed, lost_over_time)]
     used = [at for at in range(len(COLUMNS)) if any(row[at] for row in cells)]
     head = "".join(f'<th scope="col">{title}</th>' for title in ("verdict", "stream", *(COLUMNS[at][0] for at in used)))
     rows = "".join(row(session, verdict, texts, used) for verdict, texts in zip(listed, cells))
@@ -40,13 +42,6 @@ def headline(session: Session, verdicts: list[Verdict], limits: Limits) -> str:
             + f'<p class="about">A good stream has at most {limits.text}; <code>--limits</code> sets others. '
               f"{measured_where(session)} Over time: a line where packets came, and bars of what was lost, up to "
               f"{per_cent(top)}.</p>\n")
-
-
-def strips_of(session: Session, verdicts: list[Verdict], limits: Limits) -> tuple[list[str], float]:
-    """A strip for each stream, all on one scale, and the greatest value of that, in per cent."""
-    some = [pieces(session, verdict) for verdict in verdicts]
-    top = max([2 * limits.loss, 0.1, *(piece.percent for row in some for piece in row)])
-    return [strip(session, verdict, row, top) for verdict, row in zip(verdicts, some)], top
 
 
 def measured_where(session: Session) -> str:
@@ -130,10 +125,21 @@ def row(session: Session, verdict: Verdict, texts: list[str], used: list[int]) -
             f"{named(session, verdict)}</th>{rest}</tr>\n")
 
 
-def cells_of(session: Session, verdict: Verdict) -> list[str]:
-    """The texts of the columns; empty where nothing is known."""
+def cells_of(session: Session, verdict: Verdict, some: list[Piece], top: float) -> list[str]:
+    """The texts of the columns, the last one of which is a strip of these pieces; empty where nothing is known."""
+    found = notes(session, verdict)
+    if verdict.word == LOSSY and (peak := peak_of(session, verdict, some)):
+        found.insert(0, peak)
     return [lost(session, verdict), minute(session, verdict), timed(session, verdict.jitter),
-            timed(session, verdict.trip), silence(session, verdict), notes(session, verdict)]
+            timed(session, verdict.trip), silence(session, verdict), "; ".join(found), strip(session, some, top)]
+
+
+def peak_of(session: Session, verdict: Verdict, some: list[Piece]) -> str:
+    """When most was lost, if that was far more than on the average."""
+    worst = max(some, key=lambda piece: piece.percent, default=None)
+    if worst is None or worst.percent < PEAK * verdict.worst.percent:
+        return ""
+    return f"most within {plural(part_size(session), 'second')}: {in_words(session, worst)}"
 
 
 def cell(title: str, words: str, is_over: bool) -> str:
@@ -203,7 +209,7 @@ def silence(session: Session, verdict: Verdict) -> str:
     return f'{gap:,.2f}{NO_BREAK}s <span class="by">from {moment(verdict.stream.gap_from, 0)} on</span>' if gap else ""
 
 
-def notes(session: Session, verdict: Verdict) -> str:
+def notes(session: Session, verdict: Verdict) -> list[str]:
     """What else is to be known of a stream."""
     moment, stream, found = clock_of(session).moment, verdict.stream, []
     if verdict.refused:
@@ -220,4 +226,4 @@ def notes(session: Session, verdict: Verdict) -> str:
         found.append(f"BYE at {moment(verdict.left, 0)}")
     if stream and stream.restarts:
         found.append(f"{plural(stream.restarts, 'restart')} of its numbers")
-    return "; ".join(found)
+    return found

@@ -51,15 +51,20 @@ def percent_of(span: Span) -> float:
     return 100 * span.lost / span.expected
 
 
-def strip(session: Session, verdict: Verdict, some: list[Piece], top: float) -> str:
+def in_words(session: Session, piece: Piece) -> str:
+    """What was lost of a part of the time, and from when on."""
+    moment = clock_of(session).moment(piece.at * part_size(session) * SECOND, 0)
+    return f"{number(piece.percent, 1)} % from {moment} on"
+
+
+def strip(session: Session, some: list[Piece], top: float) -> str:
     """The picture, whose bars reach from 0 to this many per cent; nothing where nothing is known."""
     if not some:
         return ""
     line = "".join(f"M{WIDTH * piece.at} {HEIGHT - LINE}h{WIDTH}v{LINE}h-{WIDTH}z" for piece in some)
     bars = "".join(bar(piece, top) for piece in some if piece.percent > 0)
     worst = max(some, key=lambda piece: piece.percent)
-    moment = clock_of(session).moment(worst.at * part_size(session) * SECOND, 0)
-    words = f"most was lost from {moment} on: {number(worst.percent, 1)} %" if worst.percent else "nothing was lost"
+    words = f"most was lost: {in_words(session, worst)}" if worst.percent else "nothing was lost"
     width = WIDTH * max(1, -(-session.end // (part_size(session) * SECOND)))
     return (f'<svg class="strip" role="img" aria-label="{words}" viewBox="0 0 {width} {HEIGHT}" '
             f'preserveAspectRatio="none"><title>{words}</title><path d="{line}" fill="{FAINT}"/>'

@@ -123,13 +123,17 @@ def verdict_of(session: Session, ssrc: int, pairs: list[Pair], refused: Goodbye 
     verdict.refused = refused
     if verdict.source and verdict.source.state == SAID_BYE:
         verdict.left = verdict.source.since
-    if verdict.stream:
-        end = min(moment for moment in (verdict.left, refused and refused.moment, session.end) if moment is not None)
-        if end - verdict.stream.last > limits.silence * SECOND:
-            verdict.stopped = verdict.stream.last
+    if verdict.stream and end_of(session, verdict) - verdict.stream.last > limits.silence * SECOND:
+        verdict.stopped = verdict.stream.last
     verdict.over = over(verdict, limits)
     verdict.word = word_of(verdict)
     return verdict
+
+
+def end_of(session: Session, verdict: Verdict) -> int:
+    """Until when media could come: a BYE after them, refused or not, or else the end of the session."""
+    goodbyes = [moment for moment in (verdict.left, verdict.refused and verdict.refused.moment) if moment is not None]
+    return min([session.end, *(moment for moment in goodbyes if moment >= verdict.stream.last)])
 
 
 def measured(stream: Stream | None, pairs: list[Pair]) -> list[Measured]:
@@ -210,7 +214,7 @@ def word_of(verdict: Verdict) -> str:
         return LOSSY
     if verdict.is_doubled:
         return DOUBLED
-    if verdict.refused:
+    if verdict.refused and verdict.left is None:
         return REFUSED
     for what, word in ((SILENCE, SILENT), (JITTER, JITTERY), (TRIP, SLOW)):
         if what in verdict.over:
