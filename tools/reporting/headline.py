@@ -2,6 +2,7 @@
 from __future__ import annotations
 
 from reporting.limits import Limits
+from reporting.names import cname_of
 from reporting.plots import clock_of, fault_of
 from reporting.session import Session
 from reporting.sources import name_of
@@ -74,14 +75,6 @@ def who(session: Session, verdict: Verdict) -> str:
     """The name of a stream's source, or else its SSRC."""
     name = cname_of(session, verdict.ssrc)
     return f"<strong>{name_of(name)}</strong>" if name is not None else f"<code>{verdict.ssrc:08x}</code>"
-
-
-def cname_of(session: Session, ssrc: int) -> bytes | None:
-    """The CNAME of an SSRC, this participant's own included."""
-    source = session.heard.get(ssrc)
-    if source and source.cname is not None:
-        return source.cname
-    return session.options["cname"] if ssrc in session.own and not session.is_captured else None
 
 
 def reason(session: Session, verdict: Verdict) -> str:

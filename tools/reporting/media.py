@@ -2,15 +2,15 @@
 how much came, and of which payload types."""
 from __future__ import annotations
 
-from reporting.headline import MOST_STREAMS, cname_of, per_cent
+from reporting.headline import MOST_STREAMS, per_cent
+from reporting.names import party, plain_name
 from reporting.plots import LEAST_TIME, WINDOWS, clock_of
 from reporting.series import Series, figure, losses_figure, numbers
 from reporting.session import Session
-from reporting.sources import name_of
 from reporting.stream import SECOND, Part, Stream, by_parts
 from reporting.svg import BLUE, GREEN, RED, Point, number, plural
 from reporting.verdict import Verdict, has_jitter
-from reporting.words import Cell, box, section, table
+from reporting.words import Cell, box, section, subsection, table
 
 MOST_ROWS = 12  # without scrolling
 DRAWN = 6  # streams with plots of their own
@@ -47,7 +47,7 @@ def cells_of_row(session: Session, verdict: Verdict) -> list[Cell]:
     strays = f" and {number(stream.strays)} of no run" if stream.strays else ""
     jitters = (stream.mean_jitter, stream.most_jitter) if has_jitter(session, stream) else ()
     rates = ((stream.came - 1) / time, 8 * stream.octets / time / 1000) if stream.came > 1 else ()
-    return [Cell(label(session, verdict)),
+    return [Cell(party(session, verdict.ssrc)),
             *(Cell(number(count), True) for count in (stream.came, stream.expected, stream.lost)),
             Cell(per_cent(stream.loss.percent), True), Cell(number(stream.late), True),
             Cell(number(stream.repeated) + strays, True), Cell(in_a_row(session, stream)),
@@ -77,17 +77,10 @@ def kinds(session: Session, stream: Stream) -> str:
                      for kind, (count, rate) in sorted(stream.kinds.items(), key=lambda kind: -kind[1][0]))
 
 
-def label(session: Session, verdict: Verdict) -> str:
-    """A stream's name and SSRC, as HTML."""
-    name = cname_of(session, verdict.ssrc)
-    return f"{name_of(name) + ' ' if name is not None else ''}<code>{verdict.ssrc:08x}</code>"
-
-
 def plain(session: Session, verdict: Verdict) -> str:
-    """The same as a text, for a plot."""
-    name = cname_of(session, verdict.ssrc)
-    words = "" if name is None else name.decode(errors="replace")
-    return f"{words[:20] + ('…' if len(words) > 20 else '')} {verdict.ssrc:08x}".strip()
+    """A stream's name, as a text for a plot."""
+    name, ssrc = plain_name(session, verdict.ssrc), f"{verdict.ssrc:08x}"
+    return ssrc if name == ssrc else f"{name} {ssrc}"
 
 
 # The plots
@@ -102,22 +95,18 @@ def pictures(session: Session, verdicts: list[Verdict], count: int) -> str:
     lossy = [verdict for verdict in verdicts if verdict.stream.lost]
     plots = ""
     if lossy:
-        plots += section_of(f"Lost in each second: {which}", ("area", RED, "lost, of those expected in a second"))
+        plots += subsection(f"Lost in each second: {which}", ("area", RED, "lost, of those expected in a second"))
         plots += losses_figure(session, "lost in each second", [losses_of(session, verdict) for verdict in lossy])
     jitters = [jitters_of(session, verdict, parts[verdict.ssrc]) for verdict in verdicts
                if has_jitter(session, verdict.stream)]
     if jitters:
-        plots += section_of(f"Jitter: {which}", ("dot", GREEN, f"on the average of {size} s"))
+        plots += subsection(f"Jitter: {which}", ("dot", GREEN, f"on the average of {size} s"))
         plots += figure(session, "jitter", "ms", jitters, GREEN)
-    plots += section_of(f"Bit rate: {which}", ("dot", BLUE, f"on the average of {size} s"))
+    plots += subsection(f"Bit rate: {which}", ("dot", BLUE, f"on the average of {size} s"))
     plots += figure(session, "bit rate", "kbit/s", [rates_of(session, verdict, parts[verdict.ssrc], size)
                                                     for verdict in verdicts], BLUE)
     rows = [cells_of(session, verdict, part, size) for verdict in verdicts for part in parts[verdict.ssrc]]
     return plots + numbers(f"The numbers of these plots, by {size} seconds", NUMBERS, rows)
-
-
-def section_of(title: str, *entries: tuple[str, str, str]) -> str:
-    return section(title, "", *entries).replace("h2>", "h3>")
 
 
 def part_size(session: Session) -> int:
@@ -167,6 +156,6 @@ def bit_rate(stream: Stream, part: Part, size: int) -> float:
 def cells_of(session: Session, verdict: Verdict, part: Part, size: int) -> list[str]:
     when, stream = clock_of(session).moment(part.moment, 0), verdict.stream
     jitters = [f"{value:,.2f}" if has_jitter(session, stream) else "" for value in (part.jitter, part.most)]
-    return [f"{label(session, verdict)} {when}", number(part.came), number(part.lost), f"{part.percent:.1f}",
+    return [f"{party(session, verdict.ssrc)} {when}", number(part.came), number(part.lost), f"{part.percent:.1f}",
             number(part.again), *jitters,
             f"{part.came / length_of(stream, part, size):,.1f}", f"{bit_rate(stream, part, size):,.1f}"]

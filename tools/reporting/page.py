@@ -6,9 +6,10 @@ from collections import Counter
 from reporting import plots
 from reporting.clock import duration_text
 from reporting.folded import compounds_numbers, intervals_numbers, members_numbers, rates_numbers
-from reporting.headline import cname_of, headline, sentence
+from reporting.headline import headline, sentence
 from reporting.limits import Limits
 from reporting.media import media
+from reporting.names import cname_of
 from reporting.parties import parties
 from reporting.plots import KIND_NAMES, LOOKS, clock_of, fault_of, rates_in_words
 from reporting.session import DISMISSED, Compound, Session

@@ -1,18 +1,17 @@
 """What each party reported of each other one: loss, jitter and round trips, over time, from all report blocks."""
 from __future__ import annotations
 
-from reporting.headline import cname_of, per_cent
+from reporting.headline import per_cent
+from reporting.names import party, plain_name
 from reporting.plots import clock_of
 from reporting.reports import Block, Pair, Trip
 from reporting.series import Series, figure, losses_figure, numbers
 from reporting.session import Session
-from reporting.sources import name_of
 from reporting.stream import Loss
 from reporting.svg import GREEN, PURPLE, RED, number, plural
 from reporting.verdict import Verdict, rate_of
-from reporting.words import Cell, box, section, table
+from reporting.words import Cell, box, section, subsection, table
 
-MOST_NAME = 15  # characters of a CNAME in a plot
 MOST_ROWS = 12  # without scrolling
 DRAWN = 6  # pairs with plots of their own
 MOST_PAIRS, MOST_BLOCKS = 400, 300  # rows of the tables
@@ -46,13 +45,6 @@ def parties(session: Session, verdicts: list[Verdict]) -> str:
 def worst_first(pair: Pair) -> tuple[float, int]:
     """The key by which the reports of a source are sorted."""
     return -max(block.fraction for block in pair.blocks), pair.reporter
-
-
-def party(session: Session, ssrc: int) -> str:
-    """A name with its SSRC, as HTML."""
-    name = cname_of(session, ssrc)
-    own = " (this participant)" if ssrc in session.own else ""
-    return f"{name_of(name) + ' ' if name is not None else ''}<code>{ssrc:08x}</code>{own}"
 
 
 def cells_of_row(session: Session, pair: Pair) -> list[Cell]:
@@ -105,32 +97,20 @@ def pictures(session: Session, pairs: list[Pair]) -> str:
     lossy = [pair for pair in some if any(block.fraction for block in pair.blocks)]
     plots = ""
     if lossy:
-        plots += heading(f"Fraction lost, as reported: {which}", ("area", RED, "lost, from block to block"))
+        plots += subsection(f"Fraction lost, as reported: {which}", ("area", RED, "lost, from block to block"))
         plots += losses_figure(session, "fraction lost", [fractions(session, pair) for pair in lossy])
     if jitters := [series for series in (jitter_of(session, pair) for pair in some) if series.points]:
-        plots += heading(f"Jitter, as reported: {which}", ("dot", GREEN, "of a block"))
+        plots += subsection(f"Jitter, as reported: {which}", ("dot", GREEN, "of a block"))
         plots += figure(session, "jitter", "ms", jitters, GREEN)
     if trips := [series for series in (trips_of(session, pair) for pair in some) if series.points]:
-        plots += heading(f"Round trips: {which}", ("dot", PURPLE, "by a block that answers a sender report"))
+        plots += subsection(f"Round trips: {which}", ("dot", PURPLE, "by a block that answers a sender report"))
         plots += figure(session, "round trip", "ms", trips, PURPLE)
     return plots + table_of_blocks(session, some)
-
-
-def heading(title: str, *entries: tuple[str, str, str]) -> str:
-    return section(title, "", *entries).replace("h2>", "h3>")
 
 
 def plain(session: Session, pair: Pair) -> str:
     """Who reports of whom, as a text for a plot."""
     return f"{plain_name(session, pair.source)} by {plain_name(session, pair.reporter)}"
-
-
-def plain_name(session: Session, ssrc: int) -> str:
-    name = cname_of(session, ssrc)
-    if name is None:
-        return f"{ssrc:08x}"
-    words = name.decode(errors="replace")
-    return words if len(words) <= MOST_NAME else words[:MOST_NAME].rstrip(".@-") + "…"
 
 
 def fractions(session: Session, pair: Pair) -> Series:

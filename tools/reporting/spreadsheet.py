@@ -7,7 +7,7 @@ import io
 from datetime import datetime, timedelta
 
 from reporting.clock import hours
-from reporting.headline import cname_of
+from reporting.names import cname_of
 from reporting.plots import clock_of
 from reporting.reports import Pair
 from reporting.session import Session

@@ -41,8 +41,17 @@ def key(shape: str, colour: str, words: str) -> str:
 
 def section(title: str, words: str, *entries: tuple[str, str, str]) -> str:
     """The head of a section: what it shows, and a legend."""
-    legend = f'<p class="keys">{"".join(key(*entry) for entry in entries)}</p>\n' if entries else ""
-    return f"<h2>{title}</h2>\n" + (f"<p>{words}</p>\n" if words else "") + legend
+    return f"<h2>{title}</h2>\n" + (f"<p>{words}</p>\n" if words else "") + legend(*entries)
+
+
+def subsection(title: str, *entries: tuple[str, str, str]) -> str:
+    """The head of a part of a section, with a legend."""
+    return f"<h3>{title}</h3>\n" + legend(*entries)
+
+
+def legend(*entries: tuple[str, str, str]) -> str:
+    """What shapes of which colours stand for."""
+    return f'<p class="keys">{"".join(key(*entry) for entry in entries)}</p>\n' if entries else ""
 
 
 def box(label: str, inside: str, count: str = "", is_tall: bool = False, kind: str = "") -> str:
