@@ -14,7 +14,7 @@ from participant import HEADERS, SECOND
 MOST_FAULTS = 8  # lanes of refused datagrams, the last one for all the other faults
 LEAST_TIME = SECOND  # on the axis, however short the session is
 HEIGHT = 150  # of a panel
-TOPS = (1, 2, 4, 8, 10, 20, 40, 60, 80, 100)  # of a scale in per cent, each with four steps
+TOPS = (2, 4, 8, 10, 20, 40, 60, 80, 100)  # of a scale in per cent, each with four steps
 WINDOWS = (5, 10, 15, 30, 60, 120, 300, 600, 1800, 3600)  # seconds over which octets are counted
 MOST_WINDOWS = 120
 LEAST_SPACING = 5 / 2 / 1.21828  # seconds between two reports of a peer that keeps to RFC 3550, after the first two
