@@ -190,8 +190,16 @@ def clocks_of(datagrams: list[Datagram]) -> dict[int, int | None]:
     for (kind, ssrc), run in runs.items():
         longest[kind] = max((ssrc, run), longest.get(kind, (b"", [])), key=lambda one: len(one[1]))
     reported = sender_reports(datagrams)
-    return {kind: STATIC.get(kind, 8000) if kind <= LAST_STATIC else rate_of(reported[ssrc]) or rate_of(run)
-            for kind, (ssrc, run) in longest.items()}
+    rates = {kind: STATIC.get(kind, 8000) if kind <= LAST_STATIC else rate_of(reported[ssrc]) or rate_of(run)
+             for kind, (ssrc, run) in longest.items()}
+    return {kind: rate or rate_beside(kind, runs, rates) for kind, rate in rates.items()}
+
+
+def rate_beside(kind: int, runs: dict[tuple[int, bytes], list], rates: dict[int, int | None]) -> int | None:
+    """The clock of what else a source of this payload type sends: events and comfort noise have that of the voice."""
+    sources = {ssrc for one, ssrc in runs if one == kind}
+    beside = [(len(run), rates[one]) for (one, ssrc), run in runs.items() if ssrc in sources and rates[one]]
+    return max(beside, default=(0, None))[1]
 
 
 def sender_reports(datagrams: list[Datagram]) -> dict[bytes, list[tuple[int, int]]]:
