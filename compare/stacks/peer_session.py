@@ -9,7 +9,7 @@ from pathlib import Path
 from peer_relay import PEER, PLAYER, SECOND, Relay
 
 FIRST_PORT, PORTS = 7_000, 40  # of each session
-CNAME = "player@example.com"  # of examples/player.c
+CNAME = "player@example.com"  # of examples/by_hand/player.c
 PROGRAMS = {PLAYER: "player", SECOND: "player-without"}
 GRACE, MOST_LEAVING = 4, 2  # seconds between both sides' ends, in which the player lists the sources; and for its BYE
 

@@ -1,7 +1,7 @@
-//! examples/player/report_before.rs: BYE, APP and feedback packets that come with no report before them are taken
+//! examples/by_hand/report_before.rs: BYE, APP and feedback packets that come with no report before them are taken
 //! with one, and all other datagrams are left as they are.
 
-#[path = "../examples/player/report_before.rs"]
+#[path = "../examples/by_hand/report_before.rs"]
 mod report_before;
 
 use report_before::with_report_before;

@@ -3,7 +3,7 @@
 //! what they report about its own. At ctrl-C it leaves with a BYE, or without one if that is not due within 5
 //! seconds (RFC 3550, 6.3.7). On 127.0.0.1, with RTCP at the ports one above:
 //!
-//!     cargo run --example player SEED RTP-PORT PEER-RTP-PORT [RECORD]
+//!     cargo run --example by_hand SEED RTP-PORT PEER-RTP-PORT [RECORD]
 //!
 //! for example with `1 6004 6014` here and `2 6014 6004` in another terminal. With RECORD it records its calls
 //! in the file of that name, and in RECORD.sh the command that plays them again: `sh RECORD.sh < RECORD`, with
