@@ -501,7 +501,8 @@ uint32_t jalwedd_arrive_rtp(jalwedd_handle *handle, uint64_t now, uint64_t peer,
     JALWEDD_NOT_NULL;
 
 /* The host sent an RTP packet at the moment `now`, with this RTP timestamp and `payload` octets of payload, not
- * counting padding (6.3.8, 6.4.1). Hands out nothing, and leaves `octets` as they are; but they have to be there.
+ * counting padding (6.3.8, 6.4.1). The timestamp is that of `now`: if the packet's own is of another moment,
+ * jalwedd_rtp_at moves it. Hands out nothing, and leaves `octets` as they are; but they have to be there.
  * Statuses: TAKEN; LEFT to TOO_MANY; IS_EMPTY. */
 uint32_t jalwedd_sent_rtp(jalwedd_handle *handle, uint64_t now, uint32_t timestamp, uint32_t payload,
                           jalwedd_step *step, uint8_t octets[JALWEDD_OCTETS]) JALWEDD_NOT_NULL;
@@ -694,6 +695,17 @@ uint32_t jalwedd_round_trip(uint32_t arrival, uint32_t lsr, uint32_t dlsr);
 /* The NTP timestamp of the moment `now` (section 4), counted in microseconds from the one that has the timestamp
  * `ntp_base`. That is the start: at a moment `now` of the host's clock pass config.ntp_base and now - config.start. */
 uint64_t jalwedd_ntp_of(uint64_t ntp_base, uint64_t now);
+
+/* The RTP timestamp of the moment `now`, where that of the moment `sampled` is `timestamp` and the clock counts `rate`
+ * units a second: modulo 2^32, and rounded to the nearest. `now` may be the earlier one. For jalwedd_sent_rtp, where a
+ * packet does not go out at the moment of its timestamp: reports would tell a wrong one by all that it is early or
+ * late, as by the length of a frame that was sampled before it was sent. */
+static inline uint32_t jalwedd_rtp_at(uint32_t timestamp, uint64_t sampled, uint64_t now, uint32_t rate)
+{
+    const uint64_t apart = now >= sampled ? now - sampled : sampled - now;
+    const uint64_t units = apart / 1000000 * rate + (apart % 1000000 * rate + 500000) / 1000000;
+    return (now >= sampled ? timestamp + units : timestamp - units) & UINT32_MAX;
+}
 
 #ifdef __cplusplus
 }
