@@ -127,17 +127,20 @@ pub struct Change {
 
 impl Change {
     /// Whether it takes part now, and did not before.
+    #[must_use]
     pub fn joined(&self) -> bool {
         self.was == Role::Away && self.is != Role::Away
     }
 
     /// Whether it took part, and left with a BYE (RFC 3550, 6.3.4).
+    #[must_use]
     pub fn left(&self) -> bool {
         self.has_left && self.is_gone()
     }
 
     /// Whether it took part, and is gone without a BYE: it was silent for too long (RFC 3550, 6.3.5), or the host
     /// dismissed it ([`Participant::forget`](crate::Participant::forget)). A host knows whom it dismissed.
+    #[must_use]
     pub fn went_without_bye(&self) -> bool {
         !self.has_left && self.is_gone()
     }
@@ -145,16 +148,19 @@ impl Change {
     /// The former name of [`went_without_bye`](Change::went_without_bye): a source that the host dismissed did not
     /// time out.
     #[deprecated(since = "0.5.3", note = "use `went_without_bye`: a dismissed source is one of these too")]
+    #[must_use]
     pub fn timed_out(&self) -> bool {
         self.went_without_bye()
     }
 
     /// Whether it sends now, and did not before.
+    #[must_use]
     pub fn began_to_send(&self) -> bool {
         self.was != Role::Sender && self.is == Role::Sender
     }
 
     /// Whether it sent, and does not send now: it stays without sending, or it is gone.
+    #[must_use]
     pub fn stopped_sending(&self) -> bool {
         self.was == Role::Sender && self.is != Role::Sender
     }

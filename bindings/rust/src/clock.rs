@@ -27,12 +27,14 @@ pub struct Clock {
 impl Clock {
     /// Starts at moment 0, and reads the time of day together with it. A participant that begins then has the
     /// start [`Moment::ZERO`].
+    #[must_use]
     pub fn start() -> Clock {
         let since_1970 = SystemTime::now().duration_since(UNIX_EPOCH).unwrap_or_default();
         Clock { begin: Instant::now(), ntp_base: ntp_of_unix(since_1970) }
     }
 
     /// The present moment, by a monotonic clock (`Instant`).
+    #[must_use]
     pub fn now(&self) -> Moment {
         self.begin.elapsed().into()
     }
@@ -40,6 +42,7 @@ impl Clock {
     /// The NTP timestamp of moment 0, which is the [`Config::ntp_base`](crate::Config::ntp_base) of a participant
     /// that begins then: seconds since 1900 in the upper 32 bits, their fraction in the lower (RFC 3550, section
     /// 4). A time of day before 1970 counts as the beginning of 1970.
+    #[must_use]
     pub fn ntp_base(&self) -> u64 {
         self.ntp_base
     }

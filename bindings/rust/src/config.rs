@@ -93,6 +93,7 @@ impl Config {
     /// A participant with this SSRC that begins at the moment `start` of the host's clock, which is `ntp_base` by the
     /// time of day: read both clocks together. All else is as for a session of 64,000 bits a second, PCMU at 8,000
     /// units a second and no other clock: a capacity of 1,024 sources, and compounds of at most 1,472 octets.
+    #[must_use]
     pub const fn new(ssrc: u32, start: Moment, ntp_base: u64) -> Config {
         Config {
             ntp_base,
@@ -110,36 +111,42 @@ impl Config {
 
     /// The same in a session of so many bits a second: 5 per cent of them are for RTCP, and a quarter of that for
     /// senders (RFC 3550, 6.2).
+    #[must_use]
     pub const fn with_session_bps(self, bits: u64) -> Config {
         let (all, senders) = (bits / 160, bits / 160 / 4);
         self.with_bandwidths(at_most_32_bits(senders), at_most_32_bits(all - senders))
     }
 
     /// The same with these bandwidths for the RTCP of senders and of the others, in octets a second (RFC 3556).
+    #[must_use]
     pub const fn with_bandwidths(mut self, sender_bw: u32, receiver_bw: u32) -> Config {
         (self.sender_bw, self.receiver_bw) = (sender_bw, receiver_bw);
         self
     }
 
     /// The same with another [`capacity`](Config::capacity).
+    #[must_use]
     pub const fn with_capacity(mut self, capacity: u32) -> Config {
         self.capacity = capacity;
         self
     }
 
     /// The same with another [`limit`](Config::limit).
+    #[must_use]
     pub const fn with_limit(mut self, limit: u32) -> Config {
         self.limit = limit;
         self
     }
 
     /// The same with another [`rate`](Config::rate).
+    #[must_use]
     pub const fn with_rate(mut self, rate: u32) -> Config {
         self.rate = rate;
         self
     }
 
     /// The same with these [`clocks`](Config::clocks).
+    #[must_use]
     pub const fn with_clocks(mut self, clocks: RtpClocks) -> Config {
         self.clocks = clocks;
         self
@@ -232,6 +239,7 @@ impl RtpClocks {
     }
 
     /// The clocks, in their order.
+    #[must_use]
     pub fn as_slice(&self) -> &[RtpClock] {
         &self.room[..self.count]
     }

@@ -117,6 +117,7 @@ impl Report {
     ///
     /// `None` if its [`lsr`](Report::lsr) is 0, and zero if the result is negative because the reporter's
     /// clock is coarse.
+    #[must_use]
     pub fn round_trip(&self, arrival: u64) -> Option<Duration> {
         let trip = round_trip((arrival >> 16) as u32, self.lsr, self.dlsr) as i32;
         let nanoseconds = u64::from(trip.max(0).unsigned_abs()) * 1_000_000_000 / 65_536;
@@ -129,6 +130,7 @@ impl Report {
 /// `arrival` is the middle 32 bits of the NTP timestamp at which it came; `lsr` and `dlsr` are the report's.
 /// Read as an `i32`, the result may be negative if the reporter's clock is coarse. [`Report::round_trip`]
 /// handles that, and an `lsr` of 0, which gives no round trip.
+#[must_use]
 pub fn round_trip(arrival: u32, lsr: u32, dlsr: u32) -> u32 {
     sys::jalwedd_round_trip(arrival, lsr, dlsr)
 }
@@ -139,6 +141,7 @@ pub fn round_trip(arrival: u32, lsr: u32, dlsr: u32) -> u32 {
 /// `ntp_base` is that of [`Moment::ZERO`] by the same clock, such as `Clock::ntp_base`. With
 /// [`Config::ntp_base`](crate::Config::ntp_base), which is that of [`Config::start`](crate::Config::start), pass
 /// the time since the start: `now.saturating_duration_since(start).into()`.
+#[must_use]
 pub fn ntp_of(ntp_base: u64, now: Moment) -> u64 {
     sys::jalwedd_ntp_of(ntp_base, now.as_micros())
 }

@@ -54,6 +54,7 @@ pub struct RtpHead<'a> {
 
 impl<'a> RtpHead<'a> {
     /// The CSRCs, in their order: at most 15.
+    #[must_use]
     pub fn csrcs(&self) -> impl ExactSizeIterator<Item = u32> + 'a {
         self.csrcs.chunks_exact(4).map(|csrc| u32::from_be_bytes([csrc[0], csrc[1], csrc[2], csrc[3]]))
     }

@@ -7,6 +7,9 @@
 //!
 //! # The loop of a host
 //!
+//! With the feature `std` the module `host` has a whole host: sockets, clock, random words, the loop and a table of who
+//! is there. One with a loop of its own:
+//!
 #![cfg_attr(feature = "std", doc = "```no_run")]
 #![cfg_attr(not(feature = "std"), doc = "```ignore")]
 //! use jalwedd::{Answer, Clock, Config, Moment, Participant, Refusal};
@@ -67,7 +70,7 @@
 //! [`sources`](Participant::sources) lists the sources, each with what lip sync needs, and [`changes`] says
 //! who joined or left between two listings. [`about`] reads from a datagram how others receive the host's
 //! stream, [`items`] their names, and [`rtp_head`] the head of a packet with media. [`record`] writes the
-//! calls of a session as `rtcp replay` reads them. The example `player` shows all of this.
+//! calls of a session as `rtcp replay` reads them. The example `by_hand` shows all of this.
 //!
 //! # Arguments
 //!
@@ -117,6 +120,8 @@ mod datagram;
 mod errors;
 mod guard;
 mod head;
+#[cfg(feature = "std")]
+pub mod host;
 mod moment;
 mod participant;
 mod parts;
@@ -136,7 +141,7 @@ pub use datagram::{about, check, check_rtp, ntp_of, round_trip, Report, Reports}
 pub use errors::{Fault, FaultReason, GuardError, NewError, NotRising, Refusal, RtpFault, TextTooLong, TooManyClocks};
 pub use guard::HeldBack;
 pub use head::{rtp_head, RtpHead};
-pub use moment::Moment;
+pub use moment::{rtp_at, Moment};
 pub use participant::Participant;
 pub use parts::{apps, blocks, goodbyes, items, senders, App, Goodbye, Parts, SdesItem, SenderReport};
 pub use sources::{LastBlock, Reception, SourceState, Sources, Told};

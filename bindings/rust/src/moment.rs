@@ -32,11 +32,13 @@ impl Moment {
     pub const LAST: Moment = Moment(1 << 50);
 
     /// The moment that many microseconds after moment 0.
+    #[must_use]
     pub const fn from_micros(micros: u64) -> Moment {
         Moment(micros)
     }
 
     /// The microseconds from moment 0 to this moment.
+    #[must_use]
     pub const fn as_micros(self) -> u64 {
         self.0
     }
@@ -48,12 +50,14 @@ impl Moment {
 
     /// The time from an earlier moment to this one, or zero if that is not earlier. From the present moment,
     /// it is how long to wait for this one.
+    #[must_use]
     pub const fn saturating_duration_since(self, earlier: Moment) -> Duration {
         Duration::from_micros(self.0.saturating_sub(earlier.0))
     }
 
     /// The moment that much later, in whole microseconds, rounded down: 2^64 - 1 microseconds if that does
     /// not fit 64 bits.
+    #[must_use]
     pub fn saturating_add(self, time: Duration) -> Moment {
         Moment(self.0.saturating_add(Moment::from(time).0))
     }
@@ -87,6 +91,32 @@ impl From<Moment> for Duration {
     /// The time from moment 0 to the moment, exactly.
     fn from(moment: Moment) -> Duration {
         Duration::from_micros(moment.0)
+    }
+}
+
+/// The RTP timestamp of the moment `now`, where that of the moment `sampled` is `timestamp` and the clock counts `rate`
+/// units a second: modulo 2^32, and rounded to the nearest. `now` may be the earlier one.
+///
+/// For [`Participant::sent_rtp`](crate::Participant::sent_rtp), where a packet does not go out at the moment of its
+/// timestamp: reports would tell a wrong one by all that it is early or late.
+///
+/// ```
+/// use jalwedd::{rtp_at, Moment};
+///
+/// let (sampled, now) = (Moment::from_micros(600_000_000), Moment::from_micros(600_020_000));
+/// assert_eq!(rtp_at(u32::MAX, sampled, now, 8_000), 159);
+/// assert_eq!(rtp_at(159, now, sampled, 8_000), u32::MAX);
+/// ```
+#[must_use]
+pub fn rtp_at(timestamp: u32, sampled: Moment, now: Moment, rate: u32) -> u32 {
+    let (sampled, now, rate) = (sampled.as_micros(), now.as_micros(), u64::from(rate));
+    let apart = now.abs_diff(sampled);
+    let units = apart / 1_000_000 * rate + (apart % 1_000_000 * rate + 500_000) / 1_000_000;
+    let units = (units & u64::from(u32::MAX)) as u32;
+    if now >= sampled {
+        timestamp.wrapping_add(units)
+    } else {
+        timestamp.wrapping_sub(units)
     }
 }
 

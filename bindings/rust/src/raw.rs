@@ -14,6 +14,10 @@
 use crate::config::Item;
 use crate::sys;
 use core::cell::UnsafeCell;
+#[cfg(feature = "std")]
+use core::ffi::c_int;
+#[cfg(feature = "std")]
+use core::sync::atomic::{AtomicBool, Ordering};
 
 /// A participant of the library.
 ///
@@ -252,4 +256,21 @@ fn taken<T: Default>(call: impl FnOnce(&mut T) -> u32) -> Result<T, u32> {
         sys::JALWEDD_TAKEN => Ok(told),
         status => Err(status),
     }
+}
+
+/// From now on an interrupt (SIGINT) does not end the process, and sets this flag.
+#[cfg(feature = "std")]
+pub(crate) fn catch_interrupt() -> &'static AtomicBool {
+    const SIGINT: c_int = 2;
+    static CAME: AtomicBool = AtomicBool::new(false);
+    unsafe extern "C" {
+        /// The C library's. It returns a pointer, to the handler before or SIG_ERR, which nothing here reads.
+        fn signal(number: c_int, handler: extern "C" fn(c_int)) -> usize;
+    }
+    extern "C" fn note(_number: c_int) {
+        CAME.store(true, Ordering::Relaxed);
+    }
+    // SAFETY: the declaration is C's, and the handler only stores to an atomic, as it may at any moment
+    unsafe { signal(SIGINT, note) };
+    &CAME
 }

@@ -144,6 +144,7 @@ impl Call<'_> {
     }
 
     /// When it is made, by the host's clock.
+    #[must_use]
     pub fn now(&self) -> Moment {
         match *self {
             Call::ArriveRtcp { now, .. }
@@ -159,6 +160,7 @@ impl Call<'_> {
 
 impl<'a> Call<'a> {
     /// Its line in the record of a participant with this [`Config::start`].
+    #[must_use]
     pub fn line(self, start: Moment) -> Line<'a> {
         Line { call: self, start }
     }

@@ -1,0 +1,394 @@
+//! A whole host with the standard library: sockets, clock, random words and the loop around a participant, and a table
+//! of who is there.
+//!
+//! A host that only listens:
+//!
+//! ```no_run
+//! use jalwedd::host::{Event, Host};
+//!
+//! fn main() -> Result<(), Box<dyn std::error::Error>> {
+//!     let host = Host::builder("player@example.com")
+//!         .session_bps(64_000)
+//!         .stop_at_interrupt()
+//!         .open("[::]:5004", "[2001:db8::1]:5004")?;
+//!     for event in host {
+//!         match event {
+//!             Event::Joined(source) => println!("{:08x} {} joined", source.ssrc, source.cname()),
+//!             Event::Left(source) => println!("{:08x} left", source.ssrc),
+//!             _ => {}
+//!         }
+//!     }
+//!     Ok(())
+//! }
+//! ```
+//!
+//! A [`Host`] is an iterator that waits for the next [`Event`]: while the program is not in `next`, nothing is sent.
+//! It reports when that is due, ticks at least once a second, and once it is to leave does so with a BYE, or without
+//! one if that is not due in time (RFC 3550, 6.3.7); then the iterator ends. It drops RTCP datagrams of more than
+//! 1,500 octets. It does not authenticate anybody, limit a peer's datagrams or make room in a full table:
+//! docs/EMBEDDING.md in the repository says why a host on an open network does.
+//!
+//! A host with a loop of its own takes the pieces: [`Clock`], [`Words`], [`Peer`] and [`Table`].
+
+mod builder;
+mod system;
+mod table;
+
+pub use builder::{Builder, OpenError};
+pub use system::{Peer, Words};
+pub use table::{Source, Table, TableChange};
+
+use crate::answer::{Answer, Step};
+use crate::changes::Role;
+use crate::clock::Clock;
+use crate::datagram::{about, ntp_of};
+use crate::errors::Refusal;
+use crate::head::rtp_head;
+use crate::moment::{rtp_at, Moment};
+use crate::participant::Participant;
+use alloc::boxed::Box;
+use alloc::collections::VecDeque;
+use alloc::vec::Vec;
+use core::fmt;
+use core::net::SocketAddr;
+use core::sync::atomic::Ordering;
+use core::time::Duration;
+use std::io;
+use system::{Arrival, Sockets};
+
+/// A larger RTCP datagram is dropped: one of 65,504 octets could name 8,057 sources.
+const LARGEST_RTCP: usize = 1_500;
+
+const SECOND: Duration = Duration::from_secs(1);
+
+/// How long a host waits at most while it has to look at a flag.
+const GLANCE: Duration = Duration::from_millis(100);
+
+/// The most datagrams between two looks at the clock.
+const DATAGRAMS: usize = 64;
+
+/// What happened.
+#[derive(Clone, Debug)]
+#[non_exhaustive]
+pub enum Event {
+    /// A source joined, as a member, or as a sender at once ([`Source::role`]).
+    Joined(Box<Source>),
+    /// A source said goodbye.
+    Left(Box<Source>),
+    /// A source was silent for too long.
+    TimedOut(Box<Source>),
+    /// A source was [dismissed](Host::dismiss).
+    Dismissed(Box<Source>),
+    /// A source began to send, or stopped.
+    RoleChanged(Box<Source>),
+    /// A source reported about the own stream ([`Source::report`]).
+    Reported(Box<Source>),
+    /// The own SSRC changed (RFC 3550, 8.2): it is [`Participant::ssrc`] now.
+    SsrcChanged {
+        /// What it was.
+        before: u32,
+    },
+    /// A datagram was refused.
+    Refused {
+        /// Why.
+        refusal: Refusal,
+        /// The datagram.
+        datagram: Vec<u8>,
+    },
+    /// An RTP packet was taken: [`rtp_head`] says where its payload is.
+    Packet(Vec<u8>),
+    /// An RTCP datagram was taken.
+    Compound(Vec<u8>),
+    /// It is time for media, which was due at this moment ([`Builder::media_every`]).
+    Media(Moment),
+    /// A second has passed, and the table is up to date.
+    Second(Moment),
+}
+
+/// A whole host: an iterator over what happens, which ends once it has left.
+#[must_use = "a host does nothing unless its events are asked for"]
+pub struct Host {
+    session: Participant,
+    rate: u32,
+    clock: Clock,
+    words: Words,
+    peer: Peer,
+    sockets: Sockets,
+    table: Table,
+    events: VecDeque<Event>,
+    /// The moment of the latest call: none is earlier.
+    latest: Moment,
+    ticked: Moment,
+    media_due: Option<Moment>,
+    /// When it goes even without its BYE, once it leaves.
+    end: Option<Moment>,
+    is_to_leave: bool,
+    sequence: u16,
+    settings: Builder,
+}
+
+impl Host {
+    /// The settings of a host with this CNAME, 1 to 255 octets, for example `user@host`.
+    pub fn builder(cname: impl Into<Vec<u8>>) -> Builder {
+        Builder::new(cname.into())
+    }
+
+    fn begin(settings: Builder, own: SocketAddr, peer: Option<SocketAddr>) -> Result<Host, OpenError> {
+        let (clock, mut words) = (Clock::start(), Words::new());
+        let mut config = settings.config;
+        (config.ssrc, config.ntp_base) = (words.draw(), clock.ntp_base());
+        let session = Participant::new(&config, &settings.cname, &settings.items, words.draw())?;
+        let sockets = Sockets::open(own, peer, clock)?;
+        let (sequence, now) = (words.draw() as u16, clock.now());
+        Ok(Host {
+            session,
+            rate: config.rate,
+            clock,
+            words,
+            peer: Peer::new(),
+            sockets,
+            table: Table::new(),
+            events: VecDeque::new(),
+            latest: now,
+            ticked: now,
+            media_due: settings.media_every.map(|_| now),
+            end: None,
+            is_to_leave: false,
+            sequence,
+            settings,
+        })
+    }
+
+    /// Who is there.
+    #[must_use]
+    pub fn table(&self) -> &Table {
+        &self.table
+    }
+
+    /// The participant: its SSRC, and how many members it counts.
+    #[must_use]
+    pub fn session(&self) -> &Participant {
+        &self.session
+    }
+
+    /// Sends an RTP packet with this payload under the own SSRC. Its timestamp is that of the moment `sampled`, such
+    /// as that of [`Event::Media`].
+    ///
+    /// # Errors
+    ///
+    /// What the socket says, [`io::ErrorKind::NotConnected`] if there is no peer or it has left.
+    pub fn send(
+        &mut self,
+        sampled: Moment,
+        payload_type: u8,
+        timestamp: u32,
+        payload: &[u8],
+    ) -> io::Result<()> {
+        if self.end.is_some() {
+            return Err(io::ErrorKind::NotConnected.into());
+        }
+        let mut packet = Vec::with_capacity(12 + payload.len());
+        packet.extend([0x80, payload_type]);
+        packet.extend(self.sequence.to_be_bytes());
+        packet.extend(timestamp.to_be_bytes());
+        packet.extend(self.session.ssrc().to_be_bytes());
+        packet.extend(payload);
+        self.sequence = self.sequence.wrapping_add(1);
+        self.sockets.send_rtp(&packet)?;
+        let now = self.at(self.clock.now());
+        let timestamp = rtp_at(timestamp, sampled, now, self.rate);
+        let _ = self.session.sent_rtp(now, timestamp, payload.len() as u32);
+        Ok(())
+    }
+
+    /// Dismisses a source, as [`Participant::forget`] does: if it was a member, [`Event::Dismissed`] comes.
+    pub fn dismiss(&mut self, ssrc: u32) {
+        let now = self.at(self.clock.now());
+        self.table.dismiss(ssrc);
+        if self.end.is_none() && self.session.forget(now, ssrc).is_ok() {
+            self.table.update(self.session.sources());
+            self.tell_changes();
+        }
+    }
+
+    /// Leaves with the next event that is asked for.
+    pub fn leave(&mut self) {
+        self.is_to_leave = true;
+    }
+
+    /// A moment as it is told: none is earlier than that of the latest call.
+    fn at(&mut self, moment: Moment) -> Moment {
+        self.latest = self.latest.max(moment);
+        self.latest
+    }
+
+    fn is_over(&self) -> bool {
+        self.session.next_tick().is_none() || self.end.is_some_and(|end| end <= self.clock.now())
+    }
+
+    fn is_told_to_leave(&self) -> bool {
+        self.is_to_leave || self.settings.stop.is_some_and(|flag| flag.load(Ordering::Relaxed))
+    }
+
+    /// When to tick, unless it has left: at that moment, and at least once a second.
+    fn next_tick(&self) -> Option<Moment> {
+        self.session.next_tick().map(|next| next.min(self.ticked + SECOND))
+    }
+
+    /// Waits for a datagram or until something is due, and does what is due.
+    fn turn(&mut self) {
+        let due =
+            [self.next_tick(), self.media_due, self.end].into_iter().flatten().min().unwrap_or_default();
+        let wait = due.saturating_duration_since(self.clock.now());
+        let most = if self.settings.stop.is_some() { GLANCE } else { SECOND };
+        let mut wait = wait.min(most);
+        for _ in 0..DATAGRAMS {
+            let Some(arrival) = self.sockets.wait(wait) else { break };
+            self.take(arrival);
+            wait = Duration::ZERO;
+        }
+        self.do_what_is_due();
+    }
+
+    fn do_what_is_due(&mut self) {
+        let now = self.at(self.clock.now());
+        if let Some(due) = self.media_due.filter(|due| *due <= now) {
+            self.events.push_back(Event::Media(due));
+            self.media_due = self.settings.media_every.map(|time| due + time);
+        }
+        if self.end.is_none() && self.is_told_to_leave() {
+            (self.end, self.media_due) = (Some(now + self.settings.leave_time), None);
+            let answer = self.session.leave(now, self.words.draw());
+            let _ = settle(&self.sockets, &self.table, self.settings.is_to_members, answer);
+        }
+        if self.next_tick().is_some_and(|next| next <= now) {
+            self.tick(now);
+        }
+    }
+
+    fn tick(&mut self, now: Moment) {
+        let answer = self.session.tick(now, self.words.draw(), self.words.draw());
+        let step = settle(&self.sockets, &self.table, self.settings.is_to_members, answer);
+        let is_second = self.ticked + SECOND <= now;
+        self.follow(step.ok(), self.session.ssrc());
+        if is_second {
+            self.ticked = now;
+        }
+        if is_second && self.end.is_none() {
+            self.table.update(self.session.sources());
+            self.table.second();
+            self.tell_changes();
+            self.events.push_back(Event::Second(now));
+        } else {
+            self.tell_changes();
+        }
+    }
+
+    fn take(&mut self, arrival: Arrival) {
+        let is_rtcp = arrival.is_rtcp;
+        if is_rtcp && arrival.datagram.len() > LARGEST_RTCP {
+            return;
+        }
+        let (own, now, word) = (self.session.ssrc(), self.at(arrival.at), self.words.draw());
+        let (peer, datagram) = (self.peer.number(&arrival.from), &arrival.datagram[..]);
+        let answer = if is_rtcp {
+            self.session.arrive_rtcp(now, peer, word, datagram)
+        } else {
+            self.session.arrive_rtp(now, peer, word, datagram)
+        };
+        match settle(&self.sockets, &self.table, self.settings.is_to_members, answer) {
+            Err(refusal) => {
+                self.events.push_back(Event::Refused { refusal, datagram: arrival.datagram });
+                return;
+            }
+            Ok(step) => self.follow(Some(step), own),
+        }
+        if is_rtcp {
+            self.took_rtcp(now, own, arrival);
+        } else {
+            self.took_rtp(arrival);
+        }
+    }
+
+    /// What a step says besides what to send. From a leave on nobody is listed.
+    fn follow(&mut self, step: Option<Step>, before: u32) {
+        let Some(step) = step else { return };
+        if step.changed {
+            self.events.push_back(Event::SsrcChanged { before });
+        }
+        if step.others_changed && self.end.is_none() {
+            self.table.update(self.session.sources());
+        }
+    }
+
+    /// Reports about the own stream name the SSRC before the call.
+    fn took_rtcp(&mut self, now: Moment, own: u32, arrival: Arrival) {
+        let _ = self.table.take_items(arrival.from, &arrival.datagram);
+        self.tell_changes();
+        let ntp = ntp_of(self.clock.ntp_base(), now);
+        for report in about(&arrival.datagram, own).into_iter().flatten() {
+            if let Some(source) = self.table.take_report(&report, ntp, self.rate) {
+                self.events.push_back(Event::Reported(Box::new(source.clone())));
+            }
+        }
+        self.events.push_back(Event::Compound(arrival.datagram));
+    }
+
+    fn took_rtp(&mut self, arrival: Arrival) {
+        if let Ok(head) = rtp_head(&arrival.datagram) {
+            self.table.take_packet(arrival.from, head.ssrc);
+        }
+        self.tell_changes();
+        self.events.push_back(Event::Packet(arrival.datagram));
+    }
+
+    fn tell_changes(&mut self) {
+        for TableChange { was, source } in self.table.changes() {
+            self.events.push_back(match (was, source.role) {
+                (Role::Away, _) => Event::Joined(source),
+                (_, Role::Away) if source.has_left => Event::Left(source),
+                (_, Role::Away) if source.is_dismissed() => Event::Dismissed(source),
+                (_, Role::Away) => Event::TimedOut(source),
+                _ => Event::RoleChanged(source),
+            });
+        }
+    }
+}
+
+/// Sends what a call handed out, and returns its step.
+fn settle(
+    sockets: &Sockets,
+    table: &Table,
+    is_to_members: bool,
+    answer: Result<Answer<'_>, Refusal>,
+) -> Result<Step, Refusal> {
+    let Answer { step, out } = answer?;
+    match out {
+        Some(out) if is_to_members => {
+            table.sources().filter(|source| source.rtcp.is_some()).for_each(|source| {
+                sockets.send_rtcp(out.octets, source.rtcp);
+            });
+        }
+        Some(out) => sockets.send_rtcp(out.octets, None),
+        None => {}
+    }
+    Ok(step)
+}
+
+impl Iterator for Host {
+    type Item = Event;
+
+    /// Waits for the next event: `None` once it has left.
+    fn next(&mut self) -> Option<Event> {
+        while self.events.is_empty() && !self.is_over() {
+            self.turn();
+        }
+        self.events.pop_front()
+    }
+}
+
+impl fmt::Debug for Host {
+    fn fmt(&self, to: &mut fmt::Formatter<'_>) -> fmt::Result {
+        to.debug_struct("Host").field("session", &self.session).finish_non_exhaustive()
+    }
+}
