@@ -7,8 +7,7 @@
 #include <cstdio>
 #include <cstdlib>
 
-class player : public jalwedd::host {
-public:
+struct player : jalwedd::host {
     using host::host;
 
 private:
@@ -21,11 +20,14 @@ private:
 
     void second(std::uint64_t) override
     {
-        for (const jalwedd_row& row : rows_in_use())
-            std::printf("  %08x %lld received, %lld lost, %.1f %% in this second, jitter %.1f ms; reports %d lost, "
-                        "round trip %.1f ms\n", row.ssrc, static_cast<long long>(row.received),
-                        static_cast<long long>(row.lost), row.loss_second, row.jitter_ms, row.report.lost,
-                        row.round_trip_ms);
+        for (const jalwedd_row& row : rows_in_use()) {
+            std::printf("  %08x %lld received, %lld lost, %.1f %% in this second, jitter %.1f ms", row.ssrc,
+                        static_cast<long long>(row.received), static_cast<long long>(row.lost), row.loss_second,
+                        row.jitter_ms);
+            if (row.has_report != 0)
+                std::printf("; reports %d lost, round trip %.1f ms", row.report.lost, row.round_trip_ms);
+            std::printf("\n");
+        }
         std::fflush(stdout);
     }
 
@@ -43,7 +45,6 @@ private:
         char cname[256];
         std::printf("%08x %s %s\n", row.ssrc, jalwedd_row_text(&row, JALWEDD_SDES_CNAME, cname), what);
     }
-
     std::uint32_t timestamp_ = jalwedd_word();
 };
 
