@@ -217,9 +217,9 @@ class Session:
         if lines:
             told = sum(bool(line[5]) for line in lines)
             trips = [float(line[6]) for line in lines if line[6] and float(line[6]) >= 0]
-            self.figures.append(f"{name}: {len(lines)} lines as the relay counted, {lines[-1][2]} of "
-                                f"{int(lines[-1][1]) + int(lines[-1][2])} lost, {told} with the other's report, round trip "
-                                f"{max(trips, default=0):.1f} ms at most")
+            expected = int(lines[-1][1]) + int(lines[-1][2])
+            self.figures.append(f"{name}: {len(lines)} lines as the relay counted, {lines[-1][2]} of {expected} lost, "
+                                f"{told} with the other's report, round trip {max(trips, default=0):.1f} ms at most")
 
     def wrong_counts(self, side, lines):
         """Each line has the losses that a receiver of so many packets has to count, by the relay."""
