@@ -34,6 +34,7 @@
 
 #include "jalwedd_system.h"
 
+#include "jalwedd_record.h"
 #include "jalwedd_report_before.h"
 #include "jalwedd_table.h"
 
@@ -61,6 +62,8 @@ typedef struct jalwedd_host {
     size_t largest_rtcp;    /* a larger datagram is dropped: 1,500 octets at first */
     uint32_t puts_report_before; /* 1 to take RTCP without a report before it, of libre for example: 0 at first */
     const volatile sig_atomic_t *stop; /* leave once this is not 0: at first the flag of jalwedd_stop_at */
+    jalwedd_record calls;   /* where calls are recorded, and the command that plays them again (jalwedd_record.h): */
+    jalwedd_record command; /* nowhere at first, until the host sets their `write` and `to` */
 
     /* Called back, each unless it is NULL, as all are at first. A source joined as a member, or as a sender at once
      * (row->role). It said goodbye, was silent for too long, or was dismissed: row->role is JALWEDD_AWAY. It began to
@@ -120,7 +123,7 @@ static inline int jalwedd_host_open(jalwedd_host *host, const char *own, uint16_
 /* Begins the session now. Statuses: those of jalwedd_new. */
 static inline uint32_t jalwedd_host_begin(jalwedd_host *host) JALWEDD_TO_BE_USED;
 
-/* When the next turn is due, even if nothing comes: 0 if that is at once, and JALWEDD_NEVER once the session is over. */
+/* When the next turn is due, even if nothing comes: 0 for at once, and JALWEDD_NEVER once the session is over. */
 static inline uint64_t jalwedd_host_next(const jalwedd_host *host);
 
 /* Does what is due, without waiting: takes what came, leaves if it is to, sends media and ticks. */
@@ -154,22 +157,11 @@ static inline void jalwedd_host_leave(jalwedd_host *host)
 
 /* ---- Inside: hosts do not use what follows */
 
-static inline uint64_t jalwedd_sooner(uint64_t one, uint64_t other)
-{
-    return one < other ? one : other;
-}
-
-static inline int jalwedd_host_has_left(const jalwedd_host *host)
-{
-    return host->end != JALWEDD_NEVER;
-}
-
 static inline void jalwedd_host_init(jalwedd_host *host, const char *cname, uint32_t session_bps, uint32_t rate,
                                      jalwedd_row *rows, uint32_t row_count)
 {
     memset(host, 0, offsetof(jalwedd_host, octets)); /* those of datagrams stay untouched memory until one comes */
     host->config.ssrc = jalwedd_word();
-    host->config.capacity = row_count;
     host->config.limit = JALWEDD_OCTETS;
     host->config.sender_bw = session_bps / 160 / 4;
     host->config.receiver_bw = session_bps / 160 - host->config.sender_bw;
@@ -180,7 +172,7 @@ static inline void jalwedd_host_init(jalwedd_host *host, const char *cname, uint
     host->largest_rtcp = 1500;
     host->stop = &jalwedd_stopped;
     host->table.rows = rows;
-    host->table.room = row_count;
+    host->table.room = host->config.capacity = row_count;
     host->step.next = host->end = JALWEDD_NEVER;
     host->sequence = jalwedd_word() & 0xffff;
     jalwedd_key_draw(&host->key);
@@ -208,19 +200,21 @@ static inline int jalwedd_host_open(jalwedd_host *host, const char *own, uint16_
 static inline uint32_t jalwedd_host_begin(jalwedd_host *host)
 {
     static const jalwedd_item none = {0, 0, {0}};
-    const size_t size = strlen(host->cname);
+    const size_t size = strlen(host->cname), item_count = host->items ? host->item_count : 0;
+    const jalwedd_item *items = host->items ? host->items : &none;
+    const uint32_t word = jalwedd_word();
     uint8_t cname[255];
     uint32_t status;
     memcpy(cname, host->cname, size < sizeof cname ? size : sizeof cname);
     jalwedd_start_now(&host->config);
-    status = jalwedd_new(&host->session, &host->config, cname, size, host->items ? host->items : &none,
-                         host->items ? host->item_count : 0, jalwedd_word(), &host->step);
+    status = jalwedd_new(&host->session, &host->config, cname, size, items, item_count, word, &host->step);
+    host->calls.start = host->command.start = host->config.start;
+    if (status == JALWEDD_TAKEN)
+        jalwedd_record_command(&host->command, &host->config, cname, size, items, item_count, word);
     host->tick_due = host->config.start + JALWEDD_SECOND;
     host->media_due = host->media ? host->config.start : JALWEDD_NEVER;
     return status;
 }
-
-/* ---- What a call says */
 
 static inline void jalwedd_host_tell(jalwedd_host *host, const jalwedd_row *row, uint32_t was)
 {
@@ -251,7 +245,7 @@ static inline void jalwedd_host_settle(jalwedd_host *host, uint32_t before)
         sendto(host->rtcp, host->octets, step.size, 0, &host->to_rtcp.as.any, host->to_rtcp.size);
     if (step.changed && host->ssrc_changed)
         host->ssrc_changed(host, before);
-    if (step.others_changed && !jalwedd_host_has_left(host))
+    if (step.others_changed && host->end == JALWEDD_NEVER)
         jalwedd_table_update(&host->table, &host->session);
 }
 
@@ -274,10 +268,11 @@ static inline void jalwedd_host_take_reports(jalwedd_host *host, uint64_t now, u
 static inline void jalwedd_host_take_rtcp(jalwedd_host *host, const jalwedd_address *from, size_t came)
 {
     const size_t size = host->puts_report_before ? jalwedd_put_report_before(host->datagram, came) : came;
-    const uint64_t now = jalwedd_now();
-    const uint32_t own = host->step.ssrc;   /* blocks about it name the one before the call */
-    const uint32_t status = jalwedd_arrive_rtcp(&host->session, now, jalwedd_peer(&host->key, from), jalwedd_word(),
-                                                host->datagram, size, &host->step, host->octets);
+    const uint64_t now = jalwedd_now(), peer = jalwedd_peer(&host->key, from);
+    const uint32_t own = host->step.ssrc, word = jalwedd_word(); /* blocks about it name the one before the call */
+    const uint32_t status = jalwedd_arrive_rtcp(&host->session, now, peer, word, host->datagram, size, &host->step,
+                                                host->octets);
+    jalwedd_record_arrive_rtcp(&host->calls, now, peer, word, host->datagram, size);
     jalwedd_host_settle(host, own);
     if (status != JALWEDD_TAKEN) {
         if (host->refused)
@@ -293,10 +288,12 @@ static inline void jalwedd_host_take_rtcp(jalwedd_host *host, const jalwedd_addr
 
 static inline void jalwedd_host_take_rtp(jalwedd_host *host, const jalwedd_address *from, size_t size)
 {
-    const uint32_t own = host->step.ssrc;
-    const uint32_t status = jalwedd_arrive_rtp(&host->session, jalwedd_now(), jalwedd_peer(&host->key, from),
-                                               jalwedd_word(), host->datagram, size, &host->step, host->octets);
+    const uint64_t now = jalwedd_now(), peer = jalwedd_peer(&host->key, from);
+    const uint32_t own = host->step.ssrc, word = jalwedd_word();
+    const uint32_t status = jalwedd_arrive_rtp(&host->session, now, peer, word, host->datagram, size, &host->step,
+                                               host->octets);
     jalwedd_head_place head;
+    jalwedd_record_arrive_rtp(&host->calls, now, peer, word, host->datagram, size);
     jalwedd_host_settle(host, own);
     if (status != JALWEDD_TAKEN) {
         if (host->refused)
@@ -342,7 +339,7 @@ static inline int jalwedd_host_send(jalwedd_host *host, uint64_t now, uint64_t s
     const uint32_t own = host->step.ssrc, words[2] = {htonl(timestamp), htonl(own)};
     const uint16_t sequence = htons(host->sequence);
     uint8_t packet[12 + 1460];
-    if (size > sizeof packet - 12 || jalwedd_host_has_left(host) || host->to_rtp.size == 0)
+    if (size > sizeof packet - 12 || host->end != JALWEDD_NEVER || host->to_rtp.size == 0)
         return -1;
     packet[0] = 0x80;
     packet[1] = payload_type & 0xff;
@@ -352,8 +349,9 @@ static inline int jalwedd_host_send(jalwedd_host *host, uint64_t now, uint64_t s
     host->sequence++;
     if (sendto(host->rtp, packet, 12 + size, 0, &host->to_rtp.as.any, host->to_rtp.size) < 0)
         return -1;
-    jalwedd_sent_rtp(&host->session, now, jalwedd_rtp_at(timestamp, sampled, now, host->config.rate),
-                     size & UINT32_MAX, &host->step, host->octets);
+    timestamp = jalwedd_rtp_at(timestamp, sampled, now, host->config.rate);
+    jalwedd_record_sent_rtp(&host->calls, now, timestamp, size & UINT32_MAX);
+    jalwedd_sent_rtp(&host->session, now, timestamp, size & UINT32_MAX, &host->step, host->octets);
     jalwedd_host_settle(host, own);
     return 0;
 }
@@ -371,29 +369,36 @@ static inline int jalwedd_host_dismiss(jalwedd_host *host, uint32_t ssrc)
 static inline void jalwedd_host_dismiss_all(jalwedd_host *host, uint64_t now)
 {
     host->dismissals = 0;
-    for (uint32_t at = 0; at < host->table.count; at++)
-        if (host->table.rows[at].is_dismissed)
-            jalwedd_forget(&host->session, now, host->table.rows[at].ssrc, &host->step, host->octets);
+    for (uint32_t at = 0; at < host->table.count; at++) {
+        if (!host->table.rows[at].is_dismissed)
+            continue;
+        jalwedd_record_forget(&host->calls, now, host->table.rows[at].ssrc);
+        jalwedd_forget(&host->session, now, host->table.rows[at].ssrc, &host->step, host->octets);
+    }
     jalwedd_table_update(&host->table, &host->session);
     jalwedd_host_tell_changes(host);
 }
 
 static inline void jalwedd_host_go(jalwedd_host *host, uint64_t now)
 {
+    const uint32_t word = jalwedd_word();
     host->end = now + host->leave_time;
     host->media_due = JALWEDD_NEVER;
-    jalwedd_leave(&host->session, now, jalwedd_word(), &host->step, host->octets);
+    jalwedd_record_leave(&host->calls, now, word);
+    jalwedd_leave(&host->session, now, word, &host->step, host->octets);
     jalwedd_host_settle(host, host->step.ssrc);
 }
 
 static inline void jalwedd_host_tick(jalwedd_host *host, uint64_t now)
 {
     const int is_second = host->tick_due <= now;    /* or at step.next, within the second */
-    jalwedd_tick(&host->session, now, jalwedd_word(), jalwedd_word(), &host->step, host->octets);
+    const uint32_t word = jalwedd_word(), another = jalwedd_word();
+    jalwedd_record_tick(&host->calls, now, word, another);
+    jalwedd_tick(&host->session, now, word, another, &host->step, host->octets);
     jalwedd_host_settle(host, host->step.ssrc);
     if (is_second)
         host->tick_due = now + JALWEDD_SECOND;
-    if (jalwedd_host_has_left(host))
+    if (host->end != JALWEDD_NEVER)
         return;
     if (is_second) {
         jalwedd_table_update(&host->table, &host->session);
@@ -406,14 +411,14 @@ static inline void jalwedd_host_tick(jalwedd_host *host, uint64_t now)
 
 static inline int jalwedd_host_is_to_go(const jalwedd_host *host)
 {
-    return (host->is_to_leave || *host->stop) && !jalwedd_host_has_left(host);
+    return (host->is_to_leave || *host->stop) && host->end == JALWEDD_NEVER;
 }
 
 static inline uint64_t jalwedd_host_next(const jalwedd_host *host)
 {
     if (host->step.next == JALWEDD_NEVER)
         return JALWEDD_NEVER;
-    if (jalwedd_host_is_to_go(host) || (host->dismissals && !jalwedd_host_has_left(host)))
+    if (jalwedd_host_is_to_go(host) || (host->dismissals && host->end == JALWEDD_NEVER))
         return 0;
     return jalwedd_sooner(jalwedd_sooner(host->step.next, host->tick_due),
                           jalwedd_sooner(host->media_due, host->end));
@@ -429,7 +434,7 @@ static inline void jalwedd_host_turn(jalwedd_host *host)
     now = jalwedd_now();
     if (host->media_due <= now)
         host->media_due = host->media(host, now);
-    if (host->dismissals && !jalwedd_host_has_left(host))
+    if (host->dismissals && host->end == JALWEDD_NEVER)
         jalwedd_host_dismiss_all(host, now);
     if (jalwedd_host_is_to_go(host))
         jalwedd_host_go(host, now);

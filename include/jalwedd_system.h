@@ -94,6 +94,12 @@ static inline uint64_t jalwedd_ntp_now(void)
            (JALWEDD_CAST(uint64_t, now.tv_nsec) << 32) / 1000000000u;
 }
 
+/* The sooner of two moments. */
+static inline uint64_t jalwedd_sooner(uint64_t one, uint64_t other)
+{
+    return one < other ? one : other;
+}
+
 /* Sets config->start and config->ntp_base to the moment of now, by both clocks: of eight readings those that lie
  * closest together. Call jalwedd_new right after it. */
 static inline void jalwedd_start_now(jalwedd_config *config)

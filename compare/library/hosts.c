@@ -7,6 +7,7 @@
 
 static jalwedd_host one, two;
 static int joined_count, left_count, dismissed_count, reported_count, packet_count, refused_count, changed_count;
+static int sent_count;
 
 static void joined(jalwedd_host *host, const jalwedd_row *row)
 {
@@ -57,11 +58,35 @@ static void ssrc_changed(jalwedd_host *host, uint32_t before)
     changed_count++;
 }
 
+static char recorded[1 << 20];
+static size_t recorded_size;
+
+static int record(void *to, const char *text, size_t size)
+{
+    (void)to;
+    if (recorded_size + size >= sizeof recorded)
+        return 1;
+    memcpy(recorded + recorded_size, text, size);
+    recorded_size += size;
+    recorded[recorded_size] = '\0';
+    return 0;
+}
+
+/* How many lines of the record begin so. */
+static int recorded_lines(const char *begin)
+{
+    int count = 0;
+    for (const char *at = recorded; (at = strstr(at, begin)) != NULL; at++)
+        count += at == recorded || at[-1] == '\n';
+    return count;
+}
+
 static uint64_t media(jalwedd_host *host, uint64_t now)
 {
     static uint8_t silence[160];
     memset(silence, 0xff, sizeof silence);
     IS("sent", jalwedd_host_send(host, now, host->media_due, 0, (uint32_t)(now / 125), silence, 160), 0);
+    sent_count++;
     return host->media_due + 20000;
 }
 
@@ -92,9 +117,10 @@ static void test_hosts(const char *own, uint16_t port)
     jalwedd_host_init(&one, "one", 64000, 8000, of_one, 4);
     jalwedd_host_init(&two, "two", 64000, 8000, of_two, 4);
     one.joined = joined, one.left = left, one.dismissed = dismissed, one.packet = packet, one.refused = refused;
-    one.ssrc_changed = ssrc_changed;
+    one.ssrc_changed = ssrc_changed, one.calls.write = one.command.write = record, recorded_size = 0;
     two.reported = reported, two.media = media, two.second = second;
     joined_count = left_count = dismissed_count = reported_count = packet_count = refused_count = changed_count = 0;
+    sent_count = 0;
     IS("ports", jalwedd_host_open(&one, own, port, own, (uint16_t)(port + 4)), 0);
     IS("ports", jalwedd_host_open(&two, own, (uint16_t)(port + 4), own, port), 0);
     IS("one", jalwedd_host_begin(&one), JALWEDD_TAKEN);
@@ -104,8 +130,12 @@ static void test_hosts(const char *own, uint16_t port)
     IS("left, dismissed, refused, dropped", left_count * 1000 + dismissed_count * 100 + refused_count * 10 +
        (int)one.dropped, 1111);
     IS("changes of the SSRC", changed_count, 1);
-    IS("packets: all but the first of each probation", packet_count >= 340 && packet_count <= 352, 1);
+    IS("packets: all that were sent", packet_count, sent_count);
     IS("reports", reported_count >= 1, 1);
+    IS("the command, a dismissal and a leave are recorded", recorded_lines("rtcp replay --ssrc ") * 100 +
+       recorded_lines("forget ") * 10 + recorded_lines("leave "), 111);
+    IS("packets, and that of the stranger", recorded_lines("rtp "), packet_count + 1);
+    IS("ticks, at least one a second", recorded_lines("tick ") >= 7, 1);
     jalwedd_host_end(&one);
     jalwedd_host_end(&two);
 }
