@@ -20,7 +20,7 @@ using listing = std::vector<jalwedd_source_state>;
  * that draw by the word 0, as docs/PROTOCOL.md has it */
 constexpr std::uint64_t START = 600'000'000, FIRST = START + 1'026'037;
 
-constexpr jalwedd_config CONFIG = {0xeead0eea00000000, START, 0xaa, 1024, 1472, 100, 300, 8000, 0, {}, 0};
+constexpr jalwedd_config CONFIG = {0xeead0eea00000000, START, 0xaa, 1024, 1472, 100, 300, 8000, 0, {}, 0, {}};
 
 static_assert(!std::is_copy_constructible_v<participant> && !std::is_copy_assignable_v<participant>);
 static_assert(std::is_nothrow_move_constructible_v<participant> && std::is_nothrow_move_assignable_v<participant>);

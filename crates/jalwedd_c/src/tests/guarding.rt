@@ -115,7 +115,7 @@ fn strange_compounds_are_held_back(rt: HostRuntime) {
     assert_eq!(rt; jalwedd_free(alloc, &mut handle), 0);
 }
 
-/// Without a guard there is none to be told, and one for too many sources is refused.
+/// Without a guard there is none to be told.
 #[test]
 fn no_guard(rt: HostRuntime) {
     let alloc = rt.alloc();
@@ -132,17 +132,28 @@ fn no_guard(rt: HostRuntime) {
     assert_eq!(rt; jalwedd_held_back(alloc, &mut handle, &mut counts), 19);
     assert_eq!(rt; counts, NOTHING);
     assert_eq!(rt; jalwedd_free(alloc, &mut handle), 0);
-    for (names, trusted_names, status) in [(1_024, 0, 0), (1_025, 0, 18), (1, 1_025, 18)] {
-        let guard = GuardConfig {
-            names,
-            trusted_names,
-            hold: 0,
-        };
-        let config = Config { guard, ..CONFIG };
-        assert_eq!(rt;
-            jalwedd_new(alloc, &mut handle, &config, b"a", &[], 0, &mut step),
-            status
-        );
-        let _ = jalwedd_free(alloc, &mut handle);
-    }
+}
+
+/// An origin may have 1,024 sources at most, a trusted one too.
+#[test]
+fn limits(rt: HostRuntime) {
+    let alloc = rt.alloc();
+    assert_eq!(rt; status_of(alloc, 1_024, 0), 0);
+    assert_eq!(rt; status_of(alloc, 1_025, 0), 18);
+    assert_eq!(rt; status_of(alloc, 1, 1_025), 18);
+}
+
+/// The status of a configuration with such a guard.
+fn status_of(alloc: Global, names: u32, trusted_names: u32) -> u32 {
+    let mut handle = Handle::empty(alloc);
+    let mut step = HostStep::blank();
+    let guard = GuardConfig {
+        names,
+        trusted_names,
+        hold: 0,
+    };
+    let config = Config { guard, ..CONFIG };
+    let status = jalwedd_new(alloc, &mut handle, &config, b"a", &[], 0, &mut step);
+    let _ = jalwedd_free(alloc, &mut handle);
+    status
 }
