@@ -339,7 +339,7 @@ static uint64_t since(const struct listing *before, size_t *at, uint32_t ssrc, u
     return *at < before->count && before->seen[*at].ssrc == ssrc ? before->seen[*at].since : now;
 }
 
-/* As docs/EMBEDDING.md shows: if the table is full, forgets the source that was never valid and is listed for the
+/* As docs/EMBEDDING.md says: if the table is full, forgets the source that was never valid and is listed for the
  * longest time. Returns whether there was one. */
 static bool make_room(struct host *host, struct listing *listed, uint32_t capacity)
 {
