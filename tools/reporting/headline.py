@@ -41,8 +41,8 @@ def headline(session: Session, verdicts: list[Verdict], limits: Limits) -> str:
     return (f'<p class="verdict">{sentence(session, verdicts)}</p>\n'
             + box("Verdicts", table, count, is_tall=len(verdicts) > MOST_ROWS, kind="cards")
             + f'<p class="about">A good stream has at most {limits.text}; <code>--limits</code> sets others. '
-              f"{measured_where(session)} Over time: a line where packets came, and bars of what was lost, up to "
-              f"{per_cent(top)}.</p>\n")
+              f"{measured_where(session)} Over time: a line where packets came, or a report tells of them, and bars of "
+              f"what was lost, up to {per_cent(top)}.</p>\n")
 
 
 def measured_where(session: Session) -> str:
