@@ -2,17 +2,9 @@
 from __future__ import annotations
 
 from reporting.plots import clock_of, kinds_of, parts_of, rates, shares_of, window_of
-from reporting.series import numbers
+from reporting.series import limited
 from reporting.session import Session
 from reporting.svg import number
-
-MOST_ROWS = 200
-
-
-def limited(label: str, titles: list[str], rows: list[list[str]]) -> str:
-    """A table of numbers, which says if some are left out."""
-    left_out = len(rows) - MOST_ROWS
-    return numbers(label, titles, rows[:MOST_ROWS], f"; {number(left_out)} more are left out" if left_out > 0 else "")
 
 
 def members_numbers(session: Session) -> str:

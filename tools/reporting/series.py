@@ -5,11 +5,12 @@ from dataclasses import dataclass
 
 from reporting.plots import HEIGHT, line, picture, top_of, upper
 from reporting.session import Session
-from reporting.svg import RED, Panel, Plot, Point, plural
+from reporting.svg import RED, Panel, Plot, Point, number, plural
 from reporting.words import Cell, box, table
 
 PANEL = HEIGHT * 3 / 5
 MOST_ROWS = 12  # without scrolling
+MOST_NUMBERS = 200  # rows of a table of a plot of RTCP itself
 
 
 @dataclass(frozen=True)
@@ -73,3 +74,9 @@ def numbers(label: str, titles: list[str], rows: list[list[str]], note: str = ""
     count = plural(len(rows), "row") + note
     inside = box(label, inside, count, is_tall=len(rows) > MOST_ROWS)
     return f"<details>\n<summary>{label}</summary>\n{inside}</details>\n"
+
+
+def limited(label: str, titles: list[str], rows: list[list[str]]) -> str:
+    """A table of numbers, which says if some are left out."""
+    left_out = len(rows) - MOST_NUMBERS
+    return numbers(label, titles, rows[:MOST_NUMBERS], f"; {number(left_out)} more are left out" if left_out > 0 else "")

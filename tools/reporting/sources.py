@@ -5,6 +5,7 @@ from dataclasses import dataclass
 
 from reporting import plots
 from reporting.plots import clock_of
+from reporting.series import limited
 from reporting.session import DISMISSED, JOINED, SAID_BYE, TIMED_OUT, Heard, Session
 from reporting.svg import BLUE, GREEN, PURPLE, RED, number, plural, shown
 from reporting.words import MANY, box, percent, section
@@ -193,4 +194,12 @@ def what_is_shown(sources: list[Heard]) -> tuple[str, list[tuple[str, str, str]]
 def source_section(session: Session, source: Heard, scales: plots.Scales) -> str:
     name = f"{name_of(source.cname)} — " if source.cname is not None else ""
     return (f"<h3><code>{source.ssrc:08x}</code> {name}{plural(source.packets, 'RTP packet')}, "
-            f"{plural(source.compounds, 'RTCP compound')}</h3>\n" + plots.source_plot(session, source, scales))
+            f"{plural(source.compounds, 'RTCP compound')}</h3>\n" + plots.source_plot(session, source, scales)
+            + limited("When it reported, in seconds", ["at", "since its previous report"], spacings(session, source)))
+
+
+def spacings(session: Session, source: Heard) -> list[list[str]]:
+    """The time between each report of a source and the one before."""
+    moment = clock_of(session).moment
+    return [[moment(after), f"{(after - before) / 1e6:,.3f}"]
+            for before, after in zip(source.reports, source.reports[1:])]
