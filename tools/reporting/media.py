@@ -23,9 +23,9 @@ NUMBERS = ["stream, from", "came", "lost", "lost, %", "again", "jitter, ms", "at
 
 
 WORDS = ("What the RTP packets that came here say themselves, the worst stream first. Expected are the numbers from "
-         "the first to the greatest one, so what came is what was expected, less what was lost, and what came again. "
-         "Late are packets that came after one with a greater number. The jitter is that of RFC 3550, A.8, after "
-         "each packet; kbit/s count the octets of RTP, without headers of UDP and IP.")
+         "the first to the greatest one, so what came is what was expected, less what was lost, plus what came again. "
+         "Late are packets that came after one with a greater number. The jitter is that of RFC 3550, A.8, after each "
+         "packet; kbit/s count the octets of RTP, without headers of UDP and IP.")
 
 
 def media(session: Session, verdicts: list[Verdict]) -> str:
