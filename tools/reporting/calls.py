@@ -74,7 +74,8 @@ class Groups:
         """That which stands for all that belong to a thing."""
         above = self._above.setdefault(thing, thing)
         while above != self._above[above]:
-            above = self._above[above] = self._above[self._above[above]]
+            self._above[above] = self._above[self._above[above]]
+            above = self._above[above]
         self._above[thing] = above
         return above
 
