@@ -165,6 +165,12 @@ ONE_WAY = Session(compound(0, sender_report(7, 1 << 16))
                   [["00000007", "00000008", "5.0\u00a0%", "10", "200", "4.7 % at 0:00:02", "0, at most 0 units",
                     "at least 125.0, at most 125.0", "2", "0:00:01", "0:00:02"]],
                   words=["<strong>5.0\u00a0%</strong>", "10 of 200 by <code>00000008"])
+# Of 7's packets 8 lost 10, and then 4 of these come late: 6 of 200 in all. Its worst block tells of 12 of 256.
+LATE = Session(compound(0, "81c90007" + "00000008" + block(7, 0, 0, 100))
+               + compound(1_000_000, "81c90007" + "00000008" + block(7, 12, 10, 214))
+               + compound(2_000_000, "81c90007" + "00000008" + block(7, 0, 6, 300)),
+               [["00000007", "00000008", "3.0\u00a0%", "6", "200", "4.7 % at 0:00:01", "0, at most 0 units", "3",
+                 "0:00:00", "0:00:02"]])
 # The participant sends. 7 reports of it: 3 of 64 packets lost from block to block, 3,000 and 3,064 being the highest.
 # Its report went out at 1,026,037 microseconds with the LSR 000106aa. The block of a second later has a DLSR of 3/4
 # of a second.
@@ -218,4 +224,4 @@ SESSIONS = {"cut": CUT, "cut at once": CUT_AT_ONCE, "cut after a refusal": CUT_A
             "ended": ENDED, "dated": DATED, "next era": NEXT_ERA, "undated": UNDATED, "peers": PEERS,
             "furthest": FURTHEST, "furthest undated": FURTHEST_UNDATED, "trips": TRIPS, "one way": ONE_WAY, "own": OWN,
             "order": ORDER, "twice": TWICE, "anew": ANEW, "refused": REFUSED, "shared": SHARED,
-            "accepted": ACCEPTED, "early": EARLY}
+            "late": LATE, "accepted": ACCEPTED, "early": EARLY}

@@ -9,7 +9,7 @@ from reporting.series import Series, figure, losses_figure, numbers
 from reporting.session import Session
 from reporting.stream import Loss
 from reporting.svg import GREEN, PURPLE, RED, number, plural
-from reporting.verdict import Verdict, rate_of
+from reporting.verdict import Verdict, by_source, rate_of
 from reporting.words import Cell, box, section, subsection, table
 
 MOST_ROWS = 12  # without scrolling
@@ -31,7 +31,8 @@ NOBODY = " Nobody listened where the capture was made, so nothing was reported f
 def parties(session: Session, verdicts: list[Verdict]) -> str:
     """The reports of each source, the worst source first, and of these the worst report first."""
     title = "What each party reported"
-    pairs = [pair for verdict in verdicts for pair in sorted(session.reported.about(verdict.ssrc), key=worst_first)]
+    about = by_source(session)
+    pairs = [pair for verdict in verdicts for pair in sorted(about.get(verdict.ssrc, []), key=worst_first)]
     if not pairs:
         return section(title, "No report block came or went out.")
     words = WORDS + (NOBODY if session.is_captured else "")

@@ -55,7 +55,7 @@ class Span:
 
     begin: int
     end: int
-    lost: int
+    lost: int  # fewer than 0 where packets came late, or again
     expected: int
 
 
@@ -83,7 +83,7 @@ class Pair:
         for before, after in zip(self.blocks, self.blocks[1:]):
             expected = (after.highest - before.highest + HALF) % WHOLE - HALF
             if 0 < expected < MOST_EXPECTED:
-                found.append(Span(before.moment, after.moment, max(0, after.lost - before.lost), expected))
+                found.append(Span(before.moment, after.moment, after.lost - before.lost, expected))
         return found
 
     def _first_span(self, stream: Stream | None) -> Span | None:
@@ -91,17 +91,18 @@ class Pair:
         block = self.blocks[0]
         if stream is None or not stream.came or not 0 <= block.moment - stream.first < FIRST_BLOCK:
             return None
-        expected, lost = (block.highest - stream.first_sequence) % 65536 + 1, max(0, block.lost)
-        if abs(256 * lost // expected - block.fraction) > 1:
+        expected = (block.highest - stream.first_sequence) % 65536 + 1
+        if abs(256 * max(0, block.lost) // expected - block.fraction) > 1:
             return None
-        return Span(stream.first, block.moment, lost, expected)
+        return Span(stream.first, block.moment, block.lost, expected)
 
     def loss(self, stream: Stream | None) -> Loss | None:
         """What the reporter missed in all; none where its blocks do not tell of how many packets."""
         some = self.spans(stream)
         if not some:
             return None
-        return Loss(some[0].begin, sum(span.lost for span in some), sum(span.expected for span in some))
+        lost = sum(span.lost for span in some)
+        return Loss(some[0].begin, max(0, lost), sum(span.expected for span in some))
 
     def worst_minute(self, stream: Stream | None) -> Loss | None:
         """The spans within sixty seconds in which most was lost; or all of them, where they take less."""
@@ -115,9 +116,9 @@ def window_from(spans: list[Span], first: int) -> Loss | None:
     begin, lost, expected = spans[first].begin, 0, 0
     for at in range(first, len(spans)):
         if at > first and spans[at].end - begin > WINDOW * SECOND:
-            return Loss(begin, lost, expected)
+            return Loss(begin, max(0, lost), expected)
         lost, expected = lost + spans[at].lost, expected + spans[at].expected
-    return Loss(begin, lost, expected) if first == 0 else None
+    return Loss(begin, max(0, lost), expected) if first == 0 else None
 
 
 class Reports:
@@ -152,10 +153,6 @@ class Reports:
             pair = self.pairs[reporter, source] = Pair(reporter, source)
         if not pair.blocks or not block.repeats(pair.blocks[-1]):
             pair.blocks.append(block)
-
-    def about(self, source: int) -> list[Pair]:
-        """Those who report of a source."""
-        return [pair for pair in self.pairs.values() if pair.source == source]
 
     def trips(self, pair: Pair, own: set[int]) -> list[Trip]:
         """The round trips of a pair. Those that are this participant's have these SSRCs."""

@@ -79,4 +79,5 @@ def numbers(label: str, titles: list[str], rows: list[list[str]], note: str = ""
 def limited(label: str, titles: list[str], rows: list[list[str]]) -> str:
     """A table of numbers, which says if some are left out."""
     left_out = len(rows) - MOST_NUMBERS
-    return numbers(label, titles, rows[:MOST_NUMBERS], f"; {number(left_out)} more are left out" if left_out > 0 else "")
+    note = f"; {number(left_out)} more are left out" if left_out > 0 else ""
+    return numbers(label, titles, rows[:MOST_NUMBERS], note)

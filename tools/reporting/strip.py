@@ -48,7 +48,8 @@ def reported(pair: Pair, verdict: Verdict, size: int) -> list[Piece]:
 
 
 def percent_of(span: Span) -> float:
-    return 100 * span.lost / span.expected
+    """The part lost."""
+    return 100 * max(0, span.lost) / span.expected
 
 
 def in_words(session: Session, piece: Piece) -> str:
