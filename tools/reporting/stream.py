@@ -62,7 +62,7 @@ class Stream:
 
     __slots__ = ("came", "repeated", "late", "strays", "restarts", "octets", "first", "last", "gap", "gap_from",
                  "seconds", "kinds", "jitter", "most", "gaps", "lost", "first_sequence", "_sum", "_measured",
-                 "_expected", "_first", "_greatest", "_run", "_stray", "_rate", "_timestamp")
+                 "_expected", "_first", "_greatest", "_run", "_stray", "_stray_second", "_rate", "_timestamp")
 
     def __init__(self) -> None:
         self.came = self.repeated = self.late = self.strays = self.restarts = self.octets = 0
@@ -77,7 +77,8 @@ class Stream:
         self._expected = 0  # packets of the runs before this one
         self._first = self._greatest = -1  # extended sequence numbers of this run
         self._run = 0  # how many gaps are of the runs before
-        self._stray: int | None = None
+        self._stray: int | None = None  # the latest packet that is of no run, and its second
+        self._stray_second = Second()
         self._rate = self._timestamp = 0
 
     def take(self, moment: int, sequence: int, timestamp: int, kind: int, rate: int, size: int) -> None:
@@ -97,7 +98,7 @@ class Stream:
         if self.came and (sequence - self._greatest) % CYCLE == 1:
             self._greatest += 1
         elif self.came:
-            second.again += self._take_other(moment, sequence)
+            second.again += self._take_other(moment, sequence, second)
         else:
             self.first, self.first_sequence = moment, sequence
             self._first = self._greatest = CYCLE + sequence
@@ -119,7 +120,7 @@ class Stream:
                 self.most = max(self.most, jitter)
         self._rate, self._timestamp = rate, timestamp
 
-    def _take_other(self, moment: int, sequence: int) -> bool:
+    def _take_other(self, moment: int, sequence: int, second: Second) -> bool:
         """Takes a packet that is not the next one. Whether it is one more of those that came before, or of no run."""
         ahead = (sequence - self._greatest) % CYCLE
         if 0 < ahead < MOST_AHEAD:
@@ -130,7 +131,7 @@ class Stream:
         if ahead == 0 or ahead > CYCLE - MOST_BEHIND:
             return not self._take_late(moment, self._greatest - (-ahead) % CYCLE)
         if self._stray is None or sequence != (self._stray + 1) % CYCLE:
-            self._stray = sequence
+            self._stray, self._stray_second = sequence, second
             self.strays += 1
             return True
         self._begin_anew(sequence)
@@ -168,6 +169,7 @@ class Stream:
         self._greatest = (self._greatest // CYCLE + 2) * CYCLE + sequence
         self._first = self._greatest - 1
         self._stray, self._run = None, len(self.gaps)
+        self._stray_second.again -= 1
         self.restarts, self.strays = self.restarts + 1, self.strays - 1
 
     # What follows from all of them
