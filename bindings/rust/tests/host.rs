@@ -6,6 +6,7 @@ use jalwedd::host::{Event, Host};
 use jalwedd::Role;
 use std::net::{IpAddr, Ipv4Addr, Ipv6Addr};
 use std::process;
+use std::sync::mpsc::channel;
 use std::thread::{self, JoinHandle};
 use std::time::Duration;
 
@@ -46,6 +47,12 @@ fn a_host_that_listens_counts_what_another_sends() {
         let first = 20_000 + (process::id() % 2_000) as u16 * 16 + family as u16 * 8;
         let (own, other) = ((ip, first), (ip, first + 4));
         let mut host = Host::builder("listener@example.com").open(own, other).expect("ports");
+        let (lines, recorded) = channel();
+        host.record(move |line| lines.send(line.to_string()).expect("the test is there"));
+        let command = host.command().expect("options for all");
+        assert!(
+            command.contains("rtcp replay --ssrc ") && command.contains("--cname 'listener@example.com'")
+        );
         let sending = sender(other, own, 350);
         let (mut joined, mut left, mut seconds) = (None, None, 0);
         while let Some(event) = host.next() {
@@ -69,6 +76,12 @@ fn a_host_that_listens_counts_what_another_sends() {
         assert!(left.jitter < PACKET_TIME && seconds >= 6, "{:?} in {seconds} seconds", left.jitter);
         assert!(sending.join().expect("it left") >= 1, "no report about its stream came");
         drop(host); // both ports are free then
+        let recorded: Vec<String> = recorded.iter().collect();
+        let count = |call: &str| recorded.iter().filter(|line| line.starts_with(call)).count();
+        assert_eq!((count("rtp "), count("leave "), count("forget ")), (350, 1, 0));
+        assert!(
+            count("tick ") >= 6 && count("rtcp ") >= 2 && recorded.iter().all(|line| line.ends_with('\n'))
+        );
         assert!(Host::builder("a").listen(own).is_ok(), "the ports are not free again");
     }
 }

@@ -41,13 +41,16 @@ pub use table::{Source, Table, TableChange};
 use crate::answer::{Answer, Step};
 use crate::changes::Role;
 use crate::clock::Clock;
+use crate::config::Config;
 use crate::datagram::{about, ntp_of};
 use crate::errors::Refusal;
 use crate::head::rtp_head;
 use crate::moment::{rtp_at, Moment};
 use crate::participant::Participant;
+use crate::record::{command, Call, Line, NoOption};
 use alloc::boxed::Box;
 use alloc::collections::VecDeque;
+use alloc::string::String;
 use alloc::vec::Vec;
 use core::fmt;
 use core::net::SocketAddr;
@@ -66,6 +69,9 @@ const GLANCE: Duration = Duration::from_millis(100);
 
 /// The most datagrams between two looks at the clock.
 const DATAGRAMS: usize = 64;
+
+/// Where calls are recorded.
+type Record = Box<dyn FnMut(&Line<'_>) + Send>;
 
 /// What happened.
 #[derive(Clone, Debug)]
@@ -109,7 +115,10 @@ pub enum Event {
 #[must_use = "a host does nothing unless its events are asked for"]
 pub struct Host {
     session: Participant,
-    rate: u32,
+    config: Config,
+    /// The random word that the participant began with.
+    word: u32,
+    record: Option<Record>,
     clock: Clock,
     words: Words,
     peer: Peer,
@@ -137,12 +146,15 @@ impl Host {
         let (clock, mut words) = (Clock::start(), Words::new());
         let mut config = settings.config;
         (config.ssrc, config.ntp_base) = (words.draw(), clock.ntp_base());
-        let session = Participant::new(&config, &settings.cname, &settings.items, words.draw())?;
+        let word = words.draw();
+        let session = Participant::new(&config, &settings.cname, &settings.items, word)?;
         let sockets = Sockets::open(own, peer, clock)?;
         let (sequence, now) = (words.draw() as u16, clock.now());
         Ok(Host {
             session,
-            rate: config.rate,
+            config,
+            word,
+            record: None,
             clock,
             words,
             peer: Peer::new(),
@@ -196,8 +208,8 @@ impl Host {
         self.sequence = self.sequence.wrapping_add(1);
         self.sockets.send_rtp(&packet)?;
         let now = self.at(self.clock.now());
-        let timestamp = rtp_at(timestamp, sampled, now, self.rate);
-        let _ = self.session.sent_rtp(now, timestamp, payload.len() as u32);
+        let timestamp = rtp_at(timestamp, sampled, now, self.config.rate);
+        let _ = self.make(Call::SentRtp { now, timestamp, payload: payload.len() as u32 });
         Ok(())
     }
 
@@ -205,7 +217,7 @@ impl Host {
     pub fn dismiss(&mut self, ssrc: u32) {
         let now = self.at(self.clock.now());
         self.table.dismiss(ssrc);
-        if self.end.is_none() && self.session.forget(now, ssrc).is_ok() {
+        if self.end.is_none() && self.make(Call::Forget { now, ssrc }).is_ok() {
             self.table.update(self.session.sources());
             self.tell_changes();
         }
@@ -214,6 +226,28 @@ impl Host {
     /// Leaves with the next event that is asked for.
     pub fn leave(&mut self) {
         self.is_to_leave = true;
+    }
+
+    /// Records all calls from now on, each line as `rtcp replay` reads it: ask for it before the first event.
+    pub fn record(&mut self, record: impl FnMut(&Line<'_>) + Send + 'static) {
+        self.record = Some(Box::new(record));
+    }
+
+    /// The command that plays the recorded calls again.
+    ///
+    /// # Errors
+    ///
+    /// [`NoOption`] if the CNAME or an item has no option of the program.
+    pub fn command(&self) -> Result<String, NoOption> {
+        command(&self.config, &self.settings.cname, &self.settings.items, self.word)
+    }
+
+    /// Records a call and makes it, sends what it hands out, and returns its step.
+    fn make(&mut self, call: Call<'_>) -> Result<Step, Refusal> {
+        if let Some(record) = &mut self.record {
+            record(&call.line(self.config.start));
+        }
+        settle(&self.sockets, &self.table, self.settings.is_to_members, call.make(&mut self.session))
     }
 
     /// A moment as it is told: none is earlier than that of the latest call.
@@ -258,8 +292,8 @@ impl Host {
         }
         if self.end.is_none() && self.is_told_to_leave() {
             (self.end, self.media_due) = (Some(now + self.settings.leave_time), None);
-            let answer = self.session.leave(now, self.words.draw());
-            let _ = settle(&self.sockets, &self.table, self.settings.is_to_members, answer);
+            let word = self.words.draw();
+            let _ = self.make(Call::Leave { now, word });
         }
         if self.next_tick().is_some_and(|next| next <= now) {
             self.tick(now);
@@ -267,8 +301,8 @@ impl Host {
     }
 
     fn tick(&mut self, now: Moment) {
-        let answer = self.session.tick(now, self.words.draw(), self.words.draw());
-        let step = settle(&self.sockets, &self.table, self.settings.is_to_members, answer);
+        let (first_word, second_word) = (self.words.draw(), self.words.draw());
+        let step = self.make(Call::Tick { now, first_word, second_word });
         let is_second = self.ticked + SECOND <= now;
         self.follow(step.ok(), self.session.ssrc());
         if is_second {
@@ -291,12 +325,12 @@ impl Host {
         }
         let (own, now, word) = (self.session.ssrc(), self.at(arrival.at), self.words.draw());
         let (peer, datagram) = (self.peer.number(&arrival.from), &arrival.datagram[..]);
-        let answer = if is_rtcp {
-            self.session.arrive_rtcp(now, peer, word, datagram)
+        let call = if is_rtcp {
+            Call::ArriveRtcp { now, peer, word, datagram }
         } else {
-            self.session.arrive_rtp(now, peer, word, datagram)
+            Call::ArriveRtp { now, peer, word, datagram }
         };
-        match settle(&self.sockets, &self.table, self.settings.is_to_members, answer) {
+        match self.make(call) {
             Err(refusal) => {
                 self.events.push_back(Event::Refused { refusal, datagram: arrival.datagram });
                 return;
@@ -327,7 +361,7 @@ impl Host {
         self.tell_changes();
         let ntp = ntp_of(self.clock.ntp_base(), now);
         for report in about(&arrival.datagram, own).into_iter().flatten() {
-            if let Some(source) = self.table.take_report(&report, ntp, self.rate) {
+            if let Some(source) = self.table.take_report(&report, ntp, self.config.rate) {
                 self.events.push_back(Event::Reported(Box::new(source.clone())));
             }
         }
