@@ -81,8 +81,7 @@ static gboolean set_setting(JalweddSession *self, guint id, const GValue *value)
     return TRUE;
 }
 
-/* What counts from the next packet or participant on. FALSE if the property is none of these. With the lock.
- */
+/* What counts from the next packet or participant on. FALSE if it is none of these. With the lock. */
 static gboolean set_plain(JalweddSession *self, guint id, const GValue *value)
 {
     switch (id) {

@@ -32,8 +32,7 @@ enum {
     SECOND = 1000000            /* microseconds */
 };
 
-/* The numbers of this host's participants as peers begin here: no address of another host has such a number.
- */
+/* The numbers of this host's participants as peers begin here: no address has such a number. */
 #define OWN_PEER (G_GUINT64_CONSTANT(1) << 63)
 
 /* ---- Types */
@@ -211,8 +210,7 @@ guint settings_items(JalweddSession *self, jalwedd_item items[7]);
 const gchar *settings_cname(JalweddSession *self);
 const gchar *sdes_field(guint kind); /* the field of an item of this kind, or NULL */
 
-/* ---- calls.c: the calls of the library, with the moment, the random words, and the record. With the lock
- */
+/* ---- calls.c: the calls of the library, with moments, random words and the record. With the lock */
 
 guint32 call_new(JalweddSession *self, Participant *one);
 guint32 call_arrive_rtp(JalweddSession *self, Participant *one, guint64 peer, const guint8 *data,

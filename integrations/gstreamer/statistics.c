@@ -90,8 +90,7 @@ GstStructure *statistics_of_source(JalweddSession *self, JalweddSource *source)
 
 /* ---- The session */
 
-/* The statistics of all sources, in an array of a deprecated type, which applications expect. With the lock.
- */
+/* The statistics of all sources, in an array of a deprecated type, as applications expect. With the lock. */
 G_GNUC_BEGIN_IGNORE_DEPRECATIONS
 static void put_sources(JalweddSession *self, GstStructure *stats)
 {
