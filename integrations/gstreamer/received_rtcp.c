@@ -5,6 +5,7 @@
 #include <jalwedd_report_before.h>
 #include <string.h>
 
+enum { MOST_PREFIXES = 256 }; /* of PRIV items, in a process: the name of a field is kept for good */
 enum { BLOCK_OCTETS = 24, MOST_BLOCKS = LARGEST_RTCP / BLOCK_OCTETS };
 
 /* An RTCP datagram, while it is taken. */
@@ -51,18 +52,41 @@ static void keep_blocks(JalweddSession *self, const Datagram *datagram, GQueue *
     }
 }
 
-/* Keeps an item whose field and text are UTF-8. Whether that is news. */
-static gboolean keep_item(JalweddSource *source, const gchar *field, gsize field_size, const gchar *text,
-                          gsize text_size)
+/* Keeps an item whose text is UTF-8. Whether that is news. */
+static gboolean keep_item(JalweddSource *source, const gchar *field, const gchar *text, gsize size)
 {
-    gchar *name = g_strndup(field, field_size), *value = g_strndup(text, text_size);
-    const gboolean is_text =
-        name[0] != '\0' && g_utf8_validate(name, -1, NULL) && g_utf8_validate(value, -1, NULL);
-    const gboolean is_news = is_text && g_strcmp0(gst_structure_get_string(source->sdes, name), value) != 0;
+    gchar *value = g_strndup(text, size);
+    const gboolean is_news = g_utf8_validate(value, -1, NULL) &&
+                             g_strcmp0(gst_structure_get_string(source->sdes, field), value) != 0;
     if (is_news)
-        gst_structure_set(source->sdes, name, G_TYPE_STRING, value, "ssrc", G_TYPE_UINT, source->ssrc, NULL);
-    g_free(name);
+        gst_structure_set(source->sdes, field, G_TYPE_STRING, value, "ssrc", G_TYPE_UINT, source->ssrc,
+                          NULL);
     g_free(value);
+    return is_news;
+}
+
+/* Whether the prefix of a PRIV item can be a field: not that of another item, nor one more than may be kept.
+ */
+static gboolean is_prefix(const gchar *name)
+{
+    static gint kept;
+    if (name[0] == '\0' || !g_utf8_validate(name, -1, NULL) || sdes_has_kind(name) ||
+        g_str_equal(name, "ssrc"))
+        return FALSE;
+    return g_quark_try_string(name) != 0 || g_atomic_int_add(&kept, 1) < MOST_PREFIXES;
+}
+
+/* A PRIV item (6.5.8): the length of its prefix, the prefix, which is the field, and the value. */
+static gboolean keep_private(JalweddSource *source, const gchar *text, gsize size)
+{
+    const gsize prefix = size > 0 ? (guint8)text[0] : 0;
+    gchar *name;
+    gboolean is_news;
+    if (prefix >= size)
+        return FALSE;
+    name = g_strndup(text + 1, prefix);
+    is_news = is_prefix(name) && keep_item(source, name, text + 1 + prefix, size - 1 - prefix);
+    g_free(name);
     return is_news;
 }
 
@@ -70,12 +94,9 @@ static gboolean read_item(JalweddSource *source, const Datagram *datagram, const
 {
     const gchar *text = (const gchar *)datagram->data + item->offset;
     const gchar *field = sdes_field(item->kind);
-    const gsize prefix = item->size > 0 ? (guint8)text[0] : 0; /* of a PRIV item (6.5.8) */
     if (field != NULL)
-        return keep_item(source, field, strlen(field), text, item->size);
-    if (item->kind != JALWEDD_SDES_PRIV || item->size == 0 || prefix >= item->size)
-        return FALSE;
-    return keep_item(source, text + 1, prefix, text + 1 + prefix, item->size - 1 - prefix);
+        return keep_item(source, field, text, item->size);
+    return item->kind == JALWEDD_SDES_PRIV && keep_private(source, text, item->size);
 }
 
 static void read_items(JalweddSession *self, const Datagram *datagram, GQueue *actions)

@@ -208,7 +208,8 @@ void settings_bandwidths(JalweddSession *self, guint32 *sender, guint32 *receive
 guint settings_clocks(JalweddSession *self, guint32 but, jalwedd_clock clocks[MOST_CLOCKS]);
 guint settings_items(JalweddSession *self, jalwedd_item items[7]);
 const gchar *settings_cname(JalweddSession *self);
-const gchar *sdes_field(guint kind); /* the field of an item of this kind, or NULL */
+const gchar *sdes_field(guint kind);        /* the field of an item of this kind, or NULL */
+gboolean sdes_has_kind(const gchar *field); /* whether a field is that of a kind other than PRIV */
 
 /* ---- calls.c: the calls of the library, with moments, random words and the record. With the lock */
 

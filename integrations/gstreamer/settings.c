@@ -58,7 +58,7 @@ const gchar *sdes_field(guint kind)
     return kind < G_N_ELEMENTS(fields) ? fields[kind] : NULL;
 }
 
-static gboolean has_kind(const gchar *field)
+gboolean sdes_has_kind(const gchar *field)
 {
     guint kind = JALWEDD_SDES_CNAME;
     while (kind < G_N_ELEMENTS(fields) && !g_str_equal(field, fields[kind]))
@@ -92,7 +92,7 @@ static guint put_privates(GstStructure *sdes, jalwedd_item items[7], guint count
     for (gint at = 0; at < gst_structure_n_fields(sdes) && count < 7; at++) {
         const gchar *field = gst_structure_nth_field_name(sdes, (guint)at);
         const gchar *text = gst_structure_get_string(sdes, field);
-        if (text != NULL && !has_kind(field) && put_private(&items[count], field, text))
+        if (text != NULL && !sdes_has_kind(field) && put_private(&items[count], field, text))
             count++;
     }
     return count;

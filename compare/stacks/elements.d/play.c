@@ -126,18 +126,41 @@ static void print_message(GstMessage *message)
     g_error_free(error);
 }
 
-/* Prints warnings until these seconds have passed, or the pipeline ends or fails: the last of these, or
+/* Prints the items of a source that a message tells. */
+static void print_items(GstMessage *message)
+{
+    const GstStructure *structure = gst_message_get_structure(message);
+    gchar *text;
+    if (!gst_structure_has_name(structure, "application/x-rtp-source-sdes"))
+        return;
+    text = gst_structure_to_string(structure);
+    printf("sdes %s %s\n", GST_OBJECT_NAME(GST_MESSAGE_SRC(message)), text);
+    g_free(text);
+}
+
+/* Whether a message ends the wait: all are printed but EOS. */
+static gboolean take_message(GstMessage *message)
+{
+    switch (GST_MESSAGE_TYPE(message)) {
+    case GST_MESSAGE_ELEMENT: print_items(message); return FALSE;
+    case GST_MESSAGE_WARNING: print_message(message); return FALSE;
+    case GST_MESSAGE_ERROR: print_message(message); return TRUE;
+    default: return TRUE;
+    }
+}
+
+/* Prints messages until these seconds have passed, or the pipeline ends or fails: the last of these, or
  * NULL. */
 static GstMessage *wait_for_end(GstBus *bus, gdouble seconds)
 {
     const gint64 end = g_get_monotonic_time() + (gint64)(seconds * 1e6);
+    const GstMessageType types =
+        GST_MESSAGE_WARNING | GST_MESSAGE_ERROR | GST_MESSAGE_EOS | GST_MESSAGE_ELEMENT;
     GstMessage *message = NULL;
     for (gint64 left = end; message == NULL && left > 0; left = end - g_get_monotonic_time()) {
-        message = gst_bus_timed_pop_filtered(bus, (GstClockTime)MAX(end - g_get_monotonic_time(), 0) * 1000,
-                                             GST_MESSAGE_WARNING | GST_MESSAGE_ERROR | GST_MESSAGE_EOS);
-        if (message != NULL && GST_MESSAGE_TYPE(message) != GST_MESSAGE_EOS)
-            print_message(message);
-        if (message != NULL && GST_MESSAGE_TYPE(message) == GST_MESSAGE_WARNING)
+        const gint64 wait = MAX(end - g_get_monotonic_time(), 0);
+        message = gst_bus_timed_pop_filtered(bus, (GstClockTime)wait * 1000, types);
+        if (message != NULL && !take_message(message))
             gst_clear_message(&message);
     }
     return message;

@@ -9,13 +9,15 @@ SIGNAL = re.compile(r"signal (\S+) (\S+) ([0-9a-f]{8}) at ([\d.]+)")
 
 @dataclass
 class Played:
-    """What a pipeline told: signals as (element, name, SSRC), the statistics of sources by element, the
-    datagrams that an element refused as (RTCP, RTP), or its guard held back, the delays of streams in
-    nanoseconds by (bin, session), warnings, errors, and the seconds from EOS to the end, or None."""
+    """What a pipeline told: signals as (element, name, SSRC), the statistics of sources and the latest SDES
+    items by element, the datagrams that an element refused as (RTCP, RTP), or its guard held back, the
+    delays of streams in nanoseconds by (bin, session), warnings, errors, and the seconds from EOS to the
+    end, or None."""
 
     signals: list = field(default_factory=list)
     stats: dict = field(default_factory=dict)
     refused: dict = field(default_factory=dict)
+    items: dict = field(default_factory=dict)
     held: dict = field(default_factory=dict)
     offsets: dict = field(default_factory=dict)
     warnings: list = field(default_factory=list)
@@ -40,7 +42,11 @@ class Played:
 def value(kind, text):
     if kind == "boolean":
         return text == "true"
-    return int(text) if kind in ("int", "uint", "guint64", "uint64", "gint64") else text.strip('"')
+    return int(text) if kind in ("int", "uint", "guint64") else text.strip('"').replace("\\", "")
+
+
+def values(structure):
+    return {name: value(kind, text) for name, kind, text in VALUE.findall(structure)}
 
 
 def parsed(text):
@@ -50,8 +56,9 @@ def parsed(text):
         if found := SIGNAL.fullmatch(line):
             played.signals.append((found[1], found[2], int(found[3], 16)))
         elif first == "stats":
-            stats = {name: value(kind, text) for name, kind, text in VALUE.findall(rest)}
-            played.stats.setdefault(rest.split()[0], []).append(stats)
+            played.stats.setdefault(rest.split()[0], []).append(values(rest))
+        elif first == "sdes":
+            played.items[rest.split()[0]] = values(rest)
         elif first == "refused":
             name, rtcp, rtp = rest.split()
             played.refused[name] = int(rtcp), int(rtp)

@@ -151,6 +151,31 @@ def own_collision(build):
         yield f"media went out under {sorted(set(ssrcs))}"
 
 
+# ---- Items
+
+
+def describe(own):
+    """A description with items that take the place of others, which they may not."""
+    private = lambda prefix, text: (8, bytes([len(prefix)]) + prefix + text)
+    items = [(1, b"a@example.org"), (2, b"Ada"), private(b"mood", b"good"), private(b"cname", b"another"),
+             private(b"ssrc", b"7"), private(b"", b"nothing")]
+    time.sleep(2)
+    wire.send(own.rtcp, wire.described(OTHER, items))
+
+
+def descriptions(build):
+    """What a source says of itself is told in one message, and PRIV items are fields beside the others."""
+    own, other = pipelines.two_sides()
+    player = Player(build, 4, pipelines.receiver("jalweddsession", "r", own, other), "r")
+    in_background(describe, own)
+    yield
+    played = player.played()
+    yield from played.errors
+    told = {name: played.items.get("r", {}).get(name) for name in ("cname", "name", "mood", "ssrc")}
+    if told != {"cname": "a@example.org", "name": "Ada", "mood": "good", "ssrc": OTHER}:
+        yield f"the source is described by {told}"
+
+
 # ---- Refusals
 
 
@@ -216,6 +241,7 @@ def checks(build, program, room):
     found["third-party collision"] = third_party(build)
     found["guard"] = strangers(build)
     found["collision with this host"] = own_collision(build)
+    found["items"] = descriptions(build)
     found["refusals"] = refusals(build, "jalweddsession", REFUSED)
     found["refusals of the bin"] = refusals(build, "jalweddbin", REFUSED_BY_BIN)
     found["record"] = recorded(build, program, room)

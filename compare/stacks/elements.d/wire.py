@@ -23,6 +23,14 @@ def send(port, octets, from_port=0, from_host=HOST):
         sock.sendto(octets, (HOST, port))
 
 
+def described(ssrc, items):
+    """A receiver report without blocks, and a description of its source by items of kind and text."""
+    chunk = struct.pack(">I", ssrc) + b"".join(bytes([kind, len(text)]) + text for kind, text in items)
+    chunk += bytes(4 - len(chunk) % 4)
+    head = struct.pack(">BBH", 0x81, 202, len(chunk) // 4)
+    return struct.pack(">BBHI", 0x80, 201, 1, ssrc) + head + chunk
+
+
 def parts(compound):
     """The packets of a compound: their types and octets."""
     while len(compound) >= 4:
