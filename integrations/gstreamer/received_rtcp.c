@@ -5,7 +5,10 @@
 #include <jalwedd_report_before.h>
 #include <string.h>
 
-enum { MOST_PREFIXES = 256 }; /* of PRIV items, in a process: the name of a field is kept for good */
+enum {
+    MOST_PREFIXES = 256, /* of PRIV items, in a process: the name of a field is kept for good */
+    MOST_FIELDS = 16     /* of the items of a source */
+};
 enum { BLOCK_OCTETS = 24, MOST_BLOCKS = LARGEST_RTCP / BLOCK_OCTETS };
 
 /* An RTCP datagram, while it is taken. */
@@ -65,15 +68,17 @@ static gboolean keep_item(JalweddSource *source, const gchar *field, const gchar
     return is_news;
 }
 
-/* Whether the prefix of a PRIV item can be a field: not that of another item, nor one more than may be kept.
- */
-static gboolean is_prefix(const gchar *name)
+/* Whether the prefix of a PRIV item can be a field: not that of another item, nor one more than is kept. */
+static gboolean is_prefix(JalweddSource *source, const gchar *name)
 {
     static gint kept;
+    const GQuark known = g_quark_try_string(name);
     if (name[0] == '\0' || !g_utf8_validate(name, -1, NULL) || sdes_has_kind(name) ||
         g_str_equal(name, "ssrc"))
         return FALSE;
-    return g_quark_try_string(name) != 0 || g_atomic_int_add(&kept, 1) < MOST_PREFIXES;
+    if (gst_structure_n_fields(source->sdes) >= MOST_FIELDS)
+        return known != 0 && gst_structure_id_has_field(source->sdes, known);
+    return known != 0 || g_atomic_int_add(&kept, 1) < MOST_PREFIXES;
 }
 
 /* A PRIV item (6.5.8): the length of its prefix, the prefix, which is the field, and the value. */
@@ -85,7 +90,7 @@ static gboolean keep_private(JalweddSource *source, const gchar *text, gsize siz
     if (prefix >= size)
         return FALSE;
     name = g_strndup(text + 1, prefix);
-    is_news = is_prefix(name) && keep_item(source, name, text + 1 + prefix, size - 1 - prefix);
+    is_news = is_prefix(source, name) && keep_item(source, name, text + 1 + prefix, size - 1 - prefix);
     g_free(name);
     return is_news;
 }
