@@ -84,7 +84,7 @@ def run_file(build, source, name):
     for test in tests_of(name, text):
         known = BY_DESIGN.get(test)
         why = outcome(build, program, test)
-        if why and not known:  # test_sender_eos looks for EOS at once after the BYE, and other threads are slower
+        if why and not known:  # test_sender_eos looks for EOS at once after the BYE that precedes it
             why = outcome(build, program, test)
         passed += not why
         if bool(why) != bool(known):
