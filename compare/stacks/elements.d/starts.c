@@ -1,11 +1,11 @@
-/* starts COUNT: starts and stops COUNT times a pipeline of two sessions that hear each other, by turns of
- * jalweddsession and of jalweddbin, while another thread reads and sets their properties. Prints `started
- * COUNT`. */
+/* starts COUNT: starts, pauses and stops COUNT times a pipeline of two sessions that hear each other, by
+ * turns of jalweddsession and of jalweddbin, while another thread reads and sets their properties. Prints
+ * `started COUNT`. */
 #include <gst/gst.h>
 #include <stdio.h>
 #include <stdlib.h>
 
-enum { SHORTEST = 1000, LONGEST = 100000 }; /* microseconds for which a pipeline plays */
+enum { SHORTEST = 1000, LONGEST = 100000 }; /* microseconds for which a pipeline has a state */
 
 static const gchar *const descriptions[] = {
     "jalweddsession name=s jalweddsession name=r audiotestsrc num-buffers=2000 ! audio/x-raw,rate=8000 ! "
@@ -71,14 +71,21 @@ static gpointer read_all(gpointer pipeline)
     return NULL;
 }
 
+static void stay(GstElement *pipeline, GstState state)
+{
+    gst_element_set_state(pipeline, state);
+    g_usleep((gulong)g_random_int_range(SHORTEST, LONGEST));
+}
+
 static void start_and_stop(const gchar *description)
 {
     GstElement *pipeline = gst_parse_launch(description, NULL);
     GThread *reader;
     g_atomic_int_set(&is_over, 0);
     reader = g_thread_new(NULL, read_all, pipeline);
-    gst_element_set_state(pipeline, GST_STATE_PLAYING);
-    g_usleep((gulong)g_random_int_range(SHORTEST, LONGEST));
+    stay(pipeline, GST_STATE_PLAYING);
+    stay(pipeline, GST_STATE_PAUSED);
+    stay(pipeline, GST_STATE_PLAYING);
     gst_element_set_state(pipeline, GST_STATE_NULL);
     g_atomic_int_set(&is_over, 1);
     g_thread_join(reader);
