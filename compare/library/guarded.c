@@ -120,7 +120,8 @@ static void departures(void)
     puts("The same from several addresses, with as many names as their limits allow");
     told("8 addresses", USUAL, reports_among_departures(USUAL, 8, 8), "", 600, 800);
     told("16 addresses", USUAL, reports_among_departures(USUAL, 16, 16), "", 500, 800);
-    told("30 addresses", USUAL, reports_among_departures(USUAL, 30, 30), "", 0, 800);
+    told("32 addresses, 32 names", USUAL, reports_among_departures(USUAL, 32, 32), "", 400, 800);
+    told("64 addresses, 64 names", USUAL, reports_among_departures(USUAL, 64, 64), "", 100, 400);
 }
 
 /* ---- B to E: a forged datagram about a source that sends a packet each 20 ms, for ten minutes after the first */
