@@ -23,6 +23,8 @@ REFUSED = {"rtp-profile=avpf": "rtp-profile", "rtcp-min-interval=1000000000": "r
 REFUSED_BY_BIN = {"rtp-profile=avpf": "rtp-profile", "do-retransmission=true": "retransmission",
                   "rtcp-sync=rtp-info": "rtcp-sync", "buffer-mode=buffer": "buffer-mode"}
 
+FEEDBACK = "rtcp-fb"  # in caps
+
 # ---- Sender reports
 
 
@@ -182,16 +184,19 @@ def descriptions(build):
 def refusals(build, element, refused):
     """Each thing that is refused is told by one warning, and the pipeline plays on."""
     own, other = pipelines.two_sides()
-    player = Player(build, 4, pipelines.receiver(element, "r", own, other, " ".join(refused)), "r")
+    pipeline = pipelines.receiver(element, "r", own, other, " ".join(refused))
+    player = Player(build, 6, pipeline.replace("payload=8", "payload=8,rtcp-fb-nack-pli=(boolean)true"), "r")
+    in_background(talk, own.rtp)
     yield
     played = player.played()
     yield from played.errors
-    for word in refused.values():
+    words = [*refused.values(), FEEDBACK]
+    for word in words:
         count = sum(word in warning for warning in played.warnings)
         if count != 1:
             yield f"{word}: {count} warnings"
-    if len(played.warnings) != len(refused):
-        yield f"{len(played.warnings)} warnings for {len(refused)} refusals"
+    if len(played.warnings) != len(words):
+        yield f"{len(played.warnings)} warnings for {len(words)} refusals"
 
 
 # ---- Records
