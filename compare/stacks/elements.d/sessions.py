@@ -16,12 +16,12 @@ PAIRS = [("jalweddsession", "rtpsession"), ("rtpsession", "jalweddsession"), ("j
 TWO_WAYS = [("jalweddsession", "jalweddsession"), ("jalweddbin", "rtpbin"), ("jalweddbin", "jalweddbin")]
 
 
-def faults_of(played, who):
+def faults_of(played, element):
     """What no side of a session may have: errors, warnings, refused datagrams, no end."""
-    yield from (f"{who}: {text}" for text in played.errors + played.warnings)
+    yield from (f"{element}: {text}" for text in played.errors + played.warnings)
     yield from (f"{name} refused {count}" for name, count in played.refused.items() if count != (0, 0))
-    if played.ended is None:
-        yield f"{who}: EOS had no end"
+    if played.ended is None and element in OURS:
+        yield f"{element}: EOS had no end"
 
 
 def faults_of_receiver(played, ssrc, element, host="127.0.0.1"):
@@ -56,8 +56,8 @@ def pair(build, elements, host="127.0.0.1"):
     yield
     sent, heard = sends.played(), hears.played()
     ssrc = sent.own("s").get("ssrc", 0)
-    yield from faults_of(sent, "sender")
-    yield from faults_of(heard, "receiver")
+    yield from faults_of(sent, elements[0])
+    yield from faults_of(heard, elements[1])
     yield from faults_of_receiver(heard, ssrc, elements[1], host)
     yield from faults_of_report(sent, elements[1])
     if not heard.has_signal("r", "on-ssrc-validated", ssrc) or not heard.has_signal("r", "on-bye-ssrc", ssrc):
@@ -71,7 +71,7 @@ def both_ways(build, elements):
     yield
     played = [player.played() for player in players]
     for at, side in enumerate(played):
-        yield from faults_of(side, ("first", "second")[at])
+        yield from faults_of(side, elements[at])
         yield from faults_of_receiver(side, played[1 - at].own("r").get("ssrc", 0), elements[at])
 
 
