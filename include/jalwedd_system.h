@@ -162,26 +162,30 @@ static inline int jalwedd_key_draw(jalwedd_key *key)
 
 /* ---- Peers */
 
-/* The number of a peer for jalwedd_arrive_rtcp and jalwedd_arrive_rtp: its lower 16 bits are the port. Above them are
- * the address for IPv4, and for IPv6 a hash of the address and its scope with the key, and the highest bit. An IPv4
- * address that comes by an IPv6 socket (::ffff:192.0.2.1) has the number that it has by IPv4. Of no address 0. */
+/* The number of a peer for jalwedd_arrive_rtcp and jalwedd_arrive_rtp. For IPv4 its lower 16 bits are the port, and above
+ * them is the address. For IPv6 the upper 48 bits are the highest bit and a hash, with the key, of the network (/64) and
+ * the scope: all of a network is one origin for a guard. The lower 16 are a hash of address and port, so that two peers
+ * of a network share a number once in 65,536. An IPv4 address that comes by an IPv6 socket (::ffff:192.0.2.1) has the
+ * number that it has by IPv4. Of no address 0. */
 static inline uint64_t jalwedd_peer(const jalwedd_key *key, const jalwedd_address *from)
 {
     static const uint8_t mapped[12] = {0, 0, 0, 0, 0, 0, 0, 0, 0, 0, 0xff, 0xff};
     const struct in6_addr *six = &from->as.ip6.sin6_addr;
-    uint8_t octets[20];
+    uint8_t octets[22];               /* network, scope, interface, port */
     uint32_t four;
     if (from->size == 0)
         return 0;
     if (from->as.any.sa_family == AF_INET)
         return JALWEDD_CAST(uint64_t, ntohl(from->as.ip4.sin_addr.s_addr)) << 16 | ntohs(from->as.ip4.sin_port);
     memcpy(octets, six, 16);
-    memcpy(octets + 16, &from->as.ip6.sin6_scope_id, 4);
     memcpy(&four, octets + 12, sizeof four);
     if (memcmp(octets, mapped, sizeof mapped) == 0)
         return JALWEDD_CAST(uint64_t, ntohl(four)) << 16 | ntohs(from->as.ip6.sin6_port);
-    return JALWEDD_CAST(uint64_t, 1) << 63 | jalwedd_sip_hash(key, octets, sizeof octets) << 17 >> 1 |
-           ntohs(from->as.ip6.sin6_port);
+    memmove(octets + 12, octets + 8, 8);
+    memcpy(octets + 8, &from->as.ip6.sin6_scope_id, 4);
+    memcpy(octets + 20, &from->as.ip6.sin6_port, 2);
+    return JALWEDD_CAST(uint64_t, 1) << 63 | jalwedd_sip_hash(key, octets, 12) << 17 >> 1 |
+           (jalwedd_sip_hash(key, octets, sizeof octets) & 0xffff);
 }
 
 /* The address as text: 192.0.2.1:5004 or [2001:db8::1]:5004, or "-" for none. Returns `text`. */

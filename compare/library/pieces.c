@@ -69,11 +69,12 @@ static void test_peers(void)
     IS("IPv4 by an IPv6 socket", number_of(&key, "192.0.2.1", 5004, AF_INET6), 0xc0000201138c);
     IS("no address", jalwedd_peer(&key, &none), 0);
     one = number_of(&key, "2001:db8::1", 5004, AF_UNSPEC);
-    IS("the highest bit and the port of IPv6", (one >> 63) * 65536 + (one & 65535), 65536 + 5004);
+    IS("the highest bit of IPv6", one >> 63, 1);
     IS("the same peer", number_of(&key, "2001:db8::1", 5004, AF_INET6), one);
-    IS("another port", number_of(&key, "2001:db8::1", 5005, AF_UNSPEC) ^ one, 5004 ^ 5005);
-    IS("another address", number_of(&key, "2001:db8::2", 5004, AF_UNSPEC) == one, 0);
-    IS("another key", number_of(&other, "2001:db8::1", 5004, AF_UNSPEC) == one, 0);
+    IS("another port has the origin", number_of(&key, "2001:db8::1", 5005, AF_UNSPEC) >> 16, one >> 16);
+    IS("its network has the origin", number_of(&key, "2001:db8::2", 5004, AF_UNSPEC) >> 16, one >> 16);
+    IS("another network has another", number_of(&key, "2001:db8:0:1::1", 5004, AF_UNSPEC) >> 16 == one >> 16, 0);
+    IS("another key gives another", number_of(&other, "2001:db8::1", 5004, AF_UNSPEC) >> 16 == one >> 16, 0);
 }
 
 static void test_sockets(const char *host, uint16_t port, const char *wanted)

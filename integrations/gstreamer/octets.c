@@ -83,6 +83,7 @@ guint64 peer_of(JalweddSession *self, GstBuffer *buffer, GSocketAddress **addres
     bytes = g_inet_address_to_bytes(host);
     if (g_inet_address_get_family(host) == G_SOCKET_FAMILY_IPV4)
         return (guint64)GST_READ_UINT32_BE(bytes) << 16 | port;
-    const guint64 words[2] = {GST_READ_UINT64_BE(bytes), GST_READ_UINT64_BE(bytes + 8)};
-    return (sip_hash(self->key, words, G_N_ELEMENTS(words)) << 16 | port) & ~OWN_PEER;
+    /* its network (/64) is the origin that a guard goes by */
+    const guint64 words[3] = {GST_READ_UINT64_BE(bytes), GST_READ_UINT64_BE(bytes + 8), port};
+    return (sip_hash(self->key, words, 1) << 16 | (sip_hash(self->key, words, 3) & 0xffff)) & ~OWN_PEER;
 }

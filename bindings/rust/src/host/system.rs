@@ -75,9 +75,13 @@ impl Peer {
         Peer::default()
     }
 
-    /// The number of a peer for [`Participant::arrive_rtcp`](crate::Participant::arrive_rtcp): its lower 16 bits
-    /// are the port. Above them are the address for IPv4, and for IPv6 a hash of it and its scope, and the highest
-    /// bit. An IPv4 address that comes by an IPv6 socket (`::ffff:192.0.2.1`) has the number that it has by IPv4.
+    /// The number of a peer for [`Participant::arrive_rtcp`](crate::Participant::arrive_rtcp).
+    ///
+    /// For IPv4 its lower 16 bits are the port, and above them is the address. For IPv6 the upper 48 bits are the
+    /// highest bit and a hash of the network (/64) and the scope: all of a network is one origin for a
+    /// [`Guard`](crate::Guard). The lower 16 are a hash of address and port, so that two peers of a network share a
+    /// number once in 65,536. An IPv4 address that comes by an IPv6 socket (`::ffff:192.0.2.1`) has the number that it
+    /// has by IPv4.
     ///
     /// ```
     /// let peer = jalwedd::host::Peer::new();
@@ -94,7 +98,9 @@ impl Peer {
         };
         match (four, from) {
             (None, SocketAddr::V6(from)) => {
-                1 << 63 | self.key.hash_one((from.ip(), from.scope_id())) << 17 >> 1 | port
+                let network = from.ip().to_bits() >> 64;
+                let peer = self.key.hash_one((from.ip(), from.scope_id(), port));
+                1 << 63 | self.key.hash_one((network, from.scope_id())) << 17 >> 1 | peer & 0xffff
             }
             (four, _) => u64::from(four.map_or(0, Ipv4Addr::to_bits)) << 16 | port,
         }
@@ -217,15 +223,16 @@ mod tests {
     use alloc::collections::BTreeSet;
 
     #[test]
-    fn peers_of_ipv6_have_the_highest_bit_and_their_port() {
+    fn peers_of_ipv6_have_the_highest_bit_and_the_origin_of_their_network() {
         let (peer, other) = (Peer::new(), Peer::new());
         let number = |of: &Peer, address: &str| of.number(&address.parse().expect("an address"));
         let one = number(&peer, "[2001:db8::1]:5004");
-        assert_eq!((one >> 63, one & 0xffff), (1, 5004));
+        assert_eq!(one >> 63, 1);
         assert_eq!(one, number(&peer, "[2001:db8::1]:5004"));
-        assert_eq!(one ^ number(&peer, "[2001:db8::1]:5005"), 5004 ^ 5005);
-        assert_ne!(one, number(&peer, "[2001:db8::2]:5004"));
-        assert_ne!(one, number(&other, "[2001:db8::1]:5004"));
+        assert_eq!(one >> 16, number(&peer, "[2001:db8::1]:5005") >> 16);
+        assert_eq!(one >> 16, number(&peer, "[2001:db8::2]:5004") >> 16);
+        assert_ne!(one >> 16, number(&peer, "[2001:db8:0:1::1]:5004") >> 16);
+        assert_ne!(one >> 16, number(&other, "[2001:db8::1]:5004") >> 16);
     }
 
     #[test]
