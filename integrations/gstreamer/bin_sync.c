@@ -2,6 +2,7 @@
  * of a sender share, and by RTP timestamps, of which the jitter buffer knows the running time. The stream
  * whose running time is the latest for one NTP time keeps it, and the others are delayed to fit. */
 #include "bin.h"
+#include "session.h"
 
 #define NTP_OF_1970 (G_GINT64_CONSTANT(2208988800) * GST_SECOND)
 
@@ -22,17 +23,31 @@ static gboolean read_delta(const GstStructure *sync, gint64 *delta)
     return TRUE;
 }
 
+/* What ntp-time-source names, at a time of the pipeline's clock, in nanoseconds. */
+static gint64 ntp_time(JalweddBin *bin, GstClockTime now, GstClockTime base)
+{
+    const gint64 of_day = g_get_real_time() * 1000;
+    if (bin->pipeline_clock)
+        return (gint64)(now - base) + NTP_OF_1970;
+    switch (bin->time_source) {
+    case TIME_UNIX: return of_day;
+    case TIME_RUNNING: return (gint64)(now - base);
+    case TIME_CLOCK: return (gint64)now;
+    default: return of_day + NTP_OF_1970;
+    }
+}
+
 /* The running time less the NTP time of this host now, for ntp-sync. */
 static gint64 delta_of_now(JalweddBin *bin, gint64 otherwise)
 {
     GstClock *clock = gst_element_get_clock(GST_ELEMENT(bin));
+    const GstClockTime base = gst_element_get_base_time(GST_ELEMENT(bin));
     GstClockTime now;
     if (clock == NULL)
         return otherwise;
     now = gst_clock_get_time(clock);
     gst_object_unref(clock);
-    return (gint64)(now - gst_element_get_base_time(GST_ELEMENT(bin))) - g_get_real_time() * 1000 -
-           NTP_OF_1970;
+    return (gint64)(now - base) - ntp_time(bin, now, base);
 }
 
 /* Puts the streams of a session that have this CNAME, or all of them, before `found`. With the lock. */

@@ -5,9 +5,6 @@
 
 #define NTP_OF_1970 G_GUINT64_CONSTANT(2208988800) /* seconds since 1900 */
 
-/* The values of ntp-time-source, which are those of rtpsession. */
-enum { TIME_NTP, TIME_UNIX, TIME_RUNNING, TIME_CLOCK };
-
 guint64 moment_now(JalweddSession *self)
 {
     self->now = MAX(self->now, gst_clock_get_time(self->clock) / 1000);

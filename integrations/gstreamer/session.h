@@ -35,6 +35,9 @@ enum {
 /* The numbers of this host's participants as peers begin here: no address has such a number. */
 #define OWN_PEER (G_GUINT64_CONSTANT(1) << 63)
 
+/* The values of ntp-time-source, which are those of rtpsession. */
+enum { TIME_NTP, TIME_UNIX, TIME_RUNNING, TIME_CLOCK };
+
 /* ---- Types */
 
 #define JALWEDD_TYPE_SESSION jalwedd_session_get_type()
