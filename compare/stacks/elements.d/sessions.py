@@ -146,6 +146,22 @@ def in_sync(build, receiving):
         yield f"the streams play {apart - LATE:.3f} s apart"
 
 
+def by_ntp(build, source):
+    """With ntp-sync a stream plays by a clock that both sides share: here it came in time already."""
+    one, other = two_sides()
+    properties = f"ntp-sync=true ntp-time-source={source}"
+    hears = Player(build, ASKED, pipelines.receiver("jalweddbin", "r", other, one, properties), "r")
+    sender = pipelines.sender("jalweddbin", "s", one, other)
+    sends = Player(build, SENDS, sender.replace("name=s", f"name=s ntp-time-source={source}", 1), "s")
+    yield
+    heard = hears.played()
+    sends.played()
+    offset = heard.offsets.get(("r", 0), 0) / 1e9
+    yield from heard.errors
+    if offset == 0 or abs(offset) > MOST_APART:
+        yield f"the stream is held back by {offset:.3f} s"
+
+
 def from_ffmpeg(build):
     """FFmpeg sends, and a bin hears it."""
     if not shutil.which("ffmpeg"):
@@ -174,5 +190,6 @@ def checks(build, seconds):
     found["loss"] = lossy(build, seconds)
     found["sync"] = in_sync(build, "jalweddbin")
     found["sync of rtpbin"] = in_sync(build, "rtpbin")
+    found |= {f"ntp-sync, {source}": by_ntp(build, source) for source in ("ntp", "unix", "clock-time")}
     found["FFmpeg"] = from_ffmpeg(build)
     return found
