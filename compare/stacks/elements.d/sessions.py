@@ -10,6 +10,7 @@ from relay import HOST, LossyRelay, socket_at
 
 SENDS, HEARS, ASKED = 12, 16, 9  # seconds: statistics before a sender leaves, whose BYE is heard
 LATE, MOST_APART = 0.3, 0.05  # seconds: of a stream in the network, and of two that play in sync
+BUFFER = 128  # milliseconds that audiotestsrc gives at once
 OURS = ("jalweddsession", "jalweddbin")
 PAIRS = [("jalweddsession", "rtpsession"), ("rtpsession", "jalweddsession"), ("jalweddbin", "rtpbin"),
          ("rtpbin", "jalweddbin"), ("jalweddsession", "jalweddbin"), ("jalweddbin", "jalweddsession")]
@@ -84,7 +85,7 @@ def lossy(build, seconds):
     relay.start()
     hears = Player(build, seconds + 5, two_receivers(one, other), "r", "q")
     sender = pipelines.sender("jalweddsession", "s", one, Side(between, nobody),
-                              more=f"num-buffers={seconds * 8}")
+                              more=f"num-buffers={seconds * 1_000 // BUFFER}")
     sends = Player(build, seconds + 8, sender, "s")
     yield
     heard = hears.played()
