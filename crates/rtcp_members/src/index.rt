@@ -1,13 +1,14 @@
 //! An index of entries: slots by rising SSRC, and the search in it.
 
-ghost use Rattle.std.specs.Prelude.{◌≡◌, ◌≤◌, ◌<◌};
+ghost use Rattle.std.specs.Prelude.{◌≡◌, ◌≤◌, ◌<◌, ◌^◌, length};
 ghost use Rattle.rtcp_members.specs.storage.Index.{AreRising, Finds, IsHalved};
 
 use crate::cells::{Slot, slot_at};
 
 /// The rank of a source, or else that which it would have.
 pub(crate) fn find(slots: &[Slot], ssrc: u32) -> Result<usize, usize>
-    requires { AreRising slots.now }
+    requires rising { AreRising slots.now }
+    requires few { length slots.now < 2 ^ 32 }
     ensures { Finds ssrc slots.now result }
 {
     let rank = first_from(slots, ssrc);
@@ -20,7 +21,8 @@ pub(crate) fn find(slots: &[Slot], ssrc: u32) -> Result<usize, usize>
 /// The first rank whose SSRC is not lesser than this one.
 // What is seen makes a number and no branch: half of the branches would be predicted wrongly.
 fn first_from(slots: &[Slot], ssrc: u32) -> usize
-    requires { AreRising slots.now }
+    requires rising { AreRising slots.now }
+    requires few { length slots.now < 2 ^ 32 }
     ensures { IsHalved ssrc slots.now result result }
 {
     if slots.is_empty() {
@@ -30,18 +32,20 @@ fn first_from(slots: &[Slot], ssrc: u32) -> usize
     let mut count = slots.len();
     'halves: while count > 1 {
         let half = count / 2;
-        at += half * one_if_before(slot_at(slots, at + half).ssrc, ssrc);
+        at += if_before(slot_at(slots, at + half).ssrc, ssrc, half);
         count -= half;
     }
-    at + one_if_before(slot_at(slots, at).ssrc, ssrc)
+    at + if_before(slot_at(slots, at).ssrc, ssrc, 1)
 }
 
-/// 1 if an SSRC that is seen is lesser than this one, else 0.
-// A bit of the difference's borrow: of its last bit, as of a comparison, the compiler makes a branch.
+/// This many if an SSRC that is seen is lesser than this one, else 0.
+// The upper half of the difference is all ones where it borrows, else 0: of a comparison, or of the last bit, the
+// compiler makes a branch.
 #[inline(always)]
-fn one_if_before(seen: u32, ssrc: u32) -> usize
-    ensures before { seen < ssrc → result ≡ 1 }
+fn if_before(seen: u32, ssrc: u32, many: usize) -> usize
+    requires { many < 2 ^ 32 }
+    ensures before { seen < ssrc → result ≡ many }
     ensures after { ssrc ≤ seen → result ≡ 0 }
 {
-    ((u64::from(seen).wrapping_sub(u64::from(ssrc)) >> 40) % 2) as usize
+    many & (u64::from(seen).wrapping_sub(u64::from(ssrc)) >> 32) as usize
 }

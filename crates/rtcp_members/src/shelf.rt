@@ -107,6 +107,7 @@ impl<C: Blocks<Cell>, S: Blocks<Slot>> Shelf<C, S> {
     #[inline(always)]
     fn in_use(&self) -> &[Slot]
         ensures as_many { length result.now ≡ length self.now.items }
+        ensures few { length result.now ≤ 1024 }
         ensures rising { AreRising result.now }
         ensures found { (ssrc : ℕ) (found : Result ℕ ℕ) → Finds ssrc result.now found →
             Locates ssrc self.now.items found }

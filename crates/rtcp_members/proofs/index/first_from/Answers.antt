@@ -17,16 +17,16 @@ halves-preserved c =
     let so = c.halves.invariant.halved in
     let within : at + half < length slots = omega (arith, so.within, c.halves-test.true) in
     let here = ap (λ (s : Slot). s.ssrc) c.slot_at.ensures in
-    let next : ℕ → Type 0 = λ bit. IsHalved ssrc slots (at + half * bit) (at + half * bit + left) in
+    let next : ℕ → Type 0 = λ more. IsHalved ssrc slots (at + more) (at + more + left) in
     record {
       halved = elim (cases_lt c.slot_at.result.ssrc ssrc) [
-        | inl less ↦ subst next (sym (c.one_if_before.ensures.before less))
-            (looser ssrc slots (at + half + 1) (at + count) (at + half * 1) (at + half * 1 + left)
-            (raised ssrc slots c.requires at (at + count) (at + half) so within (omega (arith, here, less)))
+        | inl less ↦ subst next (sym (c.if_before-at.ensures.before less))
+            (looser ssrc slots (at + half + 1) (at + count) (at + half) (at + half + left)
+            (raised ssrc slots c.requires.rising at (at + count) (at + half) so within (omega (arith, here, less)))
             (omega arith) (omega arith) (omega (arith, so.within)))
-        | inr from ↦ subst next (sym (c.one_if_before.ensures.after from))
-            (looser ssrc slots at (at + half) (at + half * 0) (at + half * 0 + left)
-            (lowered ssrc slots c.requires at (at + count) (at + half) so within (omega arith)
+        | inr from ↦ subst next (sym (c.if_before-at.ensures.after from))
+            (looser ssrc slots at (at + half) (at + 0) (at + 0 + left)
+            (lowered ssrc slots c.requires.rising at (at + count) (at + half) so within (omega arith)
             (omega (arith, here, from))) (omega arith) (omega arith) (omega (arith, so.within)))
       ];
       some = omega (arith, c.halves-test.true);
