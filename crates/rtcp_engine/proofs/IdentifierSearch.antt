@@ -1,18 +1,11 @@
 -- The search for a new identifier: numbers that follow one another are tried, until one is free.
-use Rattle.std.proofs.Common.{◌≡◌, ℕ, suc, zero, ◌+◌, ◌%◌, ◌^◌, ◌<◌, ◌≤◌, Bool, true, false, if◌then◌else◌, refl, sym, ap, ◌∙◌, arith, inl, inr}
+use Rattle.std.proofs.Common.{◌≡◌, ℕ, suc, zero, ◌+◌, ◌-◌, ◌^◌, ◌<◌, ◌≤◌, Bool, true, false, if◌then◌else◌, refl, sym, ap, ◌∙◌, arith, inl, inr}
 use Rattle.std.proofs.lemmas.Bool.{cases_lt}
 use Rattle.rtcp_engine.specs.answers.Identities.{IsFirstFree, first_free}
-
--- the number so many places after another, modulo 2^32
-abbrev pub after : (ssrc places : ℕ) → ℕ
-after ssrc places = (ssrc + places) % 2 ^ 32
+use Rattle.rtcp_engine.specs.state.Named.{AreTaken, after}
 
 abbrev tried_first : (most : ℕ) (is_taken : ℕ → Bool) (ssrc : ℕ) → Bool → ℕ
 tried_first most is_taken ssrc taken = if taken then first_free most is_taken (after ssrc 1) else ssrc
-
--- all before this place are taken
-abbrev pub AreTaken : (is_taken : ℕ → Bool) (ssrc places : ℕ) → Type 0
-AreTaken is_taken ssrc places = (place : ℕ) → place < places → is_taken (after ssrc place) ≡ true
 
 first_is_taken : (is_taken : ℕ → Bool) (ssrc places : ℕ) → ssrc < 2 ^ 32 → AreTaken is_taken ssrc (suc places) →
     is_taken ssrc ≡ true
@@ -67,6 +60,16 @@ one_more_taken is_taken ssrc places taken last place within =
   where
     antisymmetric : (n m : ℕ) → n < m + 1 → m ≤ n → n ≡ m
     antisymmetric n m below above = omega (arith, below, above)
+
+-- Those of one block are taken, and those of the next.
+pub both_taken : (is_taken : ℕ → Bool) (ssrc places more : ℕ) → AreTaken is_taken ssrc places →
+    AreTaken is_taken (after ssrc places) more → AreTaken is_taken ssrc (places + more)
+both_taken is_taken ssrc places more taken others place within = elim (cases_lt place places) [
+  | inl before ↦ taken place before
+  | inr from ↦
+      let same : after (after ssrc places) (place - places) ≡ after ssrc place = omega (arith, from) in
+      ap is_taken (sym same) ∙ others (place - places) (omega (arith, within, from))
+]
 
 -- ---- The first that is free, in other words
 

@@ -6,7 +6,7 @@
 -- named it. `Pacing` and `PaceEnds` cover what checks go by after a change of bandwidths. `Saying` covers facts that are
 -- applied part by part, and `OneSource` those of one source.
 -- That the search for a new SSRC ends with a free one is proved by counting those in its way (`NewIdentifiers`,
--- `IdentifierSearch`).
+-- `IdentifierSearch`, `Marking`).
 --
 -- The bounds on what is sent: `Sending` proves them by induction on the acts, with the timer's law
 -- `never_due_too_soon`, and `Windows` counts; `Waiting` proves the other side, with `due_in_time`.
@@ -25,6 +25,7 @@ mod Following
 mod Inspecting
 mod Keeping
 mod LifeLemmas
+mod Marking
 mod RolesChanged
 mod OneMore
 mod OneSource

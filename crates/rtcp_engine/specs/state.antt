@@ -1,4 +1,5 @@
 pub mod Views
+pub mod Named
 pub mod Taken
 pub mod OwnValues
 pub mod States

@@ -1,5 +1,5 @@
 -- What a call of a participant promises.
-use Rattle.std.specs.Prelude.{◌≡◌, ◌<◌, ◌^◌, ℕ, List, Result, IfOk, IfSome, OnErr}
+use Rattle.std.specs.Prelude.{◌≡◌, ◌<◌, ◌^◌, ℕ, List, None, Result, IfOk, IfSome, OnErr}
 use Rattle.rtcp_engine.specs.declared.refusal.Refusal.{Refusal}
 use Rattle.rtcp_engine.specs.declared.step.Standing.{Standing}
 use Rattle.rtcp_engine.specs.declared.step.WrittenStep.{WrittenStep}
@@ -9,7 +9,7 @@ use Rattle.rtcp_engine.specs.answers.Answers.{answer_of, followed_by, taken_unde
 use Rattle.rtcp_engine.specs.answers.Histories.{History, life_at, setup_at}
 use Rattle.rtcp_engine.specs.answers.Lives.{standing_in_life}
 use Rattle.rtcp_engine.specs.bounds.Runs.{IsAnsweredInTime}
-use Rattle.rtcp_engine.specs.state.States.{KeepsCapacity, ParticipantValue, StandsAt}
+use Rattle.rtcp_engine.specs.state.States.{Admits, KeepsCapacity, ParticipantValue, StandsAt, refusal_by}
 use Rattle.rtcp_engine.specs.answers.Steps.{AnswerValue}
 use Rattle.rtcp_engine.specs.state.Views.{LeavesRest, answer_value, out_written, reply_value}
 
@@ -66,3 +66,8 @@ pub record Replies
 abbrev pub Foretells : ParticipantValue → EventValue → Result ℕ Refusal → Type 0
 Foretells participant event told = (act : Act) (history : History) → IsActOfEvent event act →
     StandsAt participant history → told ≡ taken_under history act
+
+-- A call at a moment is refused for nothing but what it tells.
+pub record IsAdmitted (now : ℕ) (participant : ParticipantValue) : Type 0 where
+  pub unrefused : refusal_by now participant ≡ None
+  pub in_order : Admits participant.presence now

@@ -4,9 +4,9 @@
 ghost use Rattle.std.specs.Prelude.{◌≡◌, ◌≤◌, ◌<◌, ◌^◌, ℕ, List, None, Ok, false};
 ghost use Rattle.rtcp_engine.specs.answers.Acts.{arrived, forget_asked, leave_asked, packet_sent, rtcp_arrived, rtp_arrived, settings_given, time_passed};
 ghost use Rattle.rtcp_engine.specs.answers.Changes.{is_about};
-ghost use Rattle.rtcp_engine.specs.state.Promises.{Replies, SaysStanding, Takes};
+ghost use Rattle.rtcp_engine.specs.state.Promises.{IsAdmitted, Replies, SaysStanding, Spares, Takes, WritesReply};
 ghost use Rattle.rtcp_engine.specs.state.States.{Admits, KeepsCapacity, refusal_by};
-ghost use Rattle.rtcp_engine.specs.state.Views.{datagram_of, out_written, settings_value, size_of, written_step_value};
+ghost use Rattle.rtcp_engine.specs.state.Views.{NamesFewer, datagram_of, out_written, reply_value, settings_value, size_of, written_step_value};
 
 use super::{Participant, Phase};
 use crate::arrival::Arrival;
@@ -40,10 +40,7 @@ impl<T: MemberTable> Participant<T> {
             Err(fault) => return Err(Refusal::Wire(fault)),
         };
         let datagram = Arrival::Rtcp(compound, bytes.len());
-        if self.is_named_by(&datagram) {
-            return self.arrive_as_own(now, peer, w, datagram, octets);
-        }
-        Ok(self.arrive_as_other(now, &datagram))
+        self.arrive_once_read(now, peer, w, datagram, octets)
     }
 
     /// [`arrive_rtp`](Participant::arrive_rtp), with the BYE of an SSRC that is given up in `octets`.
@@ -68,11 +65,7 @@ impl<T: MemberTable> Participant<T> {
             Ok(head) => head,
             Err(fault) => return Err(Refusal::Rtp(fault)),
         };
-        let packet = Arrival::Rtp(head);
-        if self.is_named_by(&packet) {
-            return self.arrive_as_own(now, peer, w, packet, octets);
-        }
-        Ok(self.arrive_as_other(now, &packet))
+        self.arrive_once_read(now, peer, w, Arrival::Rtp(head), octets)
     }
 
     /// [`sent_rtp`](Participant::sent_rtp), which never has a compound.
@@ -193,6 +186,31 @@ impl<T: MemberTable> Participant<T> {
             Phase::Present | Phase::BackingOff(_) => self.presence.refusal(now),
             Phase::Finished => Some(Refusal::Left),
         }
+    }
+
+    /// Takes a datagram that was read, at a moment at which no call is refused.
+    // Inlined, as what it calls.
+    #[inline(always)]
+    pub(super) fn arrive_once_read(
+        &mut self,
+        now: u64,
+        peer: u64,
+        w: u32,
+        datagram: Arrival<'_>,
+        octets: &mut [u8; MAX_COMPOUND],
+    ) -> Reply
+        requires admitted { IsAdmitted now self.old }
+        requires size { size_of datagram ≤ 65535 }
+        requires few { NamesFewer datagram }
+        ensures takes { Takes self.old (arrived now peer w (datagram_of datagram.entry))
+            (reply_value octets.new result) self.new }
+        ensures spares { Spares self.old result self.new }
+        ensures writes { WritesReply octets.old octets.new result self.new }
+    {
+        if self.is_named_by(&datagram) {
+            return self.arrive_as_own(now, peer, w, datagram, octets);
+        }
+        Ok(self.arrive_as_other(now, &datagram))
     }
 
     /// Whether a datagram names the participant's SSRC.

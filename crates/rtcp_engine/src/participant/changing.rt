@@ -1,25 +1,26 @@
 //! A change of the participant's identifier, for a datagram that names it (RFC 3550, 8.2).
 
-ghost use Rattle.std.specs.Prelude.{◌≡◌, ◌≤◌, ◌<◌, length, map, true};
-ghost use Rattle.rtcp_engine.specs.answers.Identities.{is_among, may_change};
+ghost use Rattle.std.specs.Prelude.{◌≡◌, ◌||◌, ◌≤◌, ◌<◌, IfSome, None, length, map, true};
+ghost use Rattle.rtcp_engine.specs.answers.Identities.{IsFirstFree, is_among, may_change};
 ghost use Rattle.rtcp_engine.specs.answers.Acts.{arrived};
-ghost use Rattle.rtcp_engine.specs.answers.Changes.{Session, changed_to, identifiers, is_about, is_taken as is_taken_of, new_identifier};
+ghost use Rattle.rtcp_engine.specs.answers.Changes.{Session, changed_to, identifiers, is_about, is_in_table, is_taken as is_taken_of, new_identifier};
 ghost use Rattle.rtcp_engine.specs.answers.Histories.{History, session_at};
 ghost use Rattle.rtcp_engine.specs.answers.Lives.{own_bye};
+ghost use Rattle.rtcp_engine.specs.state.Named.{AreTaken};
 ghost use Rattle.rtcp_engine.specs.state.Promises.{Spares, Takes, WritesReply};
 ghost use Rattle.rtcp_engine.specs.state.States.{Admits, IsIn, KeepsCapacity, StandsAt, over, refusal_by};
 ghost use Rattle.rtcp_engine.specs.state.Views.{LeavesRest, NamesFewer, datagram_of, out_in, reply_value, size_of};
 
 use super::Participant;
-use crate::arrival::Arrival;
+use crate::arrival::{Arrival, BLOCK};
 use crate::refusal::Refusal;
 use crate::step::{Brought, Reply, Written};
 use rtcp_members::MemberTable;
 use rtcp_wire::MAX_COMPOUND;
 
-/// More than can be taken of the identifiers that follow one another: at most nine are or were the participant's
-/// own, 1,024 are in its table, and fewer than 2^16 are in a datagram.
-const MAX_TRIES: u32 = 1 << 17;
+/// So many blocks have more identifiers than can be taken: at most nine are or were the participant's own, 1,024 are in
+/// its table, and fewer than 2^16 are in a datagram.
+const MAX_BLOCKS: u32 = 128;
 
 impl<T: MemberTable> Participant<T> {
     /// Takes a datagram that names the participant's SSRC, after a change of that, or refuses it.
@@ -91,21 +92,39 @@ impl<T: MemberTable> Participant<T> {
         ensures { (history : History) → StandsAt self.now history → (self.now.phase ≡ over → ⊥) →
             result ≡ new_identifier w (session_at history) (datagram_of arrival.now) }
     {
-        'tries: for offset in 0..MAX_TRIES {
-            let ssrc = w.wrapping_add(offset);
-            if !self.is_taken(ssrc, arrival) {
+        'spans: for block in 0..MAX_BLOCKS {
+            let first = w.wrapping_add(block * BLOCK as u32);
+            if let Some(ssrc) = self.free_in_block(first, arrival) {
                 return ssrc;
             }
         }
         w
     }
 
-    /// Whether a source has this SSRC, as far as the participant knows, or the datagram names it.
-    fn is_taken(&self, ssrc: u32, arrival: &Arrival<'_>) -> bool
-        ensures { (session : Session) → IsIn self.now session → (self.now.phase ≡ over → ⊥) →
-            result ≡ is_taken_of session (datagram_of arrival.now) ssrc }
+    /// The first identifier of a block, from `first` on, that is not taken.
+    // The datagram is read once for all of them: whoever chose the identifiers in it knew perhaps where they begin.
+    fn free_in_block(&self, first: u32, arrival: &Arrival<'_>) -> Option<u32>
+        ensures free { (session : Session) → IsIn self.now session → (self.now.phase ≡ over → ⊥) →
+            IfSome result (IsFirstFree (is_taken_of session (datagram_of arrival.now)) first) }
+        ensures none { (session : Session) → IsIn self.now session → (self.now.phase ≡ over → ⊥) → result ≡ None →
+            AreTaken (is_taken_of session (datagram_of arrival.now)) first 1024 }
     {
-        self.is_own(ssrc) || (self.presence.knows(ssrc) || arrival.names(ssrc))
+        let named = arrival.names_from(first);
+        'tries: for offset in 0..BLOCK {
+            let ssrc = first.wrapping_add(offset as u32);
+            if !(self.holds(ssrc) || named[offset]) {
+                return Some(ssrc);
+            }
+        }
+        None
+    }
+
+    /// Whether the participant or a source of its table has this SSRC.
+    fn holds(&self, ssrc: u32) -> bool
+        ensures { (session : Session) → IsIn self.now session → (self.now.phase ≡ over → ⊥) →
+            result ≡ (is_among (identifiers session) ssrc || is_in_table session.setup session.life ssrc) }
+    {
+        self.is_own(ssrc) || self.presence.knows(ssrc)
     }
 
     /// Whether this SSRC is the participant's, or was.

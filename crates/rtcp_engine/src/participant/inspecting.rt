@@ -7,7 +7,7 @@ ghost use Rattle.rtcp_engine.specs.answers.Acts.{arrived, rtcp_arrived, rtp_arri
 ghost use Rattle.rtcp_engine.specs.answers.Answers.{taken_under};
 ghost use Rattle.rtcp_engine.specs.answers.Changes.{is_about};
 ghost use Rattle.rtcp_engine.specs.answers.Histories.{History};
-ghost use Rattle.rtcp_engine.specs.state.Promises.{Foretells};
+ghost use Rattle.rtcp_engine.specs.state.Promises.{Foretells, IsAdmitted, Replies};
 ghost use Rattle.rtcp_engine.specs.state.States.{StandsAt, refusal_by};
 ghost use Rattle.rtcp_engine.specs.state.Views.{NamesFewer, datagram_of, ssrc_for_compound, ssrc_for_packet};
 
@@ -15,14 +15,17 @@ use super::Participant;
 use crate::arrival::Arrival;
 use crate::refusal::Refusal;
 use crate::sayings::tells_of;
+use crate::step::Reply;
 use rtcp_members::MemberTable;
-use rtcp_wire::{Compound, RtpHead};
+use rtcp_wire::{Compound, MAX_COMPOUND, RtpHead};
 
 /// An RTCP datagram that a participant would take.
 #[derive(Debug, Drop)]
 pub struct InspectedRtcp<'a> {
     /// What it says.
     pub compound: Compound<'a>,
+    /// The octets that UDP carried.
+    pub octets: &'a [u8],
     /// The SSRC under which the participant would take it: a new one, where the datagram names the present one.
     pub ssrc: u32,
 }
@@ -32,14 +35,16 @@ pub struct InspectedRtcp<'a> {
 pub struct InspectedRtp<'a> {
     /// What it says.
     pub head: RtpHead<'a>,
+    /// The octets that UDP carried.
+    pub octets: &'a [u8],
     /// The SSRC under which the participant would take it, as in [`InspectedRtcp::ssrc`].
     pub ssrc: u32,
 }
 
 impl<T: MemberTable> Participant<T> {
     /// Reads an RTCP datagram that is yet to be taken, for a host that takes only some of them. It changes nothing:
-    /// [`arrive_rtcp`](Participant::arrive_rtcp) with the same arguments takes the datagram, under the SSRC that is
-    /// told here (RFC 3550, 8.2).
+    /// [`take_rtcp_into`](Participant::take_rtcp_into) with the same arguments takes the datagram, under the SSRC that
+    /// is told here (RFC 3550, 8.2).
     ///
     /// # Errors
     ///
@@ -53,6 +58,8 @@ impl<T: MemberTable> Participant<T> {
         bytes: &'a [u8],
     ) -> Result<InspectedRtcp<'a>, Refusal>
         ensures read { IfOk result (λ inspected. IsAccepted bytes.now inspected.compound) }
+        ensures octets { IfOk result (λ inspected. inspected.octets.now ≡ bytes.now) }
+        ensures admitted { IfOk result (λ _. IsAdmitted now self.now) }
         ensures foretold { Foretells self.now (rtcp_arrived now peer w bytes.now) (ssrc_for_compound result) }
     {
         if let Some(refusal) = self.refusal(now) {
@@ -66,6 +73,7 @@ impl<T: MemberTable> Participant<T> {
         if !tells_of(&compound, present) {
             return Ok(InspectedRtcp {
                 compound,
+                octets: bytes,
                 ssrc: present,
             });
         }
@@ -77,6 +85,7 @@ impl<T: MemberTable> Participant<T> {
         match Compound::read(bytes) {
             Ok(again) => Ok(InspectedRtcp {
                 compound: again,
+                octets: bytes,
                 ssrc,
             }),
             Err(fault) => Err(Refusal::Wire(fault)),
@@ -97,6 +106,8 @@ impl<T: MemberTable> Participant<T> {
         bytes: &'a [u8],
     ) -> Result<InspectedRtp<'a>, Refusal>
         ensures read { IfOk result (λ inspected. IsRtpHead bytes.now inspected.head) }
+        ensures octets { IfOk result (λ inspected. inspected.octets.now ≡ bytes.now) }
+        ensures admitted { IfOk result (λ _. IsAdmitted now self.now) }
         ensures foretold { Foretells self.now (rtp_arrived now peer w bytes.now) (ssrc_for_packet result) }
     {
         if let Some(refusal) = self.refusal(now) {
@@ -110,6 +121,7 @@ impl<T: MemberTable> Participant<T> {
         if head.ssrc() != present {
             return Ok(InspectedRtp {
                 head,
+                octets: bytes,
                 ssrc: present,
             });
         }
@@ -118,9 +130,59 @@ impl<T: MemberTable> Participant<T> {
             Err(refusal) => return Err(refusal),
         };
         match RtpHead::read(bytes) {
-            Ok(again) => Ok(InspectedRtp { head: again, ssrc }),
+            Ok(again) => Ok(InspectedRtp {
+                head: again,
+                octets: bytes,
+                ssrc,
+            }),
             Err(fault) => Err(Refusal::Rtp(fault)),
         }
+    }
+
+    /// Takes an RTCP datagram that [`inspect_rtcp`](Participant::inspect_rtcp) with the same arguments has read, since
+    /// which the participant was told nothing: it is not read again. Else as
+    /// [`arrive_rtcp_into`](Participant::arrive_rtcp_into).
+    ///
+    /// # Errors
+    ///
+    /// E7 alone may apply. Then the participant and `octets` are unchanged.
+    pub fn take_rtcp_into(
+        &mut self,
+        now: u64,
+        peer: u64,
+        w: u32,
+        inspected: InspectedRtcp<'_>,
+        octets: &mut [u8; MAX_COMPOUND],
+    ) -> Reply
+        requires read { IsAccepted inspected.octets.now inspected.compound }
+        requires admitted { IsAdmitted now self.old }
+        ensures { Replies self.old (rtcp_arrived now peer w inspected.entry.octets.now) octets.old octets.new result
+            self.new }
+    {
+        let datagram = Arrival::Rtcp(inspected.compound, inspected.octets.len());
+        self.arrive_once_read(now, peer, w, datagram, octets)
+    }
+
+    /// Takes an RTP datagram that [`inspect_rtp`](Participant::inspect_rtp) has read, as
+    /// [`take_rtcp_into`](Participant::take_rtcp_into).
+    ///
+    /// # Errors
+    ///
+    /// E7 alone may apply. Then the participant and `octets` are unchanged.
+    pub fn take_rtp_into(
+        &mut self,
+        now: u64,
+        peer: u64,
+        w: u32,
+        inspected: InspectedRtp<'_>,
+        octets: &mut [u8; MAX_COMPOUND],
+    ) -> Reply
+        requires read { IsRtpHead inspected.octets.now inspected.head }
+        requires admitted { IsAdmitted now self.old }
+        ensures { Replies self.old (rtp_arrived now peer w inspected.entry.octets.now) octets.old octets.new result
+            self.new }
+    {
+        self.arrive_once_read(now, peer, w, Arrival::Rtp(inspected.head), octets)
     }
 
     /// The SSRC under which a datagram is taken that names the participant's own, or why it is refused.

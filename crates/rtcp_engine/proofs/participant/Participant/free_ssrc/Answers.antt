@@ -1,34 +1,49 @@
-use Rattle.std.proofs.Common.{◌≡◌, ◌∙◌, Bool, true, false, sym, arith}
+use Rattle.std.proofs.Common.{◌≡◌, ◌∙◌, ◌*◌, ◌+◌, ℕ, Bool, true, false, refl, sym, ap, subst, arith}
 use Rattle.rtcp_engine.specs.answers.Changes.{is_taken, most_taken, new_identifier}
 use Rattle.rtcp_engine.specs.answers.Histories.{session_at}
+use Rattle.rtcp_engine.specs.state.Named.{AreTaken, after}
 use Rattle.rtcp_engine.specs.state.Views.{datagram_of}
 use Rattle.rtcp_engine.proofs.NewIdentifiers.{few_are_taken, new_is_free}
-use Rattle.rtcp_engine.proofs.IdentifierSearch.{first_is_chosen, one_more_taken, some_is_free}
+use Rattle.rtcp_engine.proofs.IdentifierSearch.{both_taken, first_is_chosen, some_is_free}
 use Rattle.rtcp_engine.proofs.participant.Participant.free_ssrc.Goals as goal
 
-pub returns-then-not-is_taken : goal.returns-then-not-is_taken
-returns-then-not-is_taken g c history h there =
+pub returns-in-Some : goal.returns-in-Some
+returns-in-Some g c history h there =
     let session = session_at history in
     let datagram = datagram_of c.args.arrival.now in
-    first_is_chosen (most_taken session datagram) (is_taken session datagram) c.args.w c.tries.offset c.ranges.w.fits
-    (new_is_free history datagram c.args.w h.is_history c.ranges.w.fits (omega (arith, c.requires.few)))
-    (c.tries.invariant history h there) (sym (c.is_taken.ensures session h.session there) ∙ c.if-not-is_taken.true)
+    let places : ℕ = c.spans.block * 1024 in
+    let first = c.in-Some.ensures.free session h.session there in
+    let tries : ℕ = first.tries in
+    let place : c.in-Some.ssrc ≡ after c.args.w (places + tries) = first.here ∙ omega arith in
+    let taken = both_taken (is_taken session datagram) c.args.w places tries (c.spans.invariant history h there)
+    first.sooner in
+    place
+    ∙ first_is_chosen (most_taken session datagram) (is_taken session datagram) c.args.w (places + tries)
+    c.ranges.w.fits (new_is_free history datagram c.args.w h.is_history c.ranges.w.fits (omega
+    (arith, c.requires.few))) taken (sym (ap (is_taken session datagram) place) ∙ first.free)
 
-pub tries-preserved : goal.tries-preserved
-tries-preserved g c history h there place within =
+pub spans-preserved : goal.spans-preserved
+spans-preserved g c history h there =
     let session = session_at history in
-    one_more_taken (is_taken session (datagram_of c.args.arrival.now)) c.args.w c.tries.offset
-    (c.tries.invariant history h there) (sym (c.is_taken.ensures session h.session there) ∙ c.if-not-is_taken.false)
-    place within
+    let datagram = datagram_of c.args.arrival.now in
+    let places : ℕ = c.spans.block * 1024 in
+    let next : places + 1024 ≡ (c.spans.block + 1) * 1024 = omega arith in
+    subst (AreTaken (is_taken session datagram) c.args.w) next
+    (both_taken (is_taken session datagram) c.args.w places 1024 (c.spans.invariant history h there)
+    (c.in_default.ensures.none session h.session there refl))
 
 pub returns : goal.returns
 returns g c history h there =
     let session = session_at history in
     let datagram = datagram_of c.args.arrival.now in
     let free = new_is_free history datagram c.args.w h.is_history c.ranges.w.fits (omega (arith, c.requires.few)) in
-    let taken = some_is_free (most_taken session datagram) (is_taken session datagram) c.args.w c.tries.offset
-    c.ranges.w.fits (omega (arith, few_are_taken history datagram h.is_history c.requires.few, c.tries-test.false))
-    (c.tries.invariant history h there) in
+    let taken = some_is_free (most_taken session datagram) (is_taken session datagram) c.args.w
+    (c.spans.block * 1024) c.ranges.w.fits (omega (
+      arith,
+      few_are_taken history datagram h.is_history
+          c.requires.few,
+      c.spans-test.false,
+    )) (c.spans.invariant history h there) in
     absurd (both (is_taken session datagram (new_identifier c.args.w session datagram)) taken free)
   where
     both : (b : Bool) → b ≡ true → b ≡ false → ⊥

@@ -1,4 +1,4 @@
-use Rattle.std.proofs.Common.{◌∙◌, ◌≡◌, length, None, Ok, Err, refl, ap, sym, subst}
+use Rattle.std.proofs.Common.{◌∙◌, length, None, Ok, Err, refl, ap, sym}
 use Rattle.rtcp_engine.specs.declared.arrival.Arrival.TheVariants.{Rtcp}
 use Rattle.rtcp_engine.specs.answers.Acts.{moment_of, rtcp, rtcp_arrived, rtcp_came}
 use Rattle.rtcp_engine.specs.answers.Changes.{is_about}
