@@ -32,20 +32,13 @@ impl<T: MemberTable> GuardedParticipant<T> {
     ) -> GuardedReply
         ensures { Replies self.old (rtcp_arrived now peer w bytes.now) octets.old octets.new result self.new }
     {
-        if let Some(untaken) = apart::judge_rtcp(
-            &self.participant,
-            &mut self.guard,
-            now,
-            peer,
-            w,
-            bytes,
-        ) {
-            return Err(untaken);
+        let (participant, guard) = (&self.participant, &mut self.guard);
+        match apart::admit_rtcp(participant, guard, now, peer, w, bytes) {
+            Ok(inspected) => {
+                as_untaken(self.participant.take_rtcp_into(now, peer, w, inspected, octets))
+            }
+            Err(untaken) => Err(untaken),
         }
-        as_untaken(
-            self.participant
-                .arrive_rtcp_into(now, peer, w, bytes, octets),
-        )
     }
 
     /// An RTP datagram came, as [`Participant::arrive_rtp_into`](rtcp_engine::Participant::arrive_rtp_into) is told. It
@@ -65,20 +58,13 @@ impl<T: MemberTable> GuardedParticipant<T> {
     ) -> GuardedReply
         ensures { Replies self.old (rtp_arrived now peer w bytes.now) octets.old octets.new result self.new }
     {
-        if let Some(untaken) = apart::judge_rtp(
-            &self.participant,
-            &mut self.guard,
-            now,
-            peer,
-            w,
-            bytes,
-        ) {
-            return Err(untaken);
+        let (participant, guard) = (&self.participant, &mut self.guard);
+        match apart::admit_rtp(participant, guard, now, peer, w, bytes) {
+            Ok(inspected) => {
+                as_untaken(self.participant.take_rtp_into(now, peer, w, inspected, octets))
+            }
+            Err(untaken) => Err(untaken),
         }
-        as_untaken(
-            self.participant
-                .arrive_rtp_into(now, peer, w, bytes, octets),
-        )
     }
 
     /// The host sent an RTP packet: [`Participant::sent_rtp_into`](rtcp_engine::Participant::sent_rtp_into).

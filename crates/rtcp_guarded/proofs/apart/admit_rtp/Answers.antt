@@ -2,7 +2,7 @@ use Rattle.std.proofs.Common.{◌∙◌, refl, sym}
 use Rattle.rtcp_engine.specs.answers.Acts.{rtp_arrived}
 use Rattle.rtcp_guarded.specs.Views.{both}
 use Rattle.rtcp_guarded.proofs.Calling.{held_packet, passed_packet, refused_reply}
-use Rattle.rtcp_guarded.proofs.apart.judge_rtp.Goals as goal
+use Rattle.rtcp_guarded.proofs.apart.admit_rtp.Goals as goal
 
 pub returns-in-Err-clause-held : goal.returns-in-Err-clause-held
 returns-in-Err-clause-held g c octets =
@@ -21,7 +21,7 @@ returns-in-Some-clause-held g c octets =
     }) (sym c.reason_of.ensures ∙ c.in-Some.is) refl
 
 pub returns-in-None-clause-passes : goal.returns-in-None-clause-passes
-returns-in-None-clause-passes g c none before after reply later replies =
+returns-in-None-clause-passes g c before after reply later replies =
     passed_packet {old = both c.args.participant.now c.args.guard.now}
     {new = both later c.arrive_rtp-verdict.new.self} c.in-Ok.inspected.head reply c.in-Ok.ensures.read
     c.in-Ok.ensures.foretold (record {
