@@ -109,6 +109,30 @@ static uint32_t reports_among_departures(jalwedd_guard guard, uint32_t names, ui
     return host.reports - before;
 }
 
+/* The same where one address has eight names alone, in four groups, which come back each 8 seconds: each is there for
+ * 1.9 seconds, and the groups leave in turn. */
+static uint32_t reports_among_returns(jalwedd_guard guard)
+{
+    enum { NAMES = 8, GROUPS = 4, BEAT = 50000, PERIOD = 160, STAY = 38 }; /* the last two in beats */
+    struct host host = begun_with(guard, 0, 1024, true, 4242);
+    uint32_t before = 0;
+    for (uint32_t beat = 0; beat < (HOUR + 60) * (SECOND / BEAT); beat++) {
+        pass(&host, (uint64_t)beat * BEAT);
+        if (beat % 100 == 0)
+            name_from(&host, AT_HOME, VICTIM);
+        before = beat == 60 * (SECOND / BEAT) ? host.reports : before;
+        for (uint32_t name = 0; beat >= 60 * (SECOND / BEAT) && name < NAMES; name++) {
+            const uint32_t since = (beat + PERIOD - name % GROUPS * (PERIOD / GROUPS)) % PERIOD;
+            if (since == 0)
+                name_from(&host, HOSTILE, INVENTED + name);
+            else if (since == STAY)
+                goodbye_from(&host, HOSTILE, INVENTED + name);
+        }
+    }
+    jalwedd_free(&host.session);
+    return host.reports - before;
+}
+
 static void departures(void)
 {
     puts("A: invented names and their BYEs each 6 s, from one address: reports an hour");
@@ -117,6 +141,7 @@ static void departures(void)
     told("8 names", USUAL, reports_among_departures(USUAL, 8, 1), "", 600, 800);
     told("2 names", USUAL, reports_among_departures(USUAL, 2, 1), "", 600, 800);
     told("1 name", USUAL, reports_among_departures(USUAL, 1, 1), "", 600, 800);
+    told("8 names that come back each 8 s, by twos", USUAL, reports_among_returns(USUAL), "", 250, 800);
     puts("The same from several addresses, with as many names as their limits allow");
     told("8 addresses", USUAL, reports_among_departures(USUAL, 8, 8), "", 600, 800);
     told("16 addresses", USUAL, reports_among_departures(USUAL, 16, 16), "", 500, 800);
