@@ -4,3 +4,4 @@ pub mod Ranked
 pub mod Behind
 pub mod Found
 pub mod Halving
+pub mod Quartering

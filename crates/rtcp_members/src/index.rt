@@ -1,6 +1,6 @@
 //! An index of entries: slots by rising SSRC, and the search in it.
 
-ghost use Rattle.std.specs.Prelude.{◌≡◌, ◌≤◌, ◌<◌, ◌^◌, length};
+ghost use Rattle.std.specs.Prelude.{◌≡◌, ◌≤◌, ◌<◌, ◌+◌, ◌-◌, ◌*◌, ◌^◌, ℕ, length};
 ghost use Rattle.rtcp_members.specs.storage.Index.{AreRising, Finds, IsHalved};
 
 use crate::cells::{Slot, slot_at};
@@ -28,14 +28,51 @@ fn first_from(slots: &[Slot], ssrc: u32) -> usize
     if slots.is_empty() {
         return 0;
     }
-    let mut at = 0;
-    let mut count = slots.len();
+    let (mut at, mut count) = few_from(slots, ssrc);
     'halves: while count > 1 {
         let half = count / 2;
         at += if_before(slot_at(slots, at + half).ssrc, ssrc, half);
         count -= half;
     }
     at + if_before(slot_at(slots, at).ssrc, ssrc, 1)
+}
+
+/// A rank, and how many from there on, at most three: the first rank whose SSRC is not lesser than this one is among
+/// them, or follows them.
+// By quarters: three slots are read at once, and half as many readings wait for the one before them.
+#[inline(always)]
+fn few_from(slots: &[Slot], ssrc: u32) -> (usize, usize)
+    requires rising { AreRising slots.now }
+    requires few { length slots.now < 2 ^ 32 }
+    requires some { 0 < length slots.now }
+    ensures halved { IsHalved ssrc slots.now result.0 (result.0 + result.1) }
+    ensures some { 0 < result.1 }
+{
+    let mut at = 0;
+    let mut count = slots.len();
+    'quarters: while count > 3 {
+        let quarter = count / 4;
+        at += quarters_before(slots, at, quarter, ssrc);
+        count -= 3 * quarter;
+    }
+    (at, count)
+}
+
+/// As many of three quarters as lie before a source, of slots from `at` on.
+#[inline(always)]
+fn quarters_before(slots: &[Slot], at: usize, quarter: usize, ssrc: u32) -> usize
+    requires rising { AreRising slots.now }
+    requires few { length slots.now < 2 ^ 32 }
+    requires some { 0 < quarter }
+    requires within { at + 3 * quarter < length slots.now }
+    ensures halved { (count : ℕ) → IsHalved ssrc slots.now at (at + count) → 4 * quarter ≤ count →
+        IsHalved ssrc slots.now (at + result) (at + result + (count - 3 * quarter)) }
+    ensures most { result ≤ 3 * quarter }
+{
+    let first = if_before(slot_at(slots, at + quarter).ssrc, ssrc, quarter);
+    let second = if_before(slot_at(slots, at + 2 * quarter).ssrc, ssrc, quarter);
+    let third = if_before(slot_at(slots, at + 3 * quarter).ssrc, ssrc, quarter);
+    first + second + third
 }
 
 /// This many if an SSRC that is seen is lesser than this one, else 0.

@@ -1,5 +1,5 @@
 -- What is seen in the middle leaves the slots before it, or those from it on.
-use Rattle.std.proofs.Common.{arith, ◌<◌, ◌+◌, ◌-◌, ◌*◌, ◌/◌, ℕ, List, length, inl, inr, sym, ap, subst}
+use Rattle.std.proofs.Common.{arith, ◌<◌, ◌+◌, ◌-◌, ◌/◌, ℕ, List, length, inl, inr, sym, ap, subst}
 use Rattle.std.proofs.lemmas.Bool.{cases_lt}
 use Rattle.rtcp_members.specs.declared.cells.Slot.{Slot}
 use Rattle.rtcp_members.specs.storage.Index.{IsHalved}
