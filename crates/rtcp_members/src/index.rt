@@ -5,6 +5,9 @@ ghost use Rattle.rtcp_members.specs.storage.Index.{AreRising, Finds, IsHalved};
 
 use crate::cells::{Slot, slot_at};
 
+/// How many slots are searched by halves alone.
+const FEW: usize = 15;
+
 /// The rank of a source, or else that which it would have.
 pub(crate) fn find(slots: &[Slot], ssrc: u32) -> Result<usize, usize>
     requires rising { AreRising slots.now }
@@ -37,9 +40,10 @@ fn first_from(slots: &[Slot], ssrc: u32) -> usize
     at + if_before(slot_at(slots, at).ssrc, ssrc, 1)
 }
 
-/// A rank, and how many from there on, at most three: the first rank whose SSRC is not lesser than this one is among
-/// them, or follows them.
-// By quarters: three slots are read at once, and half as many readings wait for the one before them.
+/// A rank, and how many from there on, at most 15: the first rank whose SSRC is not lesser than this one is among them,
+/// or follows them.
+// By quarters: three slots are read at once, and half as many readings wait for the one before them. Among few slots
+// that saves nothing.
 #[inline(always)]
 fn few_from(slots: &[Slot], ssrc: u32) -> (usize, usize)
     requires rising { AreRising slots.now }
@@ -50,7 +54,7 @@ fn few_from(slots: &[Slot], ssrc: u32) -> (usize, usize)
 {
     let mut at = 0;
     let mut count = slots.len();
-    'quarters: while count > 3 {
+    'quarters: while count > FEW {
         let quarter = count / 4;
         at += quarters_before(slots, at, quarter, ssrc);
         count -= 3 * quarter;
