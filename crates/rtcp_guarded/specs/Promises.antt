@@ -1,5 +1,6 @@
 -- What a call of a guarded participant promises.
 use Rattle.std.specs.Prelude.{◌≡◌, ℕ, List, Result, Err, IfOk, OnErr}
+use Rattle.rtcp_engine.specs.declared.step.Step.{Step}
 use Rattle.rtcp_engine.specs.declared.step.WrittenStep.{WrittenStep}
 use Rattle.rtcp_engine.specs.answers.Acts.{Act, EventValue, IsActOfEvent}
 use Rattle.rtcp_engine.specs.declared.refusal.Refusal.{Refusal}
@@ -8,7 +9,7 @@ use Rattle.rtcp_engine.specs.state.States.{KeepsCapacity, ParticipantValue}
 use Rattle.rtcp_guard.specs.Guarding.{GuardValue}
 use Rattle.rtcp_engine.specs.state.Views.{LeavesRest}
 use Rattle.rtcp_guarded.specs.Guarded.{GuardedHistory, GuardedAnswer, IsTakenInTime, guarded_answer, with_told}
-use Rattle.rtcp_guarded.specs.Views.{GuardedValue, StandsAt, as_refused, both, out_written, reply_value}
+use Rattle.rtcp_guarded.specs.Views.{GuardedValue, StandsAt, as_refused, both, guarded_value, out_written, reply_value}
 use Rattle.rtcp_guarded.specs.declared.untaken.Untaken.{Untaken}
 
 -- A guarded participant is told an act. It answers as its history says, and stands at the history with this act. A tick
@@ -29,6 +30,13 @@ pub record Replies
   pub within : KeepsCapacity old.participant.presence → KeepsCapacity new.participant.presence
   pub standing : IfOk reply (λ step. SaysStanding step.standing new.participant)
   pub leaves : LeavesRest before after (out_written reply)
+
+-- The same of a call that hands the compound out in its answer.
+pub record Answers (old : GuardedValue) (event : EventValue) (answer : Result Step Untaken) (new : GuardedValue)
+    : Type 0 where
+  pub takes : (act : Act) → IsActOfEvent event act → Takes old act (guarded_value answer) new
+  pub untaken : OnErr answer (new.participant ≡ old.participant)
+  pub within : KeepsCapacity old.participant.presence → KeepsCapacity new.participant.presence
 
 -- A guard is told of a datagram before its participant, which is not to take it.
 abbrev pub HoldsBack : ParticipantValue → (old : GuardValue) → EventValue → Untaken → (new : GuardValue) → Type 0

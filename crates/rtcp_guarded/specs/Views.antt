@@ -1,10 +1,11 @@
 -- What the crate's types are as values of the definitions.
 use Rattle.std.specs.Prelude.{◌≡◌, ℕ, List, Option, None, Result, Ok, Err}
 use Rattle.rtcp_engine.specs.declared.refusal.Refusal.{Refusal}
+use Rattle.rtcp_engine.specs.declared.step.Step.{Step}
 use Rattle.rtcp_engine.specs.declared.step.Written.{Written}
 use Rattle.rtcp_engine.specs.declared.step.WrittenStep.{WrittenStep}
 use Rattle.rtcp_engine.specs.state.States.{ParticipantValue, StandsAt as IsAtHistory}
-use Rattle.rtcp_engine.specs.state.Views.{written_step_value}
+use Rattle.rtcp_engine.specs.state.Views.{step_value, written_step_value}
 use Rattle.rtcp_guard.specs.Guarding.{GuardValue}
 use Rattle.rtcp_guarded.specs.Guarded.{GuardedHistory, GuardedAnswer, guard_at, passed_at}
 use Rattle.rtcp_guarded.specs.declared.untaken.Untaken.{Untaken}
@@ -27,6 +28,10 @@ pub record StandsAt (guarded : GuardedValue) (history : GuardedHistory) : Type 0
 abbrev pub reply_value : (octets : List ℕ) → Result WrittenStep Untaken → GuardedAnswer
 reply_value octets (Ok step) = Ok (written_step_value octets step)
 reply_value octets (Err untaken) = Err untaken
+
+abbrev pub guarded_value : Result Step Untaken → GuardedAnswer
+guarded_value (Ok step) = Ok (step_value step)
+guarded_value (Err untaken) = Err untaken
 
 -- the reply to a call that the guard does not judge
 abbrev pub as_refused : Result WrittenStep Refusal → Result WrittenStep Untaken

@@ -3,14 +3,14 @@
 
 ghost use Rattle.std.specs.Prelude.{◌≡◌};
 ghost use Rattle.rtcp_engine.specs.answers.Acts.{forget_asked, leave_asked, packet_sent, rtcp_arrived, rtp_arrived, settings_given, time_passed};
-ghost use Rattle.rtcp_engine.specs.state.Views.{settings_value};
+ghost use Rattle.rtcp_engine.specs.state.Views.{event_value, settings_value};
 ghost use Rattle.rtcp_guarded.specs.Promises.{Replies};
 ghost use Rattle.rtcp_guarded.specs.Views.{as_refused};
 
 use crate::apart;
 use crate::guarded::GuardedParticipant;
 use crate::untaken::{GuardedReply, Untaken};
-use rtcp_engine::{Reply, Settings};
+use rtcp_engine::{Event, Reply, Settings};
 use rtcp_members::MemberTable;
 use rtcp_wire::MAX_COMPOUND;
 
@@ -148,6 +148,41 @@ impl<T: MemberTable> GuardedParticipant<T> {
         ensures { Replies self.old (forget_asked now ssrc) octets.old octets.new (as_refused result) self.new }
     {
         self.participant.forget_into(now, ssrc, octets)
+    }
+
+    /// Makes the call that an event names.
+    ///
+    /// # Errors
+    ///
+    /// Those of the call. Then the participant and `octets` are unchanged.
+    pub fn tell_into(&mut self, event: &Event<'_>, octets: &mut [u8; MAX_COMPOUND]) -> GuardedReply
+        ensures { Replies self.old (event_value event.now) octets.old octets.new result self.new }
+    {
+        match *event {
+            Event::ArriveRtcp {
+                now,
+                peer,
+                w,
+                bytes,
+            } => self.arrive_rtcp_into(now, peer, w, bytes, octets),
+            Event::ArriveRtp {
+                now,
+                peer,
+                w,
+                bytes,
+            } => self.arrive_rtp_into(now, peer, w, bytes, octets),
+            Event::SentRtp {
+                now,
+                rtp_ts,
+                octets: size,
+            } => as_untaken(self.sent_rtp_into(now, rtp_ts, size, octets)),
+            Event::Tick { now, w1, w2 } => as_untaken(self.tick_into(now, w1, w2, octets)),
+            Event::Leave { now, w } => as_untaken(self.leave_into(now, w, octets)),
+            Event::Configure { now, settings } => {
+                as_untaken(self.configure_into(now, settings, octets))
+            }
+            Event::Forget { now, ssrc } => as_untaken(self.forget_into(now, ssrc, octets)),
+        }
     }
 }
 

@@ -6,6 +6,7 @@
 //! participant's history is just that, so each theorem about a participant holds of it.
 #![tactic(auto)]
 
+mod answered;
 pub mod apart;
 mod calls;
 mod guarded;
@@ -13,4 +14,4 @@ pub mod laws;
 mod untaken;
 
 pub use guarded::GuardedParticipant;
-pub use untaken::{GuardedReply, Reason, Untaken};
+pub use untaken::{GuardedAnswer, GuardedReply, Reason, Untaken};

@@ -1,6 +1,6 @@
 //! Why a call was not taken.
 
-use rtcp_engine::{Refusal, WrittenStep};
+use rtcp_engine::{Refusal, Step, WrittenStep};
 use thiserror::Error;
 
 /// Why the guard holds a datagram back.
@@ -27,3 +27,6 @@ pub enum Untaken {
 
 /// What was told, or why the datagram was not taken.
 pub type GuardedReply = Result<WrittenStep, Untaken>;
+
+/// The same with the compound in the step.
+pub type GuardedAnswer = Result<Step, Untaken>;
