@@ -1,6 +1,6 @@
 mod examples
 mod CheckLemmas
-mod ClauseLemmas
+pub mod ClauseLemmas
 mod CountedLemmas
 mod DigitBlocks
 mod DigitTable
@@ -14,10 +14,11 @@ mod LinesLemmas
 pub mod ListLemmas
 mod NumeralLemmas
 mod ProgressLemmas
-mod ReplayLemmas
+pub mod OpenedLemmas
+pub mod ReplayLemmas
 mod RunLemmas
-mod SessionLemmas
+pub mod SessionLemmas
 mod SettingsLemmas
 mod SeparatorLemmas
 mod TailLemmas
-mod TextLemmas
+pub mod TextLemmas

@@ -1,6 +1,6 @@
 -- The text of a session: each line says one act or has one fault, and what holds a participant answers as its history
 -- does.
-use Rattle.std.proofs.Common.{◌≡◌, ℕ, ◌⊎◌, inl, inr, List, [], ◌++◌, Option, Result, Ok, Err, refl, sym, ◌∙◌, ap, subst, append_assoc}
+use Rattle.std.proofs.Common.{◌≡◌, ℕ, ◌⊎◌, inl, inr, List, [], ◌++◌, Option, Result, Ok, Err, refl, sym, ◌∙◌, ap, subst}
 use Rattle.rtcp_engine.specs.answers.Acts.{Act, rtcp_came, rtp_came, rtp_sent, ticked, left as asked_to_leave, configured, forgotten, EventValue, rtcp_arrived, rtp_arrived, packet_sent, time_passed, leave_asked, settings_given, forget_asked, IsActOfEvent}
 use Rattle.rtcp_engine.specs.answers.Steps.{AnswerValue}
 use Rattle.rtcp_engine.specs.answers.Answers.{answer_of, followed_by}
@@ -10,13 +10,10 @@ use Rattle.rtcp_engine.proofs.LawLemmas.{one_reading-always, one_reading-once, o
 use Rattle.rtcp_text.specs.AnswerText.{answer_text}
 use Rattle.rtcp_text.specs.EventLines.{event_in}
 use Rattle.rtcp_text.specs.declared.fault.LineFault.{LineFault}
-use Rattle.rtcp_text.specs.declared.fault.TextFault.{TextFault}
-use Rattle.rtcp_text.specs.declared.fault.TextFault.TheVariants.{Write, Memory}
-use Rattle.rtcp_text.specs.Lines.{lines_of, IsTextFrom}
-use Rattle.rtcp_text.specs.Progress.{RunLeaves}
-use Rattle.rtcp_text.specs.Replay.{AnswersEvent, AnswersStanding, IsNoEvent, IsSessionText, IsPrefixOfSession, SessionBefore, SessionUpToBlock, SessionLeaves, opening}
+use Rattle.rtcp_text.specs.Lines.{IsTextFrom}
+use Rattle.rtcp_text.specs.Replay.{AnswersEvent, AnswersStanding, IsNoEvent, IsSessionText}
 use Rattle.rtcp_text.proofs.TextLemmas.{IsTotal, IsUnique, text_exists, text_continues, one_text, IsTextBy-shown}
-use Rattle.rtcp_text.proofs.ClauseLemmas.{Continues, RunLeaves-weaker, IsPrefixBy-leaves, AnswersLinesBeforeBy-block}
+use Rattle.rtcp_text.proofs.ClauseLemmas.{Continues}
 
 -- ---- Each event is one act
 
@@ -31,7 +28,7 @@ act_exists (leave_asked moment word) = (asked_to_leave moment word, refl)
 act_exists (settings_given moment settings) = (configured moment settings, refl)
 act_exists (forget_asked moment ssrc) = (forgotten moment ssrc, refl)
 
-one_act : (event : EventValue) (act act' : Act) → IsActOfEvent event act → IsActOfEvent event act' → act ≡ act'
+pub one_act : (event : EventValue) (act act' : Act) → IsActOfEvent event act → IsActOfEvent event act' → act ≡ act'
 one_act (rtcp_arrived moment peer word octets) act act' h k = h.2 ∙ ap (rtcp_came moment peer word octets)
     (one_reading-once octets h.0 k.0 h.1 k.1) ∙ sym k.2
 one_act (rtp_arrived moment peer word octets) act act' h k = h.2
@@ -70,10 +67,10 @@ one_answer history next next' line text text' (event, act, is, is_act, shown, fo
       follows ∙ ap (followed_by history) acts ∙ sym follows',
     )
 
-one_fault : (line : List ℕ) (fault fault' : LineFault) → IsNoEvent line fault → IsNoEvent line fault' → fault ≡ fault'
+pub one_fault : (line : List ℕ) (fault fault' : LineFault) → IsNoEvent line fault → IsNoEvent line fault' → fault ≡ fault'
 one_fault line fault fault' h k = cc (h, k)
 
-never_both : (line : List ℕ) (fault : LineFault) (event : EventValue) → IsNoEvent line fault →
+pub never_both : (line : List ℕ) (fault : LineFault) (event : EventValue) → IsNoEvent line fault →
     event_in line ≡ Ok event → ⊥
 never_both line fault event h k = cc (h, k)
 
@@ -103,7 +100,7 @@ pub one_session_text : (most : ℕ) (history : History) (lines : List (List ℕ)
 one_session_text most history lines text text' end end' h k = one_text most AnswersEvent IsNoEvent unique 1 history h.0
     k.0 lines text text' end end' h.1 k.1
 
-session_text_continues : (most : ℕ) (history : History) → Continues (IsSessionText most history)
+pub session_text_continues : (most : ℕ) (history : History) → Continues (IsSessionText most history)
 session_text_continues most history lines others text texts = text_continues most AnswersEvent IsNoEvent total 1 history
     lines others text texts
 
@@ -117,7 +114,7 @@ module _ {S : Type 0} (most : ℕ) (participant_of : S → ParticipantValue) whe
       let answered = at history stands in
       (followed_by history act, answered.1, (event, act, is, is_act, answered.0, refl))
 
-  IsSessionText-from : (state : S) (history : History) → StandsAt (participant_of state) history →
+  pub IsSessionText-from : (state : S) (history : History) → StandsAt (participant_of state) history →
       (lines : List (List ℕ)) (text : List ℕ) (end : Option (ℕ × LineFault))
       → IsTextFrom most (AnswersStanding participant_of) IsNoEvent 1 state lines text end →
       IsSessionText most history lines text end
@@ -127,67 +124,3 @@ module _ {S : Type 0} (most : ℕ) (participant_of : S → ParticipantValue) whe
       (λ s next h line answer at is_answer. shown_by_history s next h line answer at is_answer) 1 state last history
       lines text end stands texts in
       (shown.0, shown.2)
-
-  pub RunLeaves-standing : {A : Type 0} (state : S) (history : History) → StandsAt (participant_of state) history →
-      (r : Result A TextFault) (left : Option (List ℕ)) (input text : List ℕ)
-      → RunLeaves (IsTextFrom most (AnswersStanding participant_of) IsNoEvent 1 state) r left input text →
-      RunLeaves (IsSessionText most history) r left input text
-  RunLeaves-standing state history stands r left input text leaves =
-      RunLeaves-weaker (IsTextFrom most (AnswersStanding participant_of) IsNoEvent 1 state) (IsSessionText most history)
-      (IsSessionText-from state history stands) r left input text leaves
-
--- ---- After the line for the start
-
-pub SessionLeaves-opened : {A : Type 0} (most : ℕ) (history : History) (r : Result A TextFault) (left : Option (List ℕ))
-    (input answers : List ℕ)
-    → RunLeaves (IsSessionText most history) r left input answers →
-    SessionLeaves most history r left input (opening history ++ answers)
-SessionLeaves-opened most history (Err Memory) left input answers leaves = inr (answers, refl, leaves)
-SessionLeaves-opened {A} most history (Err Write) left input answers leaves =
-    let found = IsPrefixBy-leaves (IsSessionText most history) (session_text_continues most history) {A = A} (Err Write)
-    left input answers leaves in
-    (found.0, answers ++ found.1, found.1, found.2, sym (append_assoc (opening history) answers found.1))
-SessionLeaves-opened most history r left input answers leaves = (answers, refl, leaves)
-
--- A prefix of the line for the start is one of the whole text.
-pub IsPrefixOfSession-start : (most : ℕ) (history : History) (input text more : List ℕ) →
-    opening history ≡ text ++ more → IsPrefixOfSession most history input text
-IsPrefixOfSession-start most history input text more parts =
-    let found = session_text_exists most history (lines_of input) in
-    (found.1, found.0, more ++ found.0, found.2, ap (λ t. t ++ found.0) parts ∙ append_assoc text more found.0)
-
--- ---- The clauses
-
-pub SessionBefore-block : (most : ℕ) (history : History) (left : Option (List ℕ)) (input text : List ℕ) →
-    SessionUpToBlock most history left input text → SessionBefore most history input text
-SessionBefore-block most history left input text (inl none) = inl none
-SessionBefore-block most history left input text (inr (answers, parts, block)) =
-    inr (answers, parts, AnswersLinesBeforeBy-block (IsSessionText most history) left input answers block)
-
-opened_prefix : (most : ℕ) (history : History) (input text answers : List ℕ) → text ≡ opening history ++ answers
-    → ((end : Option (ℕ × LineFault)) × (more : List ℕ) × IsSessionText most history (lines_of input) (answers ++ more)
-    end) → IsPrefixOfSession most history input text
-opened_prefix most history input text answers parts (end, more, texts) = (
-  end,
-  answers ++ more,
-  more,
-  texts,
-  sym (append_assoc (opening history) answers more)
-      ∙ ap (λ t. t ++ more) (sym parts),
-)
-
-pub IsPrefixOfSession-leaves : {A : Type 0} (most : ℕ) (history : History) (r : Result A TextFault)
-    (left : Option (List ℕ)) (input text : List ℕ)
-    → SessionLeaves most history r left input text → IsPrefixOfSession most history input text
-IsPrefixOfSession-leaves most history (Err Memory) left input text (inl none) =
-    let found = session_text_exists most history (lines_of input) in
-    (found.1, found.0, opening history ++ found.0, found.2, ap (λ t. t ++ (opening history ++ found.0)) (sym none))
-IsPrefixOfSession-leaves {A} most history (Err Memory) left input text (inr (answers, parts, texts)) =
-    opened_prefix most history input text answers parts
-    (IsPrefixBy-leaves (IsSessionText most history) (session_text_continues most history) {A = A} (Err Memory) left
-    input answers texts)
-IsPrefixOfSession-leaves most history (Err Write) left input text leaves = leaves
-IsPrefixOfSession-leaves {A} most history r left input text leaves =
-    opened_prefix most history input text leaves.0 leaves.1
-    (IsPrefixBy-leaves (IsSessionText most history) (session_text_continues most history) {A = A} r left input leaves.0
-    leaves.2)

@@ -8,5 +8,6 @@ pub mod Lines
 pub mod Check
 pub mod Counted
 pub mod Progress
+pub mod Opened
 pub mod Replay
 pub mod Records

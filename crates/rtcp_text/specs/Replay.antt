@@ -1,5 +1,5 @@
 -- The text of a session: what a participant answers to the events that the lines of an input say.
-use Rattle.std.specs.Prelude.{◌≡◌, ℕ, ◌⊎◌, List, [], ◌++◌, Option, Some, None, Result, Ok, Err, OnOk}
+use Rattle.std.specs.Prelude.{◌≡◌, ℕ, List, Option, None, Result, Ok, Err}
 use Rattle.rtcp_engine.specs.answers.Acts.{Act, EventValue, IsActOfEvent}
 use Rattle.rtcp_engine.specs.answers.Histories.{History, life_at}
 use Rattle.rtcp_engine.specs.answers.Lives.{next_in_life}
@@ -8,12 +8,11 @@ use Rattle.rtcp_engine.specs.state.States.{ParticipantValue, StandsAt}
 use Rattle.rtcp_engine.specs.answers.Refused.{error_in}
 use Rattle.rtcp_text.specs.declared.fault.LineFault.{LineFault}
 use Rattle.rtcp_text.specs.declared.fault.ReplayFault.{ReplayFault}
-use Rattle.rtcp_text.specs.declared.fault.ReplayFault.TheVariants.{Run}
 use Rattle.rtcp_text.specs.declared.fault.TextFault.{TextFault}
-use Rattle.rtcp_text.specs.declared.fault.TextFault.TheVariants.{Text, Read, Write, Memory}
 use Rattle.rtcp_text.specs.EventLines.{event_in}
 use Rattle.rtcp_text.specs.AnswerText.{start_text, answer_text}
-use Rattle.rtcp_text.specs.Lines.{lines_of, Answering, Refusing, IsTextFrom, TextOfLines, AnswersWhatCameBy, AnswersUpToBlockBy, AnswersLinesBeforeBy}
+use Rattle.rtcp_text.specs.Lines.{Answering, Refusing, IsTextFrom, TextOfLines}
+use Rattle.rtcp_text.specs.Opened.{IsOpenedText, OpenedLeaves, ReplaysWith}
 
 -- ---- Lines
 
@@ -44,58 +43,18 @@ IsSessionText most history lines text end = IsTextFrom most AnswersEvent IsNoEve
 abbrev pub opening : History → List ℕ
 opening history = start_text (next_in_life (life_at history))
 
--- The text is the line for the start and then answers, of which P holds.
-abbrev pub Opens : History → (List ℕ → List ℕ → Type 0) → List ℕ → List ℕ → Type 0
-Opens history P input text = (answers : List ℕ) × (text ≡ opening history ++ answers) × P input answers
-
--- the text of the whole session, with its end
+-- the text of the whole session, with its end: the line for the start and then the answers
 abbrev pub IsSessionOf : (most : ℕ) → History → Option (ℕ × LineFault) → List ℕ → List ℕ → Type 0
-IsSessionOf most history end = Opens history (λ input answers. IsSessionText most history (lines_of input) answers end)
-
--- ---- What a replay leaves
-
--- a prefix of the text of the whole session, however it ends
-abbrev pub IsPrefixOfSession : (most : ℕ) → History → List ℕ → List ℕ → Type 0
-IsPrefixOfSession most history input text =
-    (end : Option (ℕ × LineFault)) × (answers : List ℕ) × (more : List ℕ)
-    × IsSessionText most history (lines_of input) answers end × (opening history ++ answers ≡ text ++ more)
-
--- The reader gave lines and then a part of a line, and has this left: after the start come the answers to
--- those lines.
-abbrev pub SessionOfWhatCame : (most : ℕ) → History → Option (List ℕ) → List ℕ → List ℕ → Type 0
-SessionOfWhatCame most history left = Opens history (AnswersWhatCameBy (IsSessionText most history) left)
-
--- Nothing, or after the start the answers to the lines before some line of the input.
-abbrev pub SessionBefore : (most : ℕ) → History → List ℕ → List ℕ → Type 0
-SessionBefore most history input text =
-    (text ≡ []) ⊎ Opens history (AnswersLinesBeforeBy (IsSessionText most history)) input text
-
--- Nothing, or after the start the answers to some lines: the reader gave these, then a part of a line, then at
--- most 8,192 octets, and has this left.
-abbrev pub SessionUpToBlock : (most : ℕ) → History → Option (List ℕ) → List ℕ → List ℕ → Type 0
-SessionUpToBlock most history left input text =
-    (text ≡ []) ⊎ Opens history (AnswersUpToBlockBy (IsSessionText most history) left) input text
+IsSessionOf most history end = IsOpenedText (opening history) (IsSessionText most history) end
 
 -- What a text is for the whole input, with the outcome and what the reader has left.
 abbrev pub SessionLeaves : (most : ℕ) → History → {A : Type 0} → Result A TextFault
     → Option (List ℕ) → List ℕ → List ℕ → Type 0
-SessionLeaves most history (Ok x) left input text = IsSessionOf most history None input text
-SessionLeaves most history (Err (Text line fault)) left input text = IsSessionOf most history (Some (line, fault)) input
-    text
-SessionLeaves most history (Err Memory) left input text = SessionUpToBlock most history left input text
-SessionLeaves most history (Err Read) left input text = SessionOfWhatCame most history left input text
-SessionLeaves most history (Err Write) left input text = IsPrefixOfSession most history input text
+SessionLeaves most history result left = OpenedLeaves (opening history) (IsSessionText most history) result left
 
 -- What a replay promises after a history whose configuration is usable, by what it wrote, its outcome, and what the
 -- reader has left.
-pub record Replays
-    (most : ℕ) (history : History) {A : Type 0} (result : Result A ReplayFault) (left : Option (List ℕ))
-    (Leaves : (List ℕ → List ℕ → Type 0) → Type 0)
-    : Type 0 where
-  pub prefix : error_in history.setup ≡ None → Leaves (IsPrefixOfSession most history)
-  pub whole : OnOk result (Leaves (IsSessionOf most history None))
-  pub refused : (line : ℕ) (fault : LineFault) → result ≡ Err (Run (Text line fault)) →
-      Leaves (IsSessionOf most history (Some (line, fault)))
-  pub read : result ≡ Err (Run Read) → Leaves (SessionOfWhatCame most history left)
-  pub memory : result ≡ Err (Run Memory) → Leaves (SessionBefore most history)
-  pub memory_block : result ≡ Err (Run Memory) → Leaves (SessionUpToBlock most history left)
+abbrev pub Replays : (most : ℕ) → History → {A : Type 0} → Result A ReplayFault → Option (List ℕ) →
+    ((List ℕ → List ℕ → Type 0) → Type 0) → Type 0
+Replays most history result left Leaves =
+    ReplaysWith (opening history) (IsSessionText most history) (error_in history.setup ≡ None) result left Leaves

@@ -1,6 +1,7 @@
 //! A text that is read in blocks, and answered line by line.
 
 ghost use Rattle.std.specs.Prelude.{◌≡◌};
+ghost use Rattle.rtcp_text.specs.Opened.{OpenedRunLeaves};
 ghost use Rattle.rtcp_text.specs.Counted.{AreUnfailed, FailsOnce, inner_of};
 ghost use Rattle.rtcp_text.specs.Lines.{Wrote, IsTextFrom};
 ghost use Rattle.rtcp_text.specs.Progress.{RunLeaves};
@@ -9,7 +10,7 @@ use crate::answerer::Answerer;
 use crate::counted::Counted;
 use crate::fault::TextFault;
 use crate::lines::LineCutter;
-use crate::writing::flush;
+use crate::writing::{flush, write_whole};
 use std::alloc::Global;
 use std::io::{Read, Write};
 
@@ -54,4 +55,27 @@ pub fn answer_blocks<A: Answerer, R: Read, W: Write>(
         }
         cutter.take_block(&block[..count], writer)?;
     }
+}
+
+/// Writes an opening, and then answers the lines of the reader's input as [`answer_blocks`] does.
+///
+/// # Errors
+///
+/// Those of [`answer_blocks`], after the opening. Where a call of the writer fails or takes nothing before the opening is
+/// written, [`TextFault::Write`]: a prefix of it is written then, and nothing is read.
+pub fn answer_opened<A: Answerer, R: Read, W: Write>(
+    alloc: Global,
+    lines: u32,
+    opening: &[u8],
+    answerer: A,
+    reader: &mut Counted<R>,
+    writer: &mut Counted<W>,
+) -> Result<(), TextFault>
+    requires { AreUnfailed reader.old writer.old }
+    ensures leaves { Wrote R.remaining W.contents reader.old writer.old writer.new (OpenedRunLeaves opening.now
+        (IsTextFrom lines A.answers A.refuses 1 answerer) result (R.remaining (inner_of reader.new))) }
+    ensures fails { FailsOnce result TextFault.Read TextFault.Write reader.new writer.new }
+{
+    write_whole(writer, opening)?;
+    answer_blocks(alloc, lines, answerer, reader, writer)
 }

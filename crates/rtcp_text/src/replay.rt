@@ -11,13 +11,12 @@ ghost use Rattle.rtcp_text.specs.Counted.{AreUnfailed, FailsOnce, inner_of};
 ghost use Rattle.rtcp_text.specs.Lines.{Wrote};
 ghost use Rattle.rtcp_text.specs.Replay.{Replays, SessionLeaves};
 
-use crate::blocks::answer_blocks;
+use crate::blocks::answer_opened;
 use crate::check::MOST_LINES;
 use crate::counted::Counted;
 use crate::fault::{ReplayFault, TextFault};
 use crate::player::Player;
 use crate::text::push_start;
-use crate::writing::write_whole;
 use rtcp_engine::{Config, Participant};
 use rtcp_members::{HeapTable, MemberTable};
 use std::alloc::{AllocError, Global};
@@ -128,7 +127,6 @@ fn session<T: MemberTable + Drop, R: Read, W: Write>(
     if let Err(AllocError) = push_start(&mut start, participant.next()) {
         return Err(TextFault::Memory);
     }
-    write_whole(writer, &start)?;
     let player = Player::new(alloc, participant);
-    answer_blocks(alloc, lines, player, reader, writer)
+    answer_opened(alloc, lines, &start, player, reader, writer)
 }

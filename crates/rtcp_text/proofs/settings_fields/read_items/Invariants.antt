@@ -1,4 +1,4 @@
-use Rattle.std.proofs.Common.{◌≡◌, ◌≤◌, length, map}
+use Rattle.std.proofs.Common.{◌≤◌, length, map}
 use Rattle.rtcp_report.specs.Views.{item_value}
 use Rattle.rtcp_text.specs.SettingsFields.{item_in, parts_at, parts_left}
 use Rattle.rtcp_text.proofs.ListLemmas.{IsReading}
