@@ -131,7 +131,7 @@ def ways_of_hosts(octets, answers):
 
 def kinds_of(octets, answers, fault):
     """How many answers there are of each kind."""
-    kinds = re.findall("^(?:ok|refused E[0-9]+|start)", answers, re.M)
+    kinds = re.findall("^(?:ok|refused [EH][0-9]+|start)", answers, re.M)
     names = {"c8": "sender report", "c9": "receiver report"}
     kinds += [names[kind] for kind in re.findall("report:..(c8|c9)", answers)]
     kinds += ["report with 31 blocks in its first packet" for _ in re.findall("report:9f", answers)]

@@ -492,6 +492,19 @@ class History:
         return self.options, octets[:-1] if rng.randrange(10) == 0 else octets
 
 
+def guarded(rng, options, octets):
+    """A session with a guard, and with peers of few addresses."""
+    addresses = rng.randrange(1, 5)
+
+    def moved(line):
+        fields = line.split(b" ")
+        if fields[0] in (b"rtcp", b"rtp") and len(fields) == 5 and fields[2].isdigit():
+            fields[2] = b"%d" % (rng.randrange(addresses) << 16 | int(fields[2]) % 2**16)
+        return b" ".join(fields)
+    limits = f"{rng.choice([1, 2, 3, 8, 100])},{rng.choice([1, 5, 13, 60])}"
+    return [*options, "--guard", limits], b"\n".join(map(moved, octets.split(b"\n")))
+
+
 def media(moment, ssrc, sequence):
     return came("rtp", moment, bytes([0x80, 0, 0, sequence]) + participant.words(0, ssrc))
 

@@ -11,6 +11,7 @@ import re
 import sys
 
 import decoder
+from guard import Guarding, Refusal
 
 SECOND = 10**6
 FURTHEST = 2**50
@@ -22,10 +23,6 @@ BLOCKS_IN_A_PACKET = 31
 MOST_WITHOUT_BACKOFF, MOST_LEAVING = 50, 65_535
 MOST_CHANGES = 8  # of the identifier
 MOST_CLOCKS, MOST_ITEMS = 16, 7
-
-
-class Refusal(Exception):
-    """A call that is refused."""
 
 
 class Fault(Exception):
@@ -342,11 +339,14 @@ class Participant:
         """Whether something was sent under the present identifier."""
         return len(self.sent_packets) > self.packets_before or self.reports > self.reports_before
 
+    def may_give_way(self, peer):
+        return peer not in self.listed and len(self.earlier) < MOST_CHANGES
+
     def give_way(self, peer, word, named, csrcs):
         """Changes the identifier if a datagram names it. What is handed out for that, and the end of the answer."""
         if self.ssrc not in named:
             return "-", ""
-        if peer in self.listed or len(self.earlier) >= MOST_CHANGES:
+        if not self.may_give_way(peer):
             raise Refusal("E7 OwnSsrc")
         self.listed.append(peer)
         out = "-"
@@ -579,6 +579,10 @@ class Participant:
         return compound + description
 
 
+class Guarded(Guarding, Participant):
+    read_head = staticmethod(read_head)
+
+
 # Options and lines
 
 
@@ -625,6 +629,15 @@ def values_of(value_of, most):
     return read
 
 
+def guard_value(text):
+    """How many sources an origin may have, and the hold in microseconds."""
+    sides = re.fullmatch(b"([0-9]{1,20})(?:,([0-9]{1,20}))?", text)
+    if not sides:
+        return None
+    names, seconds = int(sides[1]), int(sides[2] or 60)
+    return (names, seconds * SECOND) if 1 <= names <= 1024 and 1 <= seconds <= 10**9 else None
+
+
 def settings_fault(sender_bw, receiver_bw, clocks, items):
     """Why no session may have these settings, if none may."""
     if not all(16 <= bandwidth <= 2**30 for bandwidth in (sender_bw, receiver_bw)):
@@ -650,7 +663,7 @@ OPTIONS = {
     "ntp": (hex_digits(16), b"0" * 16),
     **{name: (text_value, None) for name in ("name", "email", "phone", "loc", "tool", "note")},
     "priv": (private_value, None), "word": (hex_digits(8), b"0" * 8),
-    "lines": (lambda text: decimal(2**32)(text) or None, b"65536"),
+    "lines": (lambda text: decimal(2**32)(text) or None, b"65536"), "guard": (guard_value, None),
 }
 REPEATED = {"clock": MOST_CLOCKS}  # those that may be given again, and how often at most
 ITEM_TYPES = {"name": 2, "email": 3, "phone": 4, "loc": 5, "tool": 6, "note": 7, "priv": 8}
@@ -739,16 +752,16 @@ def answer(participant, line):
         return f"refused {refusal}"
 
 
-def replay(arguments, octets, others=lambda participant: "\n", begin=Participant):
+def replay(arguments, octets, others=lambda participant: "\n", begin=None):
     """What goes to standard output and to standard error, and the status. `others` gives the end of each answer, and
-    `begin` what answers."""
+    `begin` what answers: a participant, with a guard before it if one is asked for, unless told."""
     try:
         options = configuration(arguments)
     except Usage:
         return "", __doc__ + "\n", 2
     except Fault as fault:
         return "", f"{fault}\n", 2
-    participant = begin(options)
+    participant = (begin or (Guarded if options["guard"] else Participant))(options)
     answers = [f"start members=1 senders=0 next={participant.next}{others(participant)}"]
     lines = octets.split(b"\n")
     if not lines[-1]:
@@ -770,8 +783,8 @@ def sources(arguments, octets):
 
 def main(arguments):
     if arguments == ["--self-test"]:
-        import rows, source_rows
-        sys.exit(rows.run(replay) or source_rows.run(sources))
+        import guard_rows, rows, source_rows
+        sys.exit(rows.run(replay) or guard_rows.run(replay) or source_rows.run(sources))
     tell = sources if arguments[:1] == ["sources"] else replay
     if arguments[:1] in (["replay"], ["sources"]):
         arguments = arguments[1:]

@@ -35,6 +35,7 @@ WITH_BYE, WITH_APP, WITH_OTHERS = "BYE", "APP", "other"  # kinds of compounds th
 TAKEN = re.compile("(?:start|ok) members=([0-9]+) senders=([0-9]+) next=([0-9]+|-)"
                    "(?: out=(?:-|(report|bye):((?:[0-9a-f]{2})+)))?(?: ssrc=([0-9a-f]{8}))?")
 EXAMINED = ("E5", "E6", "E7", "E8")  # refusals of calls whose moment was examined before
+HELD_BACK = "H"  # how the reasons of a guard begin
 
 
 class Mismatch(Exception):
@@ -214,7 +215,7 @@ class Session:
         self.lines[kind] += 1
         if answer.refusal:
             self.refused.append(Refused(moment, kind.decode(), answer.refusal))
-            if kind == b"rtcp":
+            if kind == b"rtcp" and not answer.refusal.startswith(HELD_BACK):  # of those the BYE is another's
                 self._refuse(moment, answer.refusal, *fields)
             if answer.refusal.startswith(EXAMINED):
                 self.end = max(self.end, moment)

@@ -10,7 +10,10 @@ use Rattle.rtcp_engine.specs.state.Views.{setup_of}
 use Rattle.rtcp_engine.specs.declared.config.Config.{Config as ConfigOfCall}
 use Rattle.rtcp_engine.specs.declared.config.ConfigError.{ConfigError}
 use Rattle.rtcp_text.specs.Check.{Checks, IsTextOfBy}
-use Rattle.rtcp_text.specs.Replay.{Replays}
+use Rattle.rtcp_text.specs.Opened.{IsOpenedText, ReplaysWith}
+use Rattle.rtcp_text.specs.Replay.{IsSessionText, Replays, opening}
+use Rattle.rtcp_guarded_text.specs.GuardedReplay.{IsGuardedText, ReplaysGuarded, guarded_begun, guarded_opening}
+use Rattle.rtcp_guarded_text.specs.declared.limits.GuardLimits.{GuardLimits}
 use Rattle.rtcp_text.specs.Text.{accepted_text}
 use Rattle.rtcp_text.specs.declared.fault.LineFault.{LineFault}
 use Rattle.rtcp_text.specs.declared.fault.ReplayFault.{ReplayFault}
@@ -18,13 +21,13 @@ use Rattle.rtcp_text.specs.declared.fault.ReplayFault.TheVariants.{Config as Bad
 use Rattle.rtcp_text.specs.declared.fault.TextFault.{TextFault}
 use Rattle.rtcp_text.specs.declared.fault.TextFault.TheVariants.{Text as BadText, Read as Unread, Write as Unwritten, Memory as NoMemory}
 use Rattle.rtcp_text.specs.declared.counted.Counted.{Counted}
-use Rattle.rtcp_text.specs.Lines.{Writes, Wrote}
+use Rattle.rtcp_text.specs.Lines.{TextOfLines, Writes, Wrote}
 use Rattle.rtcp_text.specs.Counted.{inner_of}
 use Rattle.rtcp_command.specs.declared.fault.RunFault.{RunFault}
 use Rattle.rtcp_command.specs.declared.fault.RunFault.TheVariants.{Config, Text, Link, Record, NoRegularFile, Random, Read, Write, Memory}
 use Rattle.rtcp_command.specs.declared.orders.TextOrder.{TextOrder}
-use Rattle.rtcp_command.specs.declared.orders.TextOrder.TheVariants.{Check, CheckPlain, Replay}
-use Rattle.rtcp_command.specs.Orders.{AnswersOrder, IsTextOfOrder}
+use Rattle.rtcp_command.specs.declared.orders.TextOrder.TheVariants.{Check, CheckPlain, Replay, ReplayGuarded}
+use Rattle.rtcp_command.specs.Orders.{AnswersOrder, IsTextOfOrder, RefusesConfig}
 use Rattle.rtcp_command.specs.Status.{fault_status, replay_fault, text_fault}
 
 pub refuses : (fault : RunFault) → fault_status fault ≡ 2
@@ -91,21 +94,23 @@ module _ (order : TextOrder) {left : Option (List ℕ)} {Leaves : (List ℕ → 
     config = λ error is. absurd (no_config found error (cc is));
   }
 
-pub answers_replayed : (config : ConfigOfCall) (word most : ℕ) {left : Option (List ℕ)}
-    {Leaves : (List ℕ → List ℕ → Type 0) → Type 0} (r : Result (Unit {0}) ReplayFault)
-    → ((error : ConfigError) → (r ≡ Err (BadConfig error)) ↔ (error_in (setup_of config) ≡ Some error))
-    → Replays most (begun (setup_of config) word) r left Leaves →
-    AnswersOrder (Replay config word most) (replayed r) Leaves
-answers_replayed config word most (Ok x) configs h = record {
-  whole = h.whole;
-  refused = λ line fault is. absurd (cc is);
-  config = λ error is. absurd (cc is);
-}
-answers_replayed config word most (Err found) configs h = record {
-  whole = tt;
-  refused = λ line fault is. h.refused line fault (ap Err (replay_refused found line fault (cc is)));
-  config = λ error is. (configs error).0 (ap Err (replay_config found error (cc is)));
-}
+  -- An answered session, with a guard or without, is answered by its opening and its lines.
+  pub answers_replayed : (opening : List ℕ) (IsText : TextOfLines) (IsUsable : Type 0)
+      → ((end : Option (ℕ × LineFault)) → Leaves (IsOpenedText opening IsText end) → Leaves (IsTextOfOrder order end))
+      → (r : Result (Unit {0}) ReplayFault)
+      → ((error : ConfigError) → r ≡ Err (BadConfig error) → RefusesConfig order error)
+      → ReplaysWith opening IsText IsUsable r left Leaves → AnswersOrder order (replayed r) Leaves
+  answers_replayed opening IsText IsUsable same (Ok x) configs h = record {
+    whole = same None h.whole;
+    refused = λ line fault is. absurd (cc is);
+    config = λ error is. absurd (cc is);
+  }
+  answers_replayed opening IsText IsUsable same (Err found) configs h = record {
+    whole = tt;
+    refused = λ line fault is.
+        same (Some (line, fault)) (h.refused line fault (ap Err (replay_refused found line fault (cc is))));
+    config = λ error is. configs error (ap Err (replay_config found error (cc is)));
+  }
 
 module _ (order : TextOrder) {left : Option (List ℕ)} {Leaves : (List ℕ → List ℕ → Type 0) → Type 0} where
   pub check_answers : (lines : ℕ) → order ≡ Check lines → (r : Result (Unit {0}) TextFault) →
@@ -125,7 +130,21 @@ module _ (order : TextOrder) {left : Option (List ℕ)} {Leaves : (List ℕ → 
       ((error : ConfigError) → (r ≡ Err (BadConfig error)) ↔ (error_in (setup_of config) ≡ Some error)) →
       Replays lines (begun (setup_of config) word) r left Leaves → AnswersOrder order (replayed r) Leaves
   replay_answers config word lines is r configs h =
-      subst (λ o. AnswersOrder o (replayed r) Leaves) (sym is) (answers_replayed config word lines r configs h)
+      let history = begun (setup_of config) word in
+      subst (λ o. AnswersOrder o (replayed r) Leaves) (sym is)
+      (answers_replayed (Replay config word lines) (opening history) (IsSessionText lines history)
+      (error_in (setup_of config) ≡ None) (λ end p. p) r (λ error. (configs error).0) h)
+
+  pub replay_guarded_answers : (config : ConfigOfCall) (word lines : ℕ) (limits : GuardLimits) →
+      order ≡ ReplayGuarded config word lines limits → (r : Result (Unit {0}) ReplayFault) →
+      ((error : ConfigError) → (r ≡ Err (BadConfig error)) ↔ (error_in (setup_of config) ≡ Some error)) →
+      ReplaysGuarded lines (guarded_begun (setup_of config) word limits) r left Leaves →
+      AnswersOrder order (replayed r) Leaves
+  replay_guarded_answers config word lines limits is r configs h =
+      let history = guarded_begun (setup_of config) word limits in
+      subst (λ o. AnswersOrder o (replayed r) Leaves) (sym is)
+      (answers_replayed (ReplayGuarded config word lines limits) (guarded_opening history) (IsGuardedText lines history)
+      (error_in (setup_of config) ≡ None) (λ end p. p) r (λ error. (configs error).0) h)
 
 -- the exit of a `?`
 pub at_exit : (order : TextOrder) {Leaves : (List ℕ → List ℕ → Type 0) → Type 0} (r : Result (Unit {0}) RunFault)

@@ -1,4 +1,5 @@
 pub mod EndText
+pub mod Guards
 pub mod Options
 pub mod Endpoints
 pub mod Groups

@@ -9,10 +9,12 @@ use Rattle.rtcp_wire.specs.Values.{ItemValue}
 use Rattle.rtcp_engine.specs.answers.Setups.{ClockValue, Setup}
 use Rattle.rtcp_engine.specs.state.Views.{setup_of}
 use Rattle.rtcp_command.specs.declared.orders.TextOrder.{TextOrder}
-use Rattle.rtcp_command.specs.declared.orders.TextOrder.TheVariants.{Check, CheckPlain, Replay}
+use Rattle.rtcp_command.specs.declared.orders.TextOrder.TheVariants.{Check, CheckPlain, Replay, ReplayGuarded}
 use Rattle.rtcp_command.specs.declared.orders.OrderFault.{OrderFault}
 use Rattle.rtcp_command.specs.declared.orders.OrderFault.TheVariants.{Clap, Option as BadOption, Memory}
 use Rattle.rtcp_text.specs.Numerals.{decimal_in, hex_in, hex_text_in}
+use Rattle.rtcp_guarded_text.specs.declared.limits.GuardLimits.{GuardLimits}
+use Rattle.rtcp_command.specs.Guards.{guard_given}
 use Rattle.rtcp_text.specs.Results.{◌>>=◌}
 use Rattle.rtcp_text.specs.SettingsFields.{clock_in, few_in}
 
@@ -130,19 +132,22 @@ setup_in found ssrc = do
 abbrev pub lines_in : List ℕ → Option ℕ
 lines_in text = option_and_then (λ lines. if nat_le 1 lines then Some lines else None) (decimal_in 32 text)
 
--- The word of the start and the number of lines are looked at last.
-abbrev pub replay_in : Found → Result (Setup × ℕ × ℕ) (List ℕ)
+-- The word of the start, the number of lines and the guard are looked at last.
+abbrev pub replay_in : Found → Result (Setup × ℕ × ℕ × Option GuardLimits) (List ℕ)
 replay_in found = do
   setup ← setup_in found (text_found found (codes "ssrc"))
   word ← ok_or (hex_in w32 (text_found found (codes "word"))) (codes "word")
   lines ← ok_or (lines_in (text_found found (codes "lines"))) (codes "lines")
-  Ok (setup, word, lines)
+  guard ← ok_or (guard_given (first_value found (codes "guard"))) (codes "guard")
+  Ok (setup, word, lines, guard)
 
 -- ---- Orders
 
 -- What the options come to is this order, or this fault.
-abbrev pub IsReplayOrder : Result TextOrder OrderFault → Result (Setup × ℕ × ℕ) (List ℕ) → Type 0
-IsReplayOrder (Ok (Replay config word lines)) expected = expected ≡ Ok (setup_of config, word, lines)
+abbrev pub IsReplayOrder : Result TextOrder OrderFault → Result (Setup × ℕ × ℕ × Option GuardLimits) (List ℕ) → Type 0
+IsReplayOrder (Ok (Replay config word lines)) expected = expected ≡ Ok (setup_of config, word, lines, None)
+IsReplayOrder (Ok (ReplayGuarded config word lines limits)) expected =
+    expected ≡ Ok (setup_of config, word, lines, Some limits)
 IsReplayOrder (Ok (Check lines)) expected = ⊥
 IsReplayOrder (Ok (CheckPlain lines)) expected = ⊥
 IsReplayOrder (Err (BadOption name)) expected = expected ≡ Err name.now
@@ -154,6 +159,7 @@ abbrev pub IsCheckOrder : Result TextOrder OrderFault → (plain : Bool) → Opt
 IsCheckOrder (Ok (Check lines)) plain expected = (expected ≡ Some lines) × (plain ≡ false)
 IsCheckOrder (Ok (CheckPlain lines)) plain expected = (expected ≡ Some lines) × (plain ≡ true)
 IsCheckOrder (Ok (Replay config word lines)) plain expected = ⊥
+IsCheckOrder (Ok (ReplayGuarded config word lines limits)) plain expected = ⊥
 IsCheckOrder (Err (BadOption name)) plain expected = (expected ≡ None) × (name.now ≡ codes "lines")
 IsCheckOrder (Err (Clap text)) plain expected = ⊥
 IsCheckOrder (Err Memory) plain expected = ⊥

@@ -10,6 +10,7 @@ ghost use Rattle.rtcp_text.specs.declared.fault.LineFault.{LineFault as Fault};
 
 use crate::fault::{RunFault, fail};
 use crate::orders::TextOrder;
+use rtcp_guarded_text::replay::replay_guarded;
 use rtcp_plain::check_plain;
 use rtcp_text::Counted;
 use rtcp_text::check::check_up_to;
@@ -74,7 +75,7 @@ fn run<R: Read, W: Write>(
 ///
 /// # Errors
 ///
-/// Those of [`check_up_to`], [`check_plain`] or [`replay_up_to`].
+/// Those of [`check_up_to`], [`check_plain`], [`replay_up_to`] or [`replay_guarded`].
 fn answer<R: Read, W: Write>(
     alloc: Global,
     order: TextOrder,
@@ -93,6 +94,12 @@ fn answer<R: Read, W: Write>(
             word,
             lines,
         } => Ok(replay_up_to(alloc, lines, reader, writer, config, word)?),
+        TextOrder::ReplayGuarded {
+            config,
+            word,
+            lines,
+            limits,
+        } => Ok(replay_guarded(alloc, lines, reader, writer, config, word, limits)?),
     }
 }
 

@@ -29,6 +29,7 @@ pub mod endpoint;
 pub mod ends;
 mod fault;
 pub mod groups;
+mod guard;
 pub mod laws;
 mod options;
 mod orders;

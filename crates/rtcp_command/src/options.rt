@@ -9,10 +9,12 @@ ghost use Rattle.rtcp_command.specs.Options.{bandwidth_in, clock_given, clocks_g
 ghost use Rattle.rtcp_text.specs.Numerals.{hex_text_in};
 
 use crate::endpoint::read_endpoint;
+use crate::guard::read_given_guard;
 use crate::orders::{ListenOrder, Order, OrderFault};
 use arrayvec::ArrayVec;
 use clap::ArgMatches;
 use rtcp_engine::{Clock, Config, Item, rtcp_bw_of, shares_of};
+use rtcp_guarded_text::GuardLimits;
 use rtcp_text::numerals::{read_decimal, read_hex_text, read_long, read_short_decimal, read_word};
 use rtcp_text::settings_fields::read_clock;
 use std::alloc::{AllocError, Global};
@@ -44,21 +46,24 @@ pub(crate) fn is_set(matches: &ArgMatches<'_>, name: &str) -> bool
     given(matches, name) == "true"
 }
 
-/// The configuration, the word of the start and the number of lines that the options of `replay` say. Whether a
-/// participant takes the configuration is not tested here.
+/// The configuration, the word of the start, the number of lines and the guard that the options of `replay` say.
+/// Whether a participant takes the configuration is not tested here.
 ///
 /// # Errors
 ///
 /// The name of the first option that is refused, in the order of the rows that `clap` is told of, without its dashes.
-pub(crate) fn read_replay(matches: &ArgMatches<'_>) -> Result<(Config, u32, u32), &'static str>
+pub(crate) fn read_replay(
+    matches: &ArgMatches<'_>,
+) -> Result<(Config, u32, u32, Option<GuardLimits>), &'static str>
     ensures read { IfOk result (λ read.
-        replay_in (found_of matches.now) ≡ Ok (setup_of read.0, read.1, read.2)) }
+        replay_in (found_of matches.now) ≡ Ok (setup_of read.0, read.1, read.2, read.3)) }
     ensures refused { IfErr result (λ name. replay_in (found_of matches.now) ≡ Err name.now) }
 {
     let config = read_config(matches, given(matches, "ssrc"))?;
     let word = read_word(given(matches, "word").as_bytes()).ok_or("word")?;
     let lines = read_lines(given(matches, "lines")).ok_or("lines")?;
-    Ok((config, word, lines))
+    let guard = read_given_guard(matches.get_str("guard")).map_err(|()| "guard")?;
+    Ok((config, word, lines, guard))
 }
 
 /// How many lines of a text are answered at most: 1 to 2^32 - 1.

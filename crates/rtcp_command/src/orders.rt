@@ -1,6 +1,7 @@
 //! What a command line may ask for, and what is wrong with one.
 
 use rtcp_engine::Config;
+use rtcp_guarded_text::GuardLimits;
 use std::net::SocketAddrV4;
 
 /// What the program is asked to do.
@@ -33,6 +34,17 @@ pub enum TextOrder {
         word: u32,
         /// The most lines that are answered, at least 1.
         lines: u32,
+    },
+    /// Shows what a participant with a guard before it answers to each event.
+    ReplayGuarded {
+        /// How the participant is configured. Nothing of it was tested against the ranges of a configuration.
+        config: Config,
+        /// The random word of the start.
+        word: u32,
+        /// The most lines that are answered, at least 1.
+        lines: u32,
+        /// What an origin may do before the guard holds it back.
+        limits: GuardLimits,
     },
 }
 

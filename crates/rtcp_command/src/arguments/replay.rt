@@ -1,12 +1,16 @@
 //! The subcommand `replay` of the command line.
 
+ghost use Rattle.std.specs.Prelude.{Ok};
+ghost use Rattle.rtcp_engine.specs.state.Views.{setup_of};
 ghost use Rattle.clap.specs.Matches.{found_of};
 ghost use Rattle.rtcp_command.specs.Options.{IsReplayOrder, replay_in};
 
-use super::rows::{Absent, LINES, PARTICIPANT, Row, with_options};
+use super::rows::{Absent, GUARD, LINES, PARTICIPANT, Row, with_options};
 use crate::options::read_replay;
 use crate::orders::{OrderFault, TextOrder};
 use clap::{ArgMatches, Command};
+use rtcp_engine::Config;
+use rtcp_guarded_text::GuardLimits;
 use std::alloc::{AllocError, Global};
 
 const ABOUT: &str = "Show what a participant answers to the events of a session";
@@ -49,6 +53,13 @@ changed it, the line ends in ssrc= and the new one.
 
 These are the answers of --ssrc 000000aa --cname a.
 
+With --guard NAMES[,SECONDS] a source belongs to the origin that named it first, until it was silent
+for so long, 60 seconds unless told. The origin is PEER without its lower 16 bits, the port. What
+another origin says of it is held back, and so is what would give an origin more than NAMES sources:
+
+    refused H1 Stranger
+    refused H2 Crowd
+
 A line of more than 131200 characters, a line after the first N of --lines and a line that is
 not as above end the run: the number of the line and its fault are written to standard error.
 
@@ -56,7 +67,7 @@ The status is 0 if every line was answered, 2 if the command line, an option, th
 or a line of the text was refused, and 1 if reading, writing or memory failed.";
 
 /// The options after those of the participant, in the order in which they are looked at.
-const OWN: [Row; 2] = [
+const OWN: [Row; 3] = [
     (
         "word",
         "HEX",
@@ -64,6 +75,7 @@ const OWN: [Row; 2] = [
         "Random word of the start, 8 hex digits",
     ),
     LINES,
+    GUARD,
 ];
 
 /// The subcommand, as `clap` reads it.
@@ -82,11 +94,26 @@ pub(super) fn order(matches: &ArgMatches<'_>) -> Result<TextOrder, OrderFault>
     ensures { IsReplayOrder result (replay_in (found_of matches.now)) }
 {
     match read_replay(matches) {
-        Ok((config, word, lines)) => Ok(TextOrder::Replay {
+        Ok((config, word, lines, guard)) => Ok(replay_order(config, word, lines, guard)),
+        Err(name) => Err(OrderFault::Option(name)),
+    }
+}
+
+/// A replay, with a guard or without.
+fn replay_order(config: Config, word: u32, lines: u32, guard: Option<GuardLimits>) -> TextOrder
+    ensures { IsReplayOrder (Ok result) (Ok (setup_of config, word, lines, guard)) }
+{
+    match guard {
+        None => TextOrder::Replay {
             config,
             word,
             lines,
-        }),
-        Err(name) => Err(OrderFault::Option(name)),
+        },
+        Some(limits) => TextOrder::ReplayGuarded {
+            config,
+            word,
+            lines,
+            limits,
+        },
     }
 }

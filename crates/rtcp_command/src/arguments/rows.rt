@@ -95,6 +95,14 @@ pub(super) const LINES: Row = (
     "Most lines that are answered, 1 to 4294967295",
 );
 
+/// The option of a guard.
+pub(super) const GUARD: Row = (
+    "guard",
+    "NAMES[,SECONDS]",
+    Absent::Nothing,
+    "Hold back who speaks for another's source, or for more than 1 to 1024, for 60 seconds",
+);
+
 /// A subcommand with these options too.
 pub(super) fn with_options<'a>(
     alloc: Global,

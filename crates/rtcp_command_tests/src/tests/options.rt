@@ -1,5 +1,6 @@
 //! The options of `replay`.
 
+mod guard;
 mod listen;
 
 use super::{refused, same, text_order};
@@ -35,6 +36,7 @@ fn replayed(alloc: Global, words: &[&str]) -> Result<(Config, WordAndLines), Fai
         TextOrder::Check { lines: _ } | TextOrder::CheckPlain { lines: _ } => {
             Err("it is a check")?
         }
+        TextOrder::ReplayGuarded { .. } => Err("it has a guard")?,
     }
 }
 

@@ -37,6 +37,11 @@ fn ends_with(rt: &impl Abort, ended: Ended, status: u8, text: &str, fault: &str)
 /// A participant with the least options.
 const PLAIN: [&str; 6] = ["rtcp", "replay", "--ssrc", "000000aa", "--cname", "a"];
 
+/// One with a guard: an address may have two sources, for ten seconds.
+const GUARDED: [&str; 8] = [
+    "rtcp", "replay", "--ssrc", "000000aa", "--cname", "a", "--guard", "2,10",
+];
+
 /// The greatest word at the start.
 const LATE: [&str; 8] = [
     "rtcp", "replay", "--ssrc", "000000aa", "--cname", "a", "--word", "ffffffff",
@@ -67,7 +72,7 @@ const LEAST_SESSION: [&str; 8] = [
 ];
 
 /// Sessions, and a line that is no hex: the words, the lines, the status, the text and the fault line.
-static TEXTS: [(&[&str], &str, u8, &str, &str); 9] = [
+static TEXTS: [(&[&str], &str, u8, &str, &str); 10] = [
     (
         &PLAIN,
         "tick 1026036 00000000 00000000\ntick 1026037 00000000 00000000\n",
@@ -129,6 +134,28 @@ static TEXTS: [(&[&str], &str, u8, &str, &str); 9] = [
         out=bye:80c90001000000aa81ca0002000000aa0101610081cb0001000000aa ssrc=000000bb\n\
         ok members=0 senders=0 next=- out=-\n",
         "",
+    ),
+    // With a guard of two sources an address: 65536 and 70541 are ports of one, 131072 of another. What is held back is
+    // no call, so a moment of 2 may come after one of 9.
+    (
+        &GUARDED,
+        "rtp 0 65536 000000bb 800000000000000000000007\n\
+        rtp 1 70541 000000bb 800000010000000000000007\n\
+        rtp 2 131072 000000bb 800000020000000000000007\n\
+        rtcp 9 131072 000000bb 80c900010000000781cb000100000007\n\
+        rtcp 2 65536 000000bb 80c900010000000881cb000100000008\n\
+        rtcp 2 70541 000000bb 80c900010000000981cb000100000009\n\
+        tick 1 00000000 00000000\nrtp x\n",
+        2,
+        "start members=1 senders=0 next=1026037\n\
+        ok members=1 senders=0 next=1026037 out=-\n\
+        ok members=2 senders=1 next=1026037 out=-\n\
+        refused H1 Stranger\n\
+        refused H1 Stranger\n\
+        ok members=2 senders=1 next=1026037 out=-\n\
+        refused H2 Crowd\n\
+        refused E2 Backwards\n",
+        "line 8: X3 Words\n",
     ),
     (&LATE, "", 0, "start members=1 senders=0 next=3078111\n", ""),
     (

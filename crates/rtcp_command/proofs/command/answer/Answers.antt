@@ -1,7 +1,7 @@
 -- What a check or a replay promises, the run of its order does.
 use Rattle.std.proofs.Common.{Ok, Err}
 use Rattle.rtcp_command.specs.Status.{text_fault, replay_fault}
-use Rattle.rtcp_command.proofs.StatusLemmas.{at_exit, check_answers, check_plain_answers, replay_answers}
+use Rattle.rtcp_command.proofs.StatusLemmas.{at_exit, check_answers, check_plain_answers, replay_answers, replay_guarded_answers}
 use Rattle.rtcp_command.proofs.command.answer.Goals as goal
 
 pub returns-in_err-check_up_to-in-Check-clause-answers : goal.returns-in_err-check_up_to-in-Check-clause-answers
@@ -36,3 +36,17 @@ pub returns-in_ok-replay_up_to-in-Replay-clause-answers : goal.returns-in_ok-rep
 returns-in_ok-replay_up_to-in-Replay-clause-answers g c =
     replay_answers _ _ _ _ c.in-Replay.is (Ok _) c.in_ok-replay_up_to-in-Replay.ensures.config
     c.in_ok-replay_up_to-in-Replay.ensures.replays
+
+pub returns-in_err-replay_guarded-in-ReplayGuarded-clause-answers :
+    goal.returns-in_err-replay_guarded-in-ReplayGuarded-clause-answers
+returns-in_err-replay_guarded-in-ReplayGuarded-clause-answers g c =
+    let found = c.in_err-replay_guarded-in-ReplayGuarded.field-0.0 in
+    at_exit _ _ (replay_fault found) c.from_residual-in_err-replay_guarded-in-ReplayGuarded.ensures.1
+    (replay_guarded_answers _ _ _ _ _ c.in-ReplayGuarded.is (Err found)
+    c.in_err-replay_guarded-in-ReplayGuarded.ensures.config c.in_err-replay_guarded-in-ReplayGuarded.ensures.replays)
+
+pub returns-in_ok-replay_guarded-in-ReplayGuarded-clause-answers :
+    goal.returns-in_ok-replay_guarded-in-ReplayGuarded-clause-answers
+returns-in_ok-replay_guarded-in-ReplayGuarded-clause-answers g c =
+    replay_guarded_answers _ _ _ _ _ c.in-ReplayGuarded.is (Ok _)
+    c.in_ok-replay_guarded-in-ReplayGuarded.ensures.config c.in_ok-replay_guarded-in-ReplayGuarded.ensures.replays

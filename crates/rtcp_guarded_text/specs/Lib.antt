@@ -1,0 +1,2 @@
+pub mod GuardedText
+pub mod GuardedReplay
