@@ -40,6 +40,7 @@ pub extern "C" fn jalwedd_arrive_rtcp(
         handle.new.owned.held result step.new octets.old octets.new }
     ensures guarded { TellsGuarded (λ moment. rtcp_arrived moment peer word datagram.now) now handle.old.owned.held
         handle.new.owned.held result step.new octets.old octets.new }
+    ensures unguarded { IsUnguarded handle.old.owned.held → IsUnguarded handle.new.owned.held }
     ensures spares { SparesArrival handle.old.owned.held handle.new.owned.held result step.new octets.old octets.new }
 {
     let (mut session, moment) = match handle.open(alloc, now, step) {
@@ -80,6 +81,7 @@ pub extern "C" fn jalwedd_arrive_rtp(
         now handle.old.owned.held handle.new.owned.held result step.new octets.old octets.new }
     ensures turns_away { 65535 < length datagram.now →
         TurnsAway 23 handle.old.owned.held result step.new octets.old octets.new }
+    ensures unguarded { IsUnguarded handle.old.owned.held → IsUnguarded handle.new.owned.held }
     ensures spares { SparesArrival handle.old.owned.held handle.new.owned.held result step.new octets.old octets.new }
 {
     if datagram.len() > LONGEST {
@@ -119,6 +121,7 @@ pub extern "C" fn jalwedd_sent_rtp(
     ensures guarded { TellsGuarded (λ moment. packet_sent moment timestamp size) now handle.old.owned.held
         handle.new.owned.held result step.new octets.old octets.new }
     ensures nothing { (step.new.kind ≡ 0) × (octets.new ≡ octets.old) }
+    ensures unguarded { IsUnguarded handle.old.owned.held → IsUnguarded handle.new.owned.held }
     ensures spares { SparesSession handle.old.owned.held handle.new.owned.held result step.new octets.old octets.new }
 {
     let (mut session, moment) = match handle.open(alloc, now, step) {
@@ -151,6 +154,7 @@ pub extern "C" fn jalwedd_tick(
         handle.new.owned.held result step.new octets.old octets.new }
     ensures guarded { TellsGuarded (λ moment. time_passed moment first_word second_word) now handle.old.owned.held
         handle.new.owned.held result step.new octets.old octets.new }
+    ensures unguarded { IsUnguarded handle.old.owned.held → IsUnguarded handle.new.owned.held }
     ensures spares { SparesSession handle.old.owned.held handle.new.owned.held result step.new octets.old octets.new }
 {
     let (mut session, moment) = match handle.open(alloc, now, step) {
@@ -187,6 +191,7 @@ pub extern "C" fn jalwedd_configure(
     ensures turns_away { (status : ℕ) → oversize_of_settings settings.now items.now ≡ Some status →
         TurnsAway status handle.old.owned.held result step.new octets.old octets.new }
     ensures nothing { (step.new.kind ≡ 0) × (octets.new ≡ octets.old) }
+    ensures unguarded { IsUnguarded handle.old.owned.held → IsUnguarded handle.new.owned.held }
     ensures spares { SparesSession handle.old.owned.held handle.new.owned.held result step.new octets.old octets.new }
 {
     let mut given = blank_settings();
@@ -222,6 +227,7 @@ pub extern "C" fn jalwedd_forget(
     ensures guarded { TellsGuarded (λ moment. forget_asked moment ssrc) now handle.old.owned.held
         handle.new.owned.held result step.new octets.old octets.new }
     ensures nothing { (step.new.kind ≡ 0) × (octets.new ≡ octets.old) }
+    ensures unguarded { IsUnguarded handle.old.owned.held → IsUnguarded handle.new.owned.held }
     ensures spares { SparesSession handle.old.owned.held handle.new.owned.held result step.new octets.old octets.new }
 {
     let (mut session, moment) = match handle.open(alloc, now, step) {
@@ -250,6 +256,7 @@ pub extern "C" fn jalwedd_leave(
         handle.new.owned.held result step.new octets.old octets.new }
     ensures guarded { TellsGuarded (λ moment. leave_asked moment word) now handle.old.owned.held
         handle.new.owned.held result step.new octets.old octets.new }
+    ensures unguarded { IsUnguarded handle.old.owned.held → IsUnguarded handle.new.owned.held }
     ensures spares { SparesSession handle.old.owned.held handle.new.owned.held result step.new octets.old octets.new }
 {
     let (mut session, moment) = match handle.open(alloc, now, step) {

@@ -32,6 +32,7 @@ none_turned {before} {after} none empty blank = record {
     empty = λ same. (refl, blank, refl);
   };
   nothing = blank.5;
+  kept = empty ∙ sym none;
 }
 
 -- The call comes before the start, and the session is put back.
@@ -74,4 +75,5 @@ early_turned {before} {after} {session} {status} {step} {now} is after_is low re
     empty = λ none. absurd (cc (is, none));
   };
   nothing = nothing.0;
+  kept = after_is ∙ sym is;
 }

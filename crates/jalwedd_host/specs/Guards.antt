@@ -1,6 +1,7 @@
 -- What a call promises to a host in C whose session has a guard (RFC 3550, 8.2).
 use Rattle.std.specs.Prelude.{ℕ, ◌≡◌, ◌≢◌, ◌+◌, ◌-◌, ◌<◌, ◌^◌, List, [], Bool, true, false, Option, Some, None, IfSome, Result, Ok, Err, IfOk, OnErr, option_map}
 use Rattle.std.specs.Box.{box_value}
+use Rattle.std.specs.Result.{result_err}
 use Rattle.rtcp_guard.specs.Guarding.{GuardValue, after, check_made, may_have, may_trust}
 use Rattle.rtcp_guard.specs.declared.verdict.HeldBack.{HeldBack as Counts}
 use Rattle.rtcp_engine.specs.declared.refusal.Refusal.{Refusal}
@@ -19,7 +20,7 @@ use Rattle.rtcp_guarded.specs.declared.untaken.Untaken.{Untaken}
 use Rattle.rtcp_guarded.specs.declared.untaken.Untaken.TheVariants.{Refused, HeldBack}
 use Rattle.jalwedd_host.specs.declared.config.Config.{Config}
 use Rattle.jalwedd_host.specs.declared.config.Item.{Item as ItemGiven}
-use Rattle.jalwedd_host.specs.declared.guarded.HostHeldBack.{HostHeldBack}
+use Rattle.jalwedd_host.specs.declared.guarded.HostCounts.{HostCounts}
 use Rattle.jalwedd_host.specs.declared.session.HostSession.{HostSession}
 use Rattle.jalwedd_host.specs.declared.step.HostStep.{HostStep}
 use Rattle.jalwedd_host.specs.Answers.{HandsNothing, HandsOut, Shows, status_of_refusal}
@@ -67,8 +68,7 @@ status_of_judged None = 0
 status_of_judged (Some untaken) = status_of_untaken untaken
 
 abbrev pub status_of_guarded : GuardedAnswer → ℕ
-status_of_guarded (Ok step) = 0
-status_of_guarded (Err untaken) = status_of_untaken untaken
+status_of_guarded answer = status_of_judged (result_err answer)
 
 -- ---- Answers
 
@@ -150,13 +150,23 @@ abbrev pub origin_shown : Option ℕ → ℕ
 origin_shown None = 2 ^ 64 - 1
 origin_shown (Some origin) = origin
 
-pub record ShowsHeldBack (shown : HostHeldBack) (counts : Counts) : Type 0 where
+pub record ShowsHeldBack (shown : HostCounts) (counts : Counts) : Type 0 where
   pub strangers : shown.strangers ≡ counts.strangers
   pub crowds : shown.crowds ≡ counts.crowds
   pub last_stranger : shown.last_stranger ≡ origin_shown counts.last_stranger
   pub last_crowd : shown.last_crowd ≡ origin_shown counts.last_crowd
 
 -- ---- What a host says to the guard
+
+-- A session that is held has no guard, as the status says.
+abbrev pub SaysUnguarded : (before : Option HostSession) (result : ℕ) → Type 0
+SaysUnguarded before result = (session : HostSession) → before ≡ Some session → session.guard ≡ None → result ≡ 19
+
+-- What is said to a guard before the start is refused as what comes before moment 0, and the guard does not hear it.
+abbrev pub RefusesBeforeStart : (now : ℕ) (before after : Option HostSession) (result : ℕ) → Type 0
+RefusesBeforeStart now before after result =
+    (start : ℕ) (history : GuardedHistory) → LeadsGuardedTo before start history → now < start →
+    (result ≡ 2) × (after ≡ before)
 
 abbrev pub crowd_unless : Bool → ℕ
 crowd_unless true = 0

@@ -70,6 +70,7 @@ pub record TurnsBack (now : ℕ) (before after : Option HostSession) (result : �
       TellsGuarded event now before after result step octets octets
   pub spares : (octets : List ℕ) → SparesSession before after result step octets octets
   pub nothing : step.kind ≡ 0
+  pub kept : after ≡ before
 
 -- A call asks for a number. It tells that of the start and the history which the session stands at, and another where
 -- there is no session, and leaves what is held.

@@ -1,9 +1,9 @@
 //! What a host with a guard before its participant is told, and what it says to the guard.
 
-ghost use Rattle.std.specs.Prelude.{◌≡◌, ◌+◌, ℕ, None, Option, Some};
-ghost use Rattle.rtcp_guard.specs.Guarding.{may_have, may_trust};
+ghost use Rattle.std.specs.Prelude.{◌≡◌, ◌+◌, ◌<◌, ℕ, None, Option, Some};
+ghost use Rattle.rtcp_guard.specs.Guarding.{GuardValue, may_have, may_trust};
 ghost use Rattle.rtcp_guarded.specs.Guarded.{GuardedHistory, expected, guard_at, origin_of, trusted};
-ghost use Rattle.jalwedd_host.specs.Guards.{Expects, Instructs, LeadsGuarded, LeadsGuardedTo, ShowsHeldBack, Trusts};
+ghost use Rattle.jalwedd_host.specs.Guards.{Expects, Instructs, LeadsGuarded, LeadsGuardedTo, RefusesBeforeStart, SaysUnguarded, ShowsHeldBack, Trusts, guard_of};
 ghost use Rattle.jalwedd_host.specs.Handles.{IsUnguarded, told_in};
 
 use crate::handle::Handle;
@@ -19,7 +19,7 @@ pub const NOWHERE: u64 = u64::MAX;
 /// What a guard held back so far. Where a datagram came from is its peer's number without the lower 16 bits.
 #[repr(C)]
 #[derive(Clone, Copy, Debug, PartialEq, Eq)]
-pub struct HostHeldBack {
+pub struct HostCounts {
     /// How many datagrams named a source of another origin.
     pub strangers: u64,
     /// How many datagrams named too many sources.
@@ -30,12 +30,12 @@ pub struct HostHeldBack {
     pub last_crowd: u64,
 }
 
-impl HostHeldBack {
+impl HostCounts {
     /// What a host in C is told of it.
-    fn of(counts: &HeldBack) -> HostHeldBack
+    fn of(counts: &HeldBack) -> HostCounts
         ensures { ShowsHeldBack result counts.now }
     {
-        HostHeldBack {
+        HostCounts {
             strangers: counts.strangers,
             crowds: counts.crowds,
             last_stranger: counts.last_stranger.unwrap_or(NOWHERE),
@@ -52,6 +52,8 @@ impl HostSession {
             (expected ssrc (origin_of peer) moment) start history (Some self.new) result }
         ensures told { told_in (Some self.new) ≡ told_in (Some self.old) }
         ensures unguarded { self.old.guard ≡ None → (self.new ≡ self.old) × (result ≡ 19) }
+        ensures early { (guard : GuardValue) → guard_of self.old ≡ Some guard → now < self.old.start →
+            (self.new ≡ self.old) × (result ≡ 2) }
     {
         let Some(guard) = &mut self.guard else {
             return UNGUARDED;
@@ -83,13 +85,13 @@ impl HostSession {
     }
 
     /// What its guard held back so far, if it has one.
-    fn held_back(&self) -> Option<HostHeldBack>
+    fn held_back(&self) -> Option<HostCounts>
         ensures told { (start : ℕ) (history : GuardedHistory) → LeadsGuarded self.now start history →
-            (shown : HostHeldBack) × (result ≡ Some shown) × ShowsHeldBack shown (guard_at history).held_back }
+            (shown : HostCounts) × (result ≡ Some shown) × ShowsHeldBack shown (guard_at history).held_back }
         ensures unguarded { self.now.guard ≡ None → result ≡ None }
     {
         match &self.guard {
-            Some(guard) => Some(HostHeldBack::of(&guard.held_back())),
+            Some(guard) => Some(HostCounts::of(&guard.held_back())),
             None => None,
         }
     }
@@ -101,6 +103,8 @@ impl Handle {
         ensures expects { Expects ssrc peer now self.old.owned.held self.new.owned.held result }
         ensures told { told_in self.new.owned.held ≡ told_in self.old.owned.held }
         ensures unguarded { IsUnguarded self.old.owned.held → self.new.owned.held ≡ self.old.owned.held }
+        ensures live { SaysUnguarded self.old.owned.held result }
+        ensures early { RefusesBeforeStart now self.old.owned.held self.new.owned.held result }
         ensures empty { self.old.owned.held ≡ None → result ≡ 20 }
     {
         let Some(mut session) = self.take(alloc) else {
@@ -116,6 +120,7 @@ impl Handle {
         ensures trusts { Trusts peer self.old.owned.held self.new.owned.held result }
         ensures told { told_in self.new.owned.held ≡ told_in self.old.owned.held }
         ensures unguarded { IsUnguarded self.old.owned.held → self.new.owned.held ≡ self.old.owned.held }
+        ensures live { SaysUnguarded self.old.owned.held result }
         ensures empty { self.old.owned.held ≡ None → result ≡ 20 }
     {
         let Some(mut session) = self.take(alloc) else {
@@ -127,10 +132,11 @@ impl Handle {
     }
 
     /// What the guard held back so far, written where the host says. Returns the status.
-    pub fn held_back(&mut self, alloc: Global, shown: &mut HostHeldBack) -> u32
+    pub fn held_back(&mut self, alloc: Global, shown: &mut HostCounts) -> u32
         ensures told { (start : ℕ) (history : GuardedHistory) → LeadsGuardedTo self.old.owned.held start history →
             (result ≡ 0) × ShowsHeldBack shown.new (guard_at history).held_back }
         ensures unguarded { IsUnguarded self.old.owned.held → shown.new ≡ shown.old }
+        ensures live { SaysUnguarded self.old.owned.held result }
         ensures empty { self.old.owned.held ≡ None → result ≡ 20 }
         ensures kept { self.new.owned.held ≡ self.old.owned.held }
     {

@@ -96,6 +96,7 @@ impl Handle {
         ensures spares { (octets : List ℕ) →
             SparesSession self.old.owned.held self.new.owned.held result step.new octets octets }
         ensures nothing { step.new.kind ≡ 0 }
+        ensures kept { self.new.owned.held ≡ self.old.owned.held }
     {
         match self.take(alloc) {
             Some(session) => self.put_back_untold(session, status, step),

@@ -1,6 +1,6 @@
 //! The participant that a handle holds, and what is told of it.
 
-ghost use Rattle.std.specs.Prelude.{◌≡◌, ◌≤◌, ◌<◌, ◌+◌, ℕ, List, Ok, OnErr, MatchOption};
+ghost use Rattle.std.specs.Prelude.{◌≡◌, ◌≤◌, ◌<◌, ◌+◌, ℕ, List, None, Ok, OnErr, MatchOption};
 ghost use Rattle.rtcp_engine.specs.answers.Histories.{History, life_at, setup_at};
 ghost use Rattle.rtcp_engine.specs.answers.Lives.{silent_in_life};
 ghost use Rattle.rtcp_engine.specs.state.States.{StandsAt};
@@ -74,6 +74,7 @@ impl HostSession {
             result self.new.participant }
         ensures guarded { RepliesGuarded self.old (time_passed moment w1 w2) octets.old octets.new (as_refused result)
             self.new }
+        ensures unguarded { self.old.guard ≡ None → self.new.guard ≡ None }
         ensures start { self.new.start ≡ self.old.start }
         ensures refused { OnErr result (self.new ≡ self.old) }
     {

@@ -26,7 +26,7 @@ const OF_EIGHT: [u8; 12] = [0x80, 0x00, 0x00, 0x01, 0, 0, 0, 0, 0, 0, 0, 8];
 /// The same of source 9.
 const OF_NINE: [u8; 12] = [0x80, 0x00, 0x00, 0x01, 0, 0, 0, 0, 0, 0, 0, 9];
 
-const NOTHING: HostHeldBack = HostHeldBack {
+const NOTHING: HostCounts = HostCounts {
     strangers: 0,
     crowds: 0,
     last_stranger: NOWHERE,
@@ -72,7 +72,7 @@ fn strangers_and_crowds_are_held_back(rt: HostRuntime) {
     assert_eq!(rt; jalwedd_expect(alloc, &mut handle, 8, 10, THIRD), 0);
     let mut counts = NOTHING;
     assert_eq!(rt; jalwedd_held_back(alloc, &mut handle, &mut counts), 0);
-    let told = HostHeldBack {
+    let told = HostCounts {
         strangers: 2,
         crowds: 1,
         last_stranger: 2,
