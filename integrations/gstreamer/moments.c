@@ -3,6 +3,7 @@
 
 #include <sys/random.h>
 
+enum { MOST_BETWEEN = 50 /* microseconds */, MOST_TRIES = 5 };
 #define NTP_OF_1970 G_GUINT64_CONSTANT(2208988800) /* seconds since 1900 */
 
 guint64 moment_now(JalweddSession *self)
@@ -34,7 +35,8 @@ static GstClockTime pipeline_time(JalweddSession *self, gboolean running, GstClo
     return running ? time - gst_element_get_base_time(GST_ELEMENT(self)) : time;
 }
 
-guint64 moment_ntp(JalweddSession *self)
+/* What ntp-time-source names, as an NTP timestamp. */
+static guint64 named_time(JalweddSession *self)
 {
     GstClockTime time = (GstClockTime)g_get_real_time() * 1000;
     guint64 seconds, fraction;
@@ -47,4 +49,14 @@ guint64 moment_ntp(JalweddSession *self)
         seconds += NTP_OF_1970;
     fraction = gst_util_uint64_scale(time % GST_SECOND, G_GUINT64_CONSTANT(1) << 32, GST_SECOND);
     return seconds << 32 | fraction;
+}
+
+/* The clocks are read again if the thread had to wait between them. */
+void moment_by_both(JalweddSession *self, guint64 *moment, guint64 *ntp)
+{
+    guint tries = 0;
+    do {
+        *moment = moment_now(self);
+        *ntp = named_time(self);
+    } while (moment_now(self) > *moment + MOST_BETWEEN && ++tries < MOST_TRIES);
 }

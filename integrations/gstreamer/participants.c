@@ -4,6 +4,8 @@
 #include <string.h>
 
 enum { RATE_IF_UNKNOWN = 90000 }; /* units a second */
+enum { SENDER_REPORT = 200, MOMENT_PLACE = 8, MOMENT_OCTETS = 12 }; /* its NTP and RTP timestamps */
+#define MOST_APART ((G_GUINT64_CONSTANT(1) << 32) / 2000)           /* half a millisecond of NTP time */
 
 Participant *participant_at(JalweddSession *self, guint at)
 {
@@ -47,11 +49,31 @@ static void keep_blocks(JalweddSession *self, const guint8 *data, gsize size)
     }
 }
 
+/* The library counts NTP time on from the start. If the clock that ntp-time-source names went another way, as
+ * an audio device does, the pipeline after a pause, or a time of day that was set, a sender report tells its
+ * time. A sender without a clock may send 0 for the moment of its report (6.4.1). */
+static void put_moment(JalweddSession *self, Participant *one, guint8 *data, gsize size)
+{
+    guint64 moment, named, apart;
+    if (size < MOMENT_PLACE + MOMENT_OCTETS || data[1] != SENDER_REPORT)
+        return;
+    if (self->disable_sr) {
+        memset(data + MOMENT_PLACE, 0, MOMENT_OCTETS);
+        return;
+    }
+    moment_by_both(self, &moment, &named);
+    apart = named - jalwedd_ntp_of(one->config.ntp_base, moment - one->config.start);
+    one->ahead = apart + MOST_APART > 2 * MOST_APART ? apart : 0;
+    if (one->ahead != 0)
+        GST_WRITE_UINT64_BE(data + MOMENT_PLACE, GST_READ_UINT64_BE(data + MOMENT_PLACE) + one->ahead);
+}
+
 static void hand_out(JalweddSession *self, Participant *one, GQueue *actions)
 {
     guint8 copy[JALWEDD_OCTETS]; /* as the others may hand out a BYE, which this one hears */
     const gsize size = one->step.size;
     memcpy(copy, one->octets, size);
+    put_moment(self, one, copy, size);
     action_push_rtcp(actions, copy, size);
     keep_blocks(self, copy, size);
     participants_hear_rtcp(self, one, one->peer, copy, size, actions);
@@ -125,10 +147,9 @@ static void put_config(JalweddSession *self, jalwedd_config *config, gboolean ha
                        guint32 rate)
 {
     Participant *before = participant_first(self);
-    config->start = moment_now(self);
-    config->ntp_base = before == NULL
-                           ? moment_ntp(self)
-                           : jalwedd_ntp_of(before->config.ntp_base, config->start - before->config.start);
+    moment_by_both(self, &config->start, &config->ntp_base);
+    if (before != NULL)
+        config->ntp_base = jalwedd_ntp_of(before->config.ntp_base, config->start - before->config.start);
     config->ssrc = has_ssrc ? ssrc : moment_word(self);
     config->capacity = self->capacity;
     config->limit = self->limit;

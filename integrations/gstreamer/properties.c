@@ -96,6 +96,7 @@ static gboolean set_plain(JalweddSession *self, guint id, const GValue *value)
     case PROP_TICK_INTERVAL: self->tick_interval = g_value_get_uint64(value); break;
     case PROP_REDUCED_SIZE: self->reduced_size = g_value_get_boolean(value); break;
     case PROP_FAVOR_NEW: self->favor_new = g_value_get_boolean(value); break;
+    case PROP_DISABLE_SR: self->disable_sr = g_value_get_boolean(value); break;
     case PROP_SSRC:
         self->wanted_ssrc = g_value_get_uint(value);
         self->has_ssrc = TRUE;
@@ -126,7 +127,6 @@ static Refusal set_refused(JalweddSession *self, guint id, const GValue *value)
         self->ntp64 = g_value_get_boolean(value);
         return self->ntp64 ? REFUSED_NTP64 : REFUSED_NOTHING;
     case PROP_REDUCED_SIZE_SENT: return g_value_get_boolean(value) ? REFUSED_REDUCED_SIZE : REFUSED_NOTHING;
-    case PROP_DISABLE_SR: return g_value_get_boolean(value) ? REFUSED_SR_TIMESTAMP : REFUSED_NOTHING;
     case PROP_PROFILE:
         if (g_value_get_enum(value) > GST_RTP_PROFILE_SAVP)
             return REFUSED_PROFILE;
@@ -224,8 +224,8 @@ static void get_plain(JalweddSession *self, guint id, GValue *value)
     case PROP_TICK_INTERVAL: g_value_set_uint64(value, self->tick_interval); break;
     case PROP_REDUCED_SIZE: g_value_set_boolean(value, self->reduced_size); break;
     case PROP_FAVOR_NEW: g_value_set_boolean(value, self->favor_new); break;
-    case PROP_REDUCED_SIZE_SENT:
-    case PROP_DISABLE_SR: g_value_set_boolean(value, FALSE); break;
+    case PROP_DISABLE_SR: g_value_set_boolean(value, self->disable_sr); break;
+    case PROP_REDUCED_SIZE_SENT: g_value_set_boolean(value, FALSE); break;
     }
 }
 
@@ -275,10 +275,19 @@ static void install_bandwidths(GObjectClass *class)
                          -1, G_MAXINT, -1, READ_WRITE));
 }
 
+static void install_intervals(GObjectClass *class)
+{
+    install(class, PROP_MIN_INTERVAL,
+            g_param_spec_uint64("rtcp-min-interval", "Minimum RTCP interval",
+                                "Without effect: the minimum is 5 seconds (RFC 3550, 6.2)", 0, G_MAXUINT64,
+                                MIN_INTERVAL, READ_WRITE));
+}
+
 /* What the element and its internal session both have. */
 static void install_shared(GObjectClass *class)
 {
     install_bandwidths(class);
+    install_intervals(class);
     install(class, PROP_SDES,
             g_param_spec_boxed("sdes", "SDES",
                                "The SDES items of this participant: at most seven besides the CNAME",
@@ -290,10 +299,6 @@ static void install_shared(GObjectClass *class)
     install(class, PROP_MEMBERS,
             g_param_spec_uint("num-active-sources", "Num Active Sources",
                               "How many members the session has (RFC 3550, 6.2.1)", 0, G_MAXUINT, 0, READ));
-    install(class, PROP_MIN_INTERVAL,
-            g_param_spec_uint64("rtcp-min-interval", "Minimum RTCP interval",
-                                "Without effect: the minimum is 5 seconds (RFC 3550, 6.2)", 0, G_MAXUINT64,
-                                MIN_INTERVAL, READ_WRITE));
     install(class, PROP_PROBATION,
             g_param_spec_uint("probation", "Probation",
                               "0: RTP packets go on before their source is valid; else after two in a row",
@@ -373,7 +378,7 @@ void properties_install(GObjectClass *class)
                                GST_TYPE_STRUCTURE, READ));
     install(class, PROP_CAPACITY,
             g_param_spec_uint("capacity", "Capacity",
-                              "How many other sources are kept track of, 144 octets each", 1, 1024, 256,
+                              "How many other sources are kept track of", 1, 1024, 256,
                               READ_WRITE));
     install(class, PROP_TICK_INTERVAL,
             g_param_spec_uint64(
@@ -410,7 +415,9 @@ void properties_install_internal(GObjectClass *class)
                                  READ_WRITE));
     install(class, PROP_DISABLE_SR,
             g_param_spec_boolean("disable-sr-timestamp", "Disable Sender Report Timestamp",
-                                 "Refused by a warning: a sender report has its moment", FALSE, READ_WRITE));
+                                 "Both timestamps of sender reports are 0, as those of a sender without a "
+                                 "clock may be (RFC 3550, 6.4.1)",
+                                 FALSE, READ_WRITE));
 }
 G_GNUC_END_IGNORE_DEPRECATIONS
 

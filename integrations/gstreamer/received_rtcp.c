@@ -45,7 +45,9 @@ static void keep_blocks(JalweddSession *self, const Datagram *datagram, GQueue *
     for (guint at = 0; at < datagram->block_count; at++) {
         const jalwedd_report *report = &datagram->blocks[at];
         JalweddSource *from = source_find(self, report->reporter), *own = source_find(self, report->ssrc);
-        const gint32 trip = (gint32)jalwedd_round_trip((guint32)(ntp >> 16), report->lsr, report->dlsr);
+        Participant *about = participant_find(self, report->ssrc);
+        const guint64 came = ntp + (about != NULL ? about->ahead : 0);
+        const gint32 trip = (gint32)jalwedd_round_trip((guint32)(came >> 16), report->lsr, report->dlsr);
         if (from == NULL || own == NULL)
             continue;
         action_signal(actions, ON_SENDER_SSRC_ACTIVE, own);

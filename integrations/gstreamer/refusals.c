@@ -9,8 +9,6 @@ static const gchar *const texts[REFUSALS] = {
     [REFUSED_DROPOUT] = "max-dropout-time has no effect: a gap of 3000 packets is a jump (RFC 3550, A.1)",
     [REFUSED_MISORDER] = "max-misorder-time has no effect: 100 packets are the limit (RFC 3550, A.1)",
     [REFUSED_NTP64] = "update-ntp64-header-ext has no effect: RTP packets go on as they came",
-    [REFUSED_SR_TIMESTAMP] =
-        "disable-sr-timestamp is refused: sender reports have their moment (RFC 3550, 6.4.1)",
     [REFUSED_REDUCED_SIZE] = "rtcp-reduced-size is refused: a compound begins with a report (RFC 3550, 6.1)",
     [REFUSED_EARLY] = "send-rtcp: no report goes out before it is due (RFC 3550, 6.3)",
     [REFUSED_CLOCK] = "an SSRC keeps the clock rate that it began with, which its sender reports count by",

@@ -102,6 +102,7 @@ typedef struct {
     guint32 ssrc;                 /* step.ssrc before the latest call */
     guint64 peer;                 /* the number by which the other participants of this host know it */
     guint64 packets, sent_octets; /* RTP packets under this SSRC, and the octets of their payload */
+    guint64 ahead; /* of the library's NTP time, that of the latest sender report, modulo 2^64 */
     gboolean sends;
     gboolean retires;   /* it leaves, while others of this host stay */
     gboolean told_rate; /* it was told that the clock of its media cannot change */
@@ -160,7 +161,7 @@ struct _JalweddSession {
     guint64 guard_hold;
     guint capacity, probation, limit, profile, time_source, max_dropout, max_misorder;
     guint64 min_interval, tick_interval;
-    gboolean reduced_size, sync_send_time, favor_new, pipeline_clock, ntp64;
+    gboolean reduced_size, sync_send_time, favor_new, pipeline_clock, ntp64, disable_sr;
     GstStructure *sdes;
     gchar *record_location;
 };
@@ -171,8 +172,10 @@ struct _JalweddSession {
 /* ---- moments.c: the time, and random words. With the lock */
 
 guint64 moment_now(JalweddSession *self);  /* microseconds by the system's clock; never goes back */
-guint64 moment_ntp(JalweddSession *self);  /* what ntp-time-source names, as an NTP timestamp */
 guint32 moment_word(JalweddSession *self); /* a random word, used once */
+
+/* The moment, and what ntp-time-source names then, as an NTP timestamp. */
+void moment_by_both(JalweddSession *self, guint64 *moment, guint64 *ntp);
 
 /* ---- octets.c: the octets of a buffer, and where it came from */
 

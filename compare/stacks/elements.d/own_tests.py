@@ -28,7 +28,6 @@ BY_DESIGN = {
     "test_ssrc_collision_never_send_on_non_internal_source":
         "an SSRC that another source has stays its own; rtpsession says its goodbye, and takes it (8.2)",
     "test_change_sent_sdes": "items besides the CNAME are sent in one of three reports (6.3.9)",
-    "test_disable_sr_timestamp": "a sender report has its moment (6.4.1)",
     "test_aux_sender": "retransmission needs feedback, which AVP lacks (RFC 4585)",
 }
 
