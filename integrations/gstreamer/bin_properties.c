@@ -30,6 +30,7 @@ enum {
     PROP_RETRANSMISSION,
     PROP_SYNC_EVENT,
     PROP_NTP64,
+    PROP_TIMEOUT,
     PROP_FEC_DECODERS,
     PROP_FEC_ENCODERS
 };
@@ -158,6 +159,7 @@ static Refusal set_refused(JalweddBin *bin, guint id, const GValue *value)
     case PROP_RETRANSMISSION: return g_value_get_boolean(value) ? REFUSED_RETRANSMISSION : REFUSED_NOTHING;
     case PROP_SYNC_EVENT: return g_value_get_boolean(value) ? REFUSED_SYNC_EVENT : REFUSED_NOTHING;
     case PROP_NTP64: return g_value_get_boolean(value) ? REFUSED_NTP64 : REFUSED_NOTHING;
+    case PROP_TIMEOUT: return g_value_get_boolean(value) ? REFUSED_NOTHING : REFUSED_TIMEOUT;
     case PROP_FEC_DECODERS:
     case PROP_FEC_ENCODERS: return g_value_get_boxed(value) != NULL ? REFUSED_FEC : REFUSED_NOTHING;
     case PROP_PROFILE:
@@ -215,6 +217,7 @@ static void get_of_bin(JalweddBin *bin, guint id, GValue *value)
     case PROP_SMOOTHING: g_value_set_uint(value, bin->smoothing); break;
     case PROP_IGNORE_TYPE: g_value_set_boolean(value, bin->ignore_type); break;
     case PROP_PROFILE: g_value_set_enum(value, (gint)bin->profile); break;
+    case PROP_TIMEOUT: g_value_set_boolean(value, TRUE); break;
     case PROP_RETRANSMISSION:
     case PROP_SYNC_EVENT:
     case PROP_NTP64: g_value_set_boolean(value, FALSE); break;
@@ -335,6 +338,8 @@ static void install_refused(GObjectClass *class)
     put_flag(class, PROP_RETRANSMISSION, "do-retransmission", "Refused by a warning", FALSE);
     put_flag(class, PROP_SYNC_EVENT, "do-sync-event", "Without effect", FALSE);
     put_flag(class, PROP_NTP64, "update-ntp64-header-ext", "Without effect", FALSE);
+    put_flag(class, PROP_TIMEOUT, "timeout-inactive-sources", "Without effect: silent sources time out",
+             TRUE);
     put_structure(class, PROP_FEC_DECODERS, "fec-decoders", "Refused by a warning");
     put_structure(class, PROP_FEC_ENCODERS, "fec-encoders", "Refused by a warning");
 }

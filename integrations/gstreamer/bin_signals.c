@@ -2,7 +2,15 @@
 #include "bin.h"
 #include "session.h"
 
-enum { REQUEST_PT_MAP, PAYLOAD_TYPE_CHANGE, ON_NPT_STOP, REQUEST_JITTERBUFFER, NEW_JITTERBUFFER, OTHERS };
+enum {
+    REQUEST_PT_MAP,
+    PAYLOAD_TYPE_CHANGE,
+    ON_NPT_STOP,
+    REQUEST_JITTERBUFFER,
+    NEW_JITTERBUFFER,
+    NEW_STORAGE, /* never told */
+    OTHERS
+};
 
 static guint on_signals[ON_SIGNALS], coder_signals[PAD_KINDS], other_signals[OTHERS];
 
@@ -85,6 +93,8 @@ static void refuse_offers(JalweddBin *bin)
     for (guint at = 0; at < G_N_ELEMENTS(refused); at++)
         if (g_signal_has_handler_pending(bin, refused_signals[at], 0, FALSE))
             refuse(bin, &bin->refusals, refused[at].refusal);
+    if (g_signal_has_handler_pending(bin, other_signals[NEW_STORAGE], 0, FALSE))
+        refuse(bin, &bin->refusals, REFUSED_STORAGE);
 }
 
 GstElement *bin_ask_coder(BinSession *session, PadKind kind)
@@ -138,8 +148,13 @@ static BinSession *find(JalweddBin *bin, guint id)
 
 static void clear_pt_map(JalweddBin *bin)
 {
-    for (GList *at = bin->sessions; at != NULL; at = at->next)
+    GList *sessions;
+    BIN_LOCK(bin);
+    sessions = g_list_copy(bin->sessions);
+    BIN_UNLOCK(bin);
+    for (GList *at = sessions; at != NULL; at = at->next)
         bin_streams_clear_caps(at->data);
+    g_list_free(sessions);
 }
 
 static GstElement *get_session(JalweddBin *bin, guint id)
@@ -219,6 +234,8 @@ static void install_refused(GType type)
 {
     for (guint at = 0; at < G_N_ELEMENTS(refused); at++)
         refused_signals[at] = add_signal(type, refused[at].name, GST_TYPE_ELEMENT, refused[at].words);
+    other_signals[NEW_STORAGE] = g_signal_new("new-storage", type, G_SIGNAL_RUN_LAST, 0, NULL, NULL, NULL,
+                                              G_TYPE_NONE, 2, GST_TYPE_ELEMENT, G_TYPE_UINT);
 }
 
 void bin_signals_install(GType type)

@@ -31,6 +31,7 @@ enum {
     PROP_GUARD_NAMES,
     PROP_GUARD_HOLD,
     PROP_DISABLE_SR,
+    PROP_TIMEOUT,
     PROP_INTERNAL_SOURCE,
     PROP_SOURCE_OBJECTS,
     PROP_REDUCED_SIZE_SENT
@@ -126,6 +127,7 @@ static Refusal set_refused(JalweddSession *self, guint id, const GValue *value)
     case PROP_NTP64:
         self->ntp64 = g_value_get_boolean(value);
         return self->ntp64 ? REFUSED_NTP64 : REFUSED_NOTHING;
+    case PROP_TIMEOUT: return g_value_get_boolean(value) ? REFUSED_NOTHING : REFUSED_TIMEOUT;
     case PROP_REDUCED_SIZE_SENT: return g_value_get_boolean(value) ? REFUSED_REDUCED_SIZE : REFUSED_NOTHING;
     case PROP_PROFILE:
         if (g_value_get_enum(value) > GST_RTP_PROFILE_SAVP)
@@ -225,6 +227,7 @@ static void get_plain(JalweddSession *self, guint id, GValue *value)
     case PROP_REDUCED_SIZE: g_value_set_boolean(value, self->reduced_size); break;
     case PROP_FAVOR_NEW: g_value_set_boolean(value, self->favor_new); break;
     case PROP_DISABLE_SR: g_value_set_boolean(value, self->disable_sr); break;
+    case PROP_TIMEOUT: g_value_set_boolean(value, TRUE); break;
     case PROP_REDUCED_SIZE_SENT: g_value_set_boolean(value, FALSE); break;
     }
 }
@@ -281,6 +284,10 @@ static void install_intervals(GObjectClass *class)
             g_param_spec_uint64("rtcp-min-interval", "Minimum RTCP interval",
                                 "Without effect: the minimum is 5 seconds (RFC 3550, 6.2)", 0, G_MAXUINT64,
                                 MIN_INTERVAL, READ_WRITE));
+    install(class, PROP_TIMEOUT,
+            g_param_spec_boolean("timeout-inactive-sources", "Timeout inactive sources",
+                                 "Without effect: silent sources time out (RFC 3550, 6.3.5)", TRUE,
+                                 READ_WRITE));
 }
 
 /* What the element and its internal session both have. */

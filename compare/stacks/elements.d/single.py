@@ -19,7 +19,8 @@ OTHER, OWN = 0xB0B, 1234  # SSRCs
 # What is refused, or has no effect, and a word of the warning
 REFUSED = {"rtp-profile=avpf": "rtp-profile", "rtcp-min-interval=1000000000": "rtcp-min-interval",
            "max-dropout-time=1": "max-dropout-time", "max-misorder-time=1": "max-misorder-time",
-           "update-ntp64-header-ext=true": "update-ntp64-header-ext"}
+           "update-ntp64-header-ext=true": "update-ntp64-header-ext",
+           "timeout-inactive-sources=false": "timeout-inactive-sources"}
 REFUSED_BY_BIN = {"rtp-profile=avpf": "rtp-profile", "do-retransmission=true": "retransmission",
                   "rtcp-sync=rtp-info": "rtcp-sync", "buffer-mode=buffer": "buffer-mode"}
 
