@@ -12,7 +12,7 @@ DEBIAN = ["meson", "gcc", "pkg-config", "libunwind-dev", "libgstreamer1.0-dev",
 LIBRARIES = ["gstreamer-check-1.0", "gstreamer-rtp-1.0", "gstreamer-net-1.0", "gstreamer-video-1.0",
              "gio-2.0"]
 FLAGS = ["-std=gnu11", "-O2", "-g", "-Wall", "-Wextra", "-Wno-unused-parameter"]
-SANITIZERS = "address,undefined"
+MEMORY, THREADS = "address,undefined", "thread"  # sanitizers
 
 
 def install():
@@ -35,15 +35,15 @@ def compiled(source, program, *more):
 
 
 class Build:
-    """The plugin in a folder, plain or with the sanitizers, and an environment that has it alone."""
+    """The plugin in a folder, plain or with sanitizers, and an environment that has it alone."""
 
-    def __init__(self, package, folder, sanitized=False):
-        self.folder, self.sanitized = folder, sanitized
-        options = [f"-Db_sanitize={SANITIZERS}", "-Db_lundef=false"] if sanitized else []
+    def __init__(self, package, folder, sanitizers=""):
+        self.folder, self.sanitizers = folder, sanitizers
+        options = [f"-Db_sanitize={sanitizers}", "-Db_lundef=false"] if sanitizers else []
         self.run("meson", "setup", *options, folder, TOP / "integrations/gstreamer",
                  PKG_CONFIG_PATH=f"{package}/lib/pkgconfig")
-        self.run("meson", "compile", "-j", "1", "-C", folder)
-        if not sanitized:  # no process then looks for plugins beside the others
+        self.run("meson", "compile", "-j", "2", "-C", folder)
+        if not sanitizers:  # no process then looks for plugins beside the others
             subprocess.run(["gst-inspect-1.0"], env=self.environment(), stdout=subprocess.DEVNULL)
 
     @staticmethod
@@ -61,11 +61,14 @@ class Build:
         """The variables of a process that uses the plugin. Its registry is one of this build."""
         own = {"GST_PLUGIN_PATH": str(self.folder), "GST_REGISTRY": str(self.folder / "registry"),
                "GST_REGISTRY_FORK": "no", "ASAN_OPTIONS": "detect_leaks=0",
-               "UBSAN_OPTIONS": "halt_on_error=1"}
+               "UBSAN_OPTIONS": "halt_on_error=1", "G_SLICE": "always-malloc",
+               "TSAN_OPTIONS": "ignore_noninstrumented_modules=1 exitcode=66 history_size=4"}
         return os.environ | own | more
 
     def program(self, name):
         """A program of this folder, compiled once."""
         made = self.folder / name
-        more = [f"-fsanitize={SANITIZERS}"] if self.sanitized else []
+        more = [f"-fsanitize={self.sanitizers}"] if self.sanitizers else []
+        if self.sanitizers == THREADS:
+            more += [str(HERE / "locks.c"), "-rdynamic"]
         return made if made.exists() else compiled(HERE / f"{name}.c", made, *more)

@@ -7,6 +7,7 @@ AUDIO = ("audiotestsrc is-live=true wave=ticks {more} ! audio/x-raw,rate=8000,ch
 CAPS = 'caps="application/x-rtp,media=audio,clock-rate=8000,encoding-name=PCMA,payload=8"'
 RTCP_CAPS = "caps=application/x-rtcp"
 NOW = "sync=false async=false"
+KEY = "000102030405060708090a0b0c0d0e0f101112131415161718191a1b1c1d"  # play.c has it too
 FIRST_PORT, PORTS_EACH = 45_000, 20
 bases = itertools.count(FIRST_PORT, PORTS_EACH)
 
@@ -18,6 +19,12 @@ class Side:
     rtp: int
     rtcp: int
     host: str = "127.0.0.1"
+
+
+def begin_at(port):
+    """The ports are those from this one on."""
+    global bases
+    bases = itertools.count(port, PORTS_EACH)
 
 
 def two_sides(host="127.0.0.1"):
@@ -71,3 +78,15 @@ def receiver(element, name, own, other, properties=""):
 def duplex(element, name, own, other):
     """Sends first: a bin's pads that come are linked to what asks for them in this order."""
     return sender(element, name, own, other) + hears_rtp(element, name, own)
+
+
+def secured(element, name, pipeline):
+    """A pipeline whose RTP and RTCP go over SRTP. A bin asks for coders itself; beside a session they stand."""
+    pipeline = pipeline.replace("application/x-rt", "application/x-srt")
+    if element.endswith("bin"):
+        return pipeline.replace(begun(element, name), begun(element, name, "rtp-profile=savp"), 1)
+    for kind in ("rtp", "rtcp"):
+        sent, heard = f"{name}.send_{kind}_src ! ", f"! {name}.recv_{kind}_sink "
+        pipeline = pipeline.replace(sent, f"{sent}e{name}.{kind}_sink_0 e{name}.{kind}_src_0 ! ")
+        pipeline = pipeline.replace(heard, f"! d{name}.{kind}_sink d{name}.{kind}_src {heard}")
+    return f"{pipeline} srtpenc name=e{name} key={KEY} srtpdec name=d{name} "

@@ -2,11 +2,15 @@
  * sends EOS and waits for its end. Prints, a line each, the signals of the elements of these names, the
  * warnings and errors of the pipeline, after STATS seconds the statistics of each source, as `stats NAME
  * STRUCTURE`, and `ended after SECONDS`. Of a bin the statistics are those of its sessions 0 and 1, and
- * `offset NAME SESSION NANOSECONDS` tells by how much each stream is delayed to play in sync. */
+ * `offset NAME SESSION NANOSECONDS` tells by how much each stream is delayed to play in sync. A bin of the
+ * profile SAVP gets coders for SRTP when it asks for them, all of one key, which srtpdec gets wherever it is.
+ */
 #include <gst/gst.h>
+#include <gst/rtp/rtp.h>
 #include <stdio.h>
 #include <stdlib.h>
 
+#define KEY "000102030405060708090a0b0c0d0e0f101112131415161718191a1b1c1d" /* pipelines.py has it too */
 enum { LONGEST_END = 8 }; /* seconds */
 
 static const gchar *const signals[] = {"on-new-ssrc",  "on-ssrc-collision", "on-ssrc-validated",
@@ -52,6 +56,72 @@ static void watch(GstElement *element)
     if (is_bin(element))
         g_signal_connect(element, "new-jitterbuffer", G_CALLBACK(on_buffer), NULL);
 }
+
+/* ---- SRTP */
+
+static GstCaps *on_request_key(GstElement *decoder, guint ssrc, gpointer data)
+{
+    return gst_caps_from_string("application/x-srtp, srtp-key=(buffer)" KEY
+                                ", srtp-cipher=(string)aes-128-icm, srtp-auth=(string)hmac-sha1-80, "
+                                "srtcp-cipher=(string)aes-128-icm, srtcp-auth=(string)hmac-sha1-80");
+}
+
+/* The bin's coder of this kind: one for the RTP and the RTCP of its session. */
+static GstElement *coder_of(GstElement *bin, const gchar *kind)
+{
+    GstElement *coder = g_object_get_data(G_OBJECT(bin), kind);
+    if (coder == NULL) {
+        coder = gst_object_ref_sink(gst_element_factory_make(kind, NULL));
+        g_object_set_data_full(G_OBJECT(bin), kind, coder, gst_object_unref);
+    }
+    return gst_object_ref(coder);
+}
+
+static GstElement *on_request_decoder(GstElement *bin, guint session, gpointer data)
+{
+    return coder_of(bin, "srtpdec");
+}
+
+/* rtpbin wants the pads of its encoder to be there. */
+static GstElement *on_request_encoder(GstElement *bin, guint session, const gchar *pad)
+{
+    GstElement *encoder = coder_of(bin, "srtpenc");
+    gst_util_set_object_arg(G_OBJECT(encoder), "key", KEY);
+    gst_object_unref(gst_element_request_pad_simple(encoder, pad));
+    return encoder;
+}
+
+static void give_coders(GstElement *bin)
+{
+    GstRTPProfile profile;
+    g_object_get(bin, "rtp-profile", &profile, NULL);
+    if (profile != GST_RTP_PROFILE_SAVP)
+        return;
+    g_signal_connect(bin, "request-rtp-encoder", G_CALLBACK(on_request_encoder), "rtp_sink_0");
+    g_signal_connect(bin, "request-rtcp-encoder", G_CALLBACK(on_request_encoder), "rtcp_sink_0");
+    g_signal_connect(bin, "request-rtp-decoder", G_CALLBACK(on_request_decoder), NULL);
+    g_signal_connect(bin, "request-rtcp-decoder", G_CALLBACK(on_request_decoder), NULL);
+}
+
+/* An element was added to a bin: a parsed pipeline does so before it requests pads. */
+static gboolean on_added(GSignalInvocationHint *hint, guint count, const GValue *values, gpointer data)
+{
+    GstElement *element = g_value_get_object(&values[1]);
+    if (g_signal_lookup("request-key", G_OBJECT_TYPE(element)) != 0)
+        g_signal_connect(element, "request-key", G_CALLBACK(on_request_key), NULL);
+    if (is_bin(element))
+        give_coders(element);
+    return TRUE;
+}
+
+static void code_sessions(void)
+{
+    gpointer class = g_type_class_ref(GST_TYPE_BIN);
+    g_signal_add_emission_hook(g_signal_lookup("element-added", GST_TYPE_BIN), 0, on_added, NULL, NULL);
+    g_type_class_unref(class);
+}
+
+/* ---- Printing */
 
 static void print_offset(gpointer buffer, gpointer data)
 {
@@ -197,6 +267,7 @@ int main(int count, char **words)
     GstElement *pipeline;
     gst_init(&count, &words);
     buffers = g_ptr_array_new_with_free_func(gst_object_unref);
+    code_sessions();
     if (count < 4)
         return 2;
     pipeline = gst_parse_launch(words[3], &error);

@@ -1,19 +1,28 @@
 """Sessions over loopback: pairs of elements, losses that a relay knows, IPv6, and both ways at once."""
 import shutil
+import signal
 import subprocess
 import threading
 
+import building
 import pipelines
-from pipelines import Side, two_sides
+from peer_programs import Libre
+from pipelines import Side, next_port, two_sides
 from playing import Player
 from relay import HOST, LossyRelay, socket_at
 
 SENDS, HEARS, ASKED = 12, 16, 9  # seconds: statistics before a sender leaves, whose BYE is heard
 LATE, MOST_APART = 0.3, 0.05  # seconds: of a stream in the network, and of two that play in sync
 BUFFER = 128  # milliseconds that audiotestsrc gives at once
+PACKETS_A_SECOND = 50
+QUIET = 12  # seconds after the last packet of a call: then both sides have reported all of them
+DROPPED_TOO = {5, 33, 34, 77, 160, 161}  # places of each 200 packets, besides the relay's
 OURS = ("jalweddsession", "jalweddbin")
 PAIRS = [("jalweddsession", "rtpsession"), ("rtpsession", "jalweddsession"), ("jalweddbin", "rtpbin"),
          ("rtpbin", "jalweddbin"), ("jalweddsession", "jalweddbin"), ("jalweddbin", "jalweddsession")]
+SECURED = [("jalweddbin", "rtpbin"), ("rtpbin", "jalweddbin"), ("jalweddsession", "rtpsession"),
+           ("rtpsession", "jalweddsession")]
+PCMU = {"PCMA,payload=8": "PCMU,payload=0", "rtppcmadepay": "rtppcmudepay"}  # what libre sends
 TWO_WAYS = [("jalweddsession", "jalweddsession"), ("jalweddbin", "rtpbin"), ("jalweddbin", "jalweddbin")]
 
 
@@ -49,11 +58,17 @@ def faults_of_report(played, receiver):
         yield f"the block says {other['rb-packetslost']} lost"
 
 
-def pair(build, elements, host="127.0.0.1"):
+def as_it_is(element, name, pipeline):
+    return pipeline
+
+
+def pair(build, elements, host="127.0.0.1", changed=as_it_is):
     """What is wrong with a session of two elements, of which one sends."""
     one, other = two_sides(host)
-    hears = Player(build, HEARS, pipelines.receiver(elements[1], "r", other, one), "r", stats=ASKED)
-    sends = Player(build, SENDS, pipelines.sender(elements[0], "s", one, other), "s", stats=ASKED)
+    receiver = changed(elements[1], "r", pipelines.receiver(elements[1], "r", other, one))
+    sender = changed(elements[0], "s", pipelines.sender(elements[0], "s", one, other))
+    hears = Player(build, HEARS, receiver, "r", stats=ASKED)
+    sends = Player(build, SENDS, sender, "s", stats=ASKED)
     yield
     sent, heard = sends.played(), hears.played()
     ssrc = sent.own("s").get("ssrc", 0)
@@ -98,6 +113,59 @@ def lossy(build, seconds):
     yield from heard.errors
     if found != expected:
         yield f"counts {found}, the relay {expected}"
+
+
+class Line(LossyRelay):
+    """Loses 5 per cent of the packets, passes so many on, and then nothing any more."""
+
+    def __init__(self, port, to, packets):
+        super().__init__(port, to)
+        self.port, self.left = port, packets
+        self.start()
+
+    def take(self, packet, place):
+        self.left -= 1
+        if place in DROPPED_TOO:
+            self.dropped += 1
+        elif self.left >= 0:
+            super().take(packet, place)
+
+    def counts(self):
+        """The packets that its receiver has to count, and those that are lost."""
+        return len(self.passed) - 1, self.lost_up_to(max(self.passed))
+
+
+def call(build, element, seconds):
+    """Both sides of a call count what two relays passed on and lost, and each is told what the other lost."""
+    one, other = two_sides()
+    lines = [Line(next_port(), side.rtp, seconds * PACKETS_A_SECOND) for side in (other, one)]
+    sides = [Side(line.port, side.rtcp) for line, side in zip(lines, (other, one))]
+    players = [Player(build, seconds + QUIET + 2, talks(element, own, to), "r", stats=seconds + QUIET)
+               for own, to in zip((one, other), sides)]
+    yield
+    played = [player.played() for player in players]
+    for at, side in enumerate(played):
+        yield from faults_of(side, element)
+        source = side.source("r", played[1 - at].own("r").get("ssrc", 0))
+        yield from faults_of_call(source, lines[at], lines[1 - at], f"{element}, {seconds} s")
+
+
+def talks(element, own, to):
+    """Sends and hears. Packets that come late pass a session, and the depayloader of 1.22 complains of them."""
+    pipeline = pipelines.duplex(element, "r", own, to)
+    return pipeline if element.endswith("bin") else pipeline.replace("rtppcmadepay ! ", "")
+
+
+def faults_of_call(source, to, back, title):
+    """What a side counts of the packets that came back, and is told of those that it sent."""
+    expected, found = back.counts(), (source.get("packets-received"), source.get("packets-lost"))
+    told, highest = source.get("rb-packetslost"), source.get("rb-exthighestseq", 0)
+    print(f"  call, {title}: the relay passed {expected[0]} and lost {expected[1]}, counted {found[0]} and "
+          f"{found[1]}; back it lost {to.lost_up_to(highest)}, as told {told}", flush=True)
+    if found != expected:
+        yield f"counts {found}, the relay {expected}"
+    if told != to.lost_up_to(highest) or highest != max(to.passed):
+        yield f"is told of {told} lost up to {highest}, the relay lost {to.lost_up_to(highest)}"
 
 
 def two_receivers(one, other):
@@ -183,14 +251,43 @@ def from_ffmpeg(build):
     yield from faults_of_receiver(heard, heard.source("r").get("ssrc", 0), "jalweddbin")
 
 
+def from_libre(build):
+    """libre sends and hears, and is told of this side. It says goodbye before it describes itself."""
+    libre = Libre()
+    if not libre.version():
+        print("  libre: left out, its headers are not installed")
+        yield
+        return
+    libre.build(building.TOP / "compare/stacks", build.folder)
+    one, other = two_sides()
+    pipeline = pipelines.duplex("jalweddbin", "r", other, one)
+    for before, after in PCMU.items():
+        pipeline = pipeline.replace(before, after)
+    hears = Player(build, SENDS, pipeline, "r", stats=ASKED)
+    words = [build.folder / "peer_libre", str(one.rtp), str(other.rtp)]
+    sends = subprocess.Popen(words, stdout=subprocess.PIPE, text=True)
+    threading.Timer(ASKED + 1, sends.send_signal, [signal.SIGINT]).start()
+    yield
+    heard, told = hears.played(), sends.communicate()[0]
+    ssrc = heard.source("r").get("ssrc", 0)
+    yield from faults_of(heard, "jalweddbin")
+    yield from faults_of_receiver(heard, ssrc, "jalweddbin")
+    if not heard.has_signal("r", "on-bye-ssrc", ssrc):
+        yield "no BYE came"
+    if f"{heard.own('r').get('ssrc', 0):08x} is " not in told:
+        yield f"libre knows {told}"
+
+
 def checks(build, seconds):
     """Each session, by its title."""
     found = {f"pair {one} {other}": pair(build, (one, other)) for one, other in PAIRS}
+    found |= {f"SRTP {one} {other}": pair(build, (one, other), changed=pipelines.secured)
+              for one, other in SECURED}
     found |= {f"both ways {one} {other}": both_ways(build, (one, other)) for one, other in TWO_WAYS}
     found["IPv6"] = pair(build, ("jalweddbin", "jalweddsession"), "::1")
-    found["loss"] = lossy(build, seconds)
+    found["loss"], found["call"] = lossy(build, seconds), call(build, "jalweddbin", seconds)
     found["sync"] = in_sync(build, "jalweddbin")
     found["sync of rtpbin"] = in_sync(build, "rtpbin")
     found |= {f"ntp-sync, {source}": by_ntp(build, source) for source in ("ntp", "unix", "clock-time")}
-    found["FFmpeg"] = from_ffmpeg(build)
+    found["FFmpeg"], found["libre"] = from_ffmpeg(build), from_libre(build)
     return found
