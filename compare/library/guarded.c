@@ -133,6 +133,79 @@ static uint32_t reports_among_returns(jalwedd_guard guard)
     return host.reports - before;
 }
 
+/* A host whose random words an attacker chooses, and what he has to know of its schedule. */
+struct foreseen {
+    struct host host;
+    double last;                        /* tp, in microseconds */
+    uint32_t known, reports;            /* pmembers; reports so far */
+};
+
+/* The word by which an interval of 5 seconds is drawn as so many microseconds, as nearly as a word can (6.3.1). */
+static uint32_t word_for(double drawn)
+{
+    const double word = (drawn * 1.21828 / 5e6 - 0.5) * 4294967296.0;
+    return word < 0 ? 0 : word > UINT32_MAX ? UINT32_MAX : (uint32_t)word;
+}
+
+/* Where there are fewer members than at the newest draw, tp moves (6.3.4). */
+static void count_fall(struct foreseen *seen)
+{
+    const double now = (double)seen->host.now, members = seen->host.step.members;
+    if (members < seen->known) {
+        seen->last = now - (now - seen->last) * members / seen->known;
+        seen->known = seen->host.step.members;
+    }
+}
+
+/* A tick whose draw is 20 ms too long, if a draw can be so long. Whether an interval was drawn. */
+static bool tick_foreseen(struct foreseen *seen)
+{
+    static uint8_t octets[JALWEDD_OCTETS];
+    struct host *host = &seen->host;
+    const bool draws = host->now >= host->step.next;
+    jalwedd_tick(&host->session, host->now, word_for((double)host->now - seen->last + 20000), 0, &host->step, octets);
+    host->ticked = host->now;
+    count_fall(seen);
+    if (draws)
+        seen->known = host->step.members;
+    if (host->step.kind == JALWEDD_REPORT) {
+        seen->reports++;
+        seen->last = (double)host->now;
+    }
+    return draws;
+}
+
+/* The reports in an hour where so many names of one address are there one after the other: each comes, waits until an
+ * interval is drawn, and leaves, and comes again once its BYE is forgotten. */
+static uint32_t reports_by_known_words(uint32_t names)
+{
+    enum { BEAT = 5000, FORGOTTEN = 5110000, SOONEST = 900000 };
+    struct foreseen seen = {.host = begun_with(USUAL, 0, 1024, true, 4242), .known = 1};
+    struct host *host = &seen.host;
+    uint64_t back[8] = {0};
+    uint32_t there = names, before = 0;
+    for (host->now = 0; host->now < (uint64_t)(HOUR + 60) * SECOND; host->now += BEAT) {
+        const bool begun_to = host->now >= 60ull * SECOND;
+        if (host->now % (5 * SECOND) == 0)
+            name_from(host, AT_HOME, VICTIM);
+        before = begun_to ? before : seen.reports;
+        for (uint32_t name = 0; begun_to && there == names && name < names; name++)
+            if (host->now >= back[name] && (double)host->now - seen.last > SOONEST) {
+                name_from(host, HOSTILE, INVENTED + name);
+                there = name;
+            }
+        const bool ticks = host->now >= host->step.next || host->now >= host->ticked + SECOND / 10;
+        if (ticks && tick_foreseen(&seen) && there != names) {
+            goodbye_from(host, HOSTILE, INVENTED + there);
+            count_fall(&seen);
+            back[there] = host->now + FORGOTTEN;
+            there = names;
+        }
+    }
+    jalwedd_free(&host->session);
+    return seen.reports - before;
+}
+
 static void departures(void)
 {
     puts("A: invented names and their BYEs each 6 s, from one address: reports an hour");
@@ -142,6 +215,7 @@ static void departures(void)
     told("2 names", USUAL, reports_among_departures(USUAL, 2, 1), "", 600, 800);
     told("1 name", USUAL, reports_among_departures(USUAL, 1, 1), "", 600, 800);
     told("8 names that come back each 8 s, by twos", USUAL, reports_among_returns(USUAL), "", 250, 800);
+    told("4 names, where the attacker chooses the host's words", USUAL, reports_by_known_words(4), "", 0, 0);
     puts("The same from several addresses, with as many names as their limits allow");
     told("8 addresses", USUAL, reports_among_departures(USUAL, 8, 8), "", 600, 800);
     told("16 addresses", USUAL, reports_among_departures(USUAL, 16, 16), "", 500, 800);
