@@ -80,7 +80,7 @@ extern "C" {
 
 #define JALWEDD_VERSION_MAJOR 0
 #define JALWEDD_VERSION_MINOR 6
-#define JALWEDD_VERSION_PATCH 0
+#define JALWEDD_VERSION_PATCH 1
 
 /* The version of the linked library: 0x000503 for 0.5.3. */
 uint32_t jalwedd_version(void);
@@ -623,6 +623,23 @@ uint32_t jalwedd_change(const jalwedd_source_state *before, size_t before_count,
 /* Accepts a datagram that is a compound (6.1), leaving `fault` as it is, or gives its first fault.
  * Statuses: TAKEN; NO_COMPOUND. */
 uint32_t jalwedd_check(const uint8_t *datagram, size_t size, jalwedd_fault *fault) JALWEDD_NOT_NULL;
+
+/* Writes a datagram as a line of text, as `rtcp check` shows it: its packets, or the first rule that it breaks.
+ *
+ *     ok RR(00000007,[],0) SDES([00000007{1=61}])
+ *     F3 FirstType at 0
+ *
+ * A zero octet ends the text, and no line feed. All octets before it are printable ASCII, whatever the datagram holds.
+ * At most `room` octets are written: what does not fit is cut, and nothing is written if `room` is 0. Returns the
+ * octets of the whole text, without the zero octet: if that is `room` or more, the text was cut. */
+size_t jalwedd_print(const uint8_t *datagram, size_t size, char *text, size_t room) JALWEDD_NOT_NULL;
+
+/* The same in plain words, as `rtcp check --plain`. `rate` is how many units a second the jitter of its blocks has, if
+ * all are about streams of one clock: jitter is then in milliseconds. With a rate of 0 it is in units.
+ *
+ *     ok RR ssrc=00000007 SDES ssrc=00000007 cname="a" */
+size_t jalwedd_print_plain(const uint8_t *datagram, size_t size, uint32_t rate, char *text, size_t room)
+    JALWEDD_NOT_NULL;
 
 /* A walk over the parts of one kind in a datagram, of which each call gives the next, in the order of the datagram.
  * These are its sender reports, the blocks of all its reports, the items of all its source descriptions, the sources

@@ -568,6 +568,37 @@ template <typename Datagram, typename = inside::if_has<std::uint8_t, Datagram>>
     return check(std::data(datagram), std::size(datagram), fault);
 }
 
+/// Writes a datagram as a line of text, as `rtcp check` shows it, into `room` octets: as much as these hold, and a zero
+/// octet after it. Returns the octets of the whole text: if that is `room` or more, the text was cut.
+inline std::size_t print(const std::uint8_t* datagram, std::size_t size, char* text, std::size_t room) noexcept
+{
+    char nothing;
+    return jalwedd_print(inside::address(datagram, size), size, room == 0 ? &nothing : text, room);
+}
+
+/// The same of an array, std::array, std::vector or std::span of octets, into one of char.
+template <typename Datagram, typename Text, typename = inside::if_has<std::uint8_t, Datagram>>
+std::size_t print(const Datagram& datagram, Text&& text) noexcept
+{
+    return print(std::data(datagram), std::size(datagram), std::data(text), std::size(text));
+}
+
+/// The same in plain words, as `rtcp check --plain`. `rate` is how many units a second the jitter of its blocks has:
+/// jitter is then in milliseconds, and with a rate of 0 in units.
+inline std::size_t print_plain(const std::uint8_t* datagram, std::size_t size, std::uint32_t rate, char* text,
+                               std::size_t room) noexcept
+{
+    char nothing;
+    return jalwedd_print_plain(inside::address(datagram, size), size, rate, room == 0 ? &nothing : text, room);
+}
+
+/// The same of an array, std::array, std::vector or std::span of octets, into one of char.
+template <typename Datagram, typename Text, typename = inside::if_has<std::uint8_t, Datagram>>
+std::size_t print_plain(const Datagram& datagram, std::uint32_t rate, Text&& text) noexcept
+{
+    return print_plain(std::data(datagram), std::size(datagram), rate, std::data(text), std::size(text));
+}
+
 /// Accepts a datagram with a valid RTP head (RFC 3550, 5.1), leaving `fault` as it is, or gives the first rule that it
 /// breaks. Of either fault jalwedd_fault_text tells the reason.
 /// Statuses: TAKEN; TOO_LONG; NO_RTP.

@@ -379,6 +379,27 @@ static int faults_of_heads()
     return 0;
 }
 
+/* A datagram as a line of text, in rooms of several kinds and sizes. */
+static int lines()
+{
+    const std::array<std::uint8_t, 20> datagram{0x80, 0xc9, 0, 1, 0, 0, 0, 7, 0x81, 0xca, 0, 2, 0, 0, 0, 7, 1, 1, 'a', 0};
+    const std::string line = "ok RR(00000007,[],0) SDES([00000007{1=61}])";
+    const std::string words = "ok RR ssrc=00000007 SDES ssrc=00000007 cname=\"a\"";
+    char room[80];
+    HOLDS(jalwedd::print(datagram, room) == line.size() && line == room);
+    HOLDS(jalwedd::print_plain(datagram, 8000, room) == words.size() && words == room);
+    std::array<char, 10> small{};
+    HOLDS(jalwedd::print(datagram, small) == line.size() && line.substr(0, 9) == small.data());
+    HOLDS(jalwedd::print_plain(datagram.data(), datagram.size(), 0, small.data(), 4) == words.size());
+    HOLDS(words.substr(0, 3) == small.data());
+    std::vector<char> none;
+    HOLDS(jalwedd::print(octets(), none) == 13 && jalwedd::print_plain(octets(), 0, none) == 13);
+#ifdef __cpp_lib_span
+    HOLDS(jalwedd::print(datagram, std::span<char>(room)) == line.size() && line == room);
+#endif
+    return 0;
+}
+
 /* One to three octets are changed, or the end is missing, or both. */
 static octets damage(octets datagram)
 {
@@ -418,7 +439,7 @@ int main(int count, char** words)
 {
     HOLDS(count == 2);
     const std::string samples = words[1];
-    PASSES(written_out() || nowhere() || iterated() || arrays() || faults_of_heads() || random_ones(2000));
+    PASSES(written_out() || nowhere() || iterated() || arrays() || faults_of_heads() || lines() || random_ones(2000));
     PASSES(of_lines(lines_of(samples + "/conference.hex")) || of_lines(lines_of(samples + "/departures.hex")));
     HOLDS(senders > 1000 && blocks > 1000 && sdes_items > 1000 && goodbyes > 1000 && apps > 1000);
     HOLDS(abouts > 1000 && reasons > 1000 && damaged > 1000);

@@ -4,6 +4,8 @@ use crate::errors::{Fault, FaultReason, RtpFault};
 use crate::moment::Moment;
 use crate::parts::{blocks, Parts};
 use crate::{raw, sys};
+use alloc::string::String;
+use alloc::vec;
 use core::iter::FusedIterator;
 use core::time::Duration;
 
@@ -15,6 +17,41 @@ use core::time::Duration;
 pub fn check(datagram: &[u8]) -> Result<(), Fault> {
     raw::check(datagram)
         .map_err(|fault| Fault { offset: fault.offset as usize, reason: FaultReason::of(fault.reason) })
+}
+
+/// An RTCP datagram as a line of text, as `rtcp check` shows it: its packets, or the first rule that it breaks.
+///
+/// All of it is printable ASCII, whatever the datagram holds, and no line feed ends it.
+///
+/// ```
+/// let report = [0x80, 0xc9, 0, 1, 0, 0, 0, 7];
+/// assert_eq!(jalwedd::text(&report), "ok RR(00000007,[],0)");
+/// assert_eq!(jalwedd::text(&report[..4]), "F5 Length at 0");
+/// ```
+#[must_use]
+pub fn text(datagram: &[u8]) -> String {
+    printed(|text| raw::print(datagram, text))
+}
+
+/// The same in plain words, as `rtcp check --plain`.
+///
+/// `rate` is how many units a second the jitter of its blocks has, if all are about streams of one clock: jitter is
+/// then in milliseconds. Without it, or with 0, it is in units.
+///
+/// ```
+/// let report = [0x80, 0xc9, 0, 1, 0, 0, 0, 7, 0x81, 0xca, 0, 2, 0, 0, 0, 7, 1, 1, b'a', 0];
+/// assert_eq!(jalwedd::plain_text(&report, None), "ok RR ssrc=00000007 SDES ssrc=00000007 cname=\"a\"");
+/// ```
+#[must_use]
+pub fn plain_text(datagram: &[u8], rate: Option<u32>) -> String {
+    printed(|text| raw::print_plain(datagram, rate.unwrap_or(0), text))
+}
+
+/// What a call writes into a room that is large enough: the first call says how large.
+fn printed(print: impl Fn(&mut [u8]) -> usize) -> String {
+    let mut text = vec![0; print(&mut []) + 1];
+    let size = print(&mut text);
+    String::from_utf8_lossy(&text[..size]).into_owned()
 }
 
 /// Accepts a datagram that is an RTP packet (RFC 3550, 5.1).

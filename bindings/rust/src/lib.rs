@@ -137,7 +137,7 @@ pub use changes::{changes, Change, Changes, Role};
 #[cfg(feature = "std")]
 pub use clock::Clock;
 pub use config::{Config, Guard, Item, ItemKind, RtpClock, RtpClocks, Settings};
-pub use datagram::{about, check, check_rtp, ntp_of, round_trip, Report, Reports};
+pub use datagram::{about, check, check_rtp, ntp_of, plain_text, round_trip, text, Report, Reports};
 pub use errors::{Fault, FaultReason, GuardError, NewError, NotRising, Refusal, RtpFault, TextTooLong, TooManyClocks};
 pub use guard::HeldBack;
 pub use head::{rtp_head, RtpHead};

@@ -188,6 +188,20 @@ pub(crate) fn check(datagram: &[u8]) -> Result<(), sys::jalwedd_fault> {
     }
 }
 
+/// Writes the line of a datagram into a room, as far as that goes. Returns the octets of the whole line.
+pub(crate) fn print(datagram: &[u8], text: &mut [u8]) -> usize {
+    let (at, room) = (text.as_mut_ptr().cast(), text.len());
+    // SAFETY: VALID, APART
+    unsafe { sys::jalwedd_print(datagram.as_ptr(), datagram.len(), at, room) }
+}
+
+/// The same in plain words. A rate of 0 is none.
+pub(crate) fn print_plain(datagram: &[u8], rate: u32, text: &mut [u8]) -> usize {
+    let (at, room) = (text.as_mut_ptr().cast(), text.len());
+    // SAFETY: VALID, APART
+    unsafe { sys::jalwedd_print_plain(datagram.as_ptr(), datagram.len(), rate, at, room) }
+}
+
 pub(crate) fn next_sender(
     datagram: &[u8],
     cursor: &mut sys::jalwedd_cursor,

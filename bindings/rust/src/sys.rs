@@ -2,14 +2,14 @@
 //! is, and what such a host has to keep, stands there.
 #![allow(non_camel_case_types, missing_docs)]
 
-use core::ffi::c_void;
+use core::ffi::{c_char, c_void};
 use core::ptr::null_mut;
 
 // ---- The version
 
 pub const JALWEDD_VERSION_MAJOR: u32 = 0;
 pub const JALWEDD_VERSION_MINOR: u32 = 6;
-pub const JALWEDD_VERSION_PATCH: u32 = 0;
+pub const JALWEDD_VERSION_PATCH: u32 = 1;
 
 // ---- Statuses
 
@@ -60,23 +60,6 @@ pub struct jalwedd_clock {
 }
 
 #[repr(C)]
-#[derive(Clone, Copy, Debug)]
-pub struct jalwedd_config {
-    pub ntp_base: u64,
-    pub start: u64,
-    pub ssrc: u32,
-    pub capacity: u32,
-    pub limit: u32,
-    pub sender_bw: u32,
-    pub receiver_bw: u32,
-    pub rate: u32,
-    pub clock_count: u32,
-    pub clocks: [jalwedd_clock; 16],
-    pub reserved: u32,
-    pub guard: jalwedd_guard,
-}
-
-#[repr(C)]
 #[derive(Clone, Copy, Debug, Default)]
 pub struct jalwedd_guard {
     pub names: u32,
@@ -91,6 +74,23 @@ pub struct jalwedd_counts {
     pub crowds: u64,
     pub last_stranger: u64,
     pub last_crowd: u64,
+}
+
+#[repr(C)]
+#[derive(Clone, Copy, Debug)]
+pub struct jalwedd_config {
+    pub ntp_base: u64,
+    pub start: u64,
+    pub ssrc: u32,
+    pub capacity: u32,
+    pub limit: u32,
+    pub sender_bw: u32,
+    pub receiver_bw: u32,
+    pub rate: u32,
+    pub clock_count: u32,
+    pub clocks: [jalwedd_clock; 16],
+    pub reserved: u32,
+    pub guard: jalwedd_guard,
 }
 
 #[repr(C)]
@@ -381,6 +381,16 @@ unsafe extern "C" {
     // ---- Datagrams
 
     pub fn jalwedd_check(datagram: *const u8, size: usize, fault: *mut jalwedd_fault) -> u32;
+
+    pub fn jalwedd_print(datagram: *const u8, size: usize, text: *mut c_char, room: usize) -> usize;
+
+    pub fn jalwedd_print_plain(
+        datagram: *const u8,
+        size: usize,
+        rate: u32,
+        text: *mut c_char,
+        room: usize,
+    ) -> usize;
 
     pub fn jalwedd_next_sender(
         datagram: *const u8,

@@ -1,8 +1,8 @@
 //! What datagrams say, and the formulas of times.
 
 use jalwedd::{
-    about, apps, blocks, check, check_rtp, goodbyes, items, ntp_of, round_trip, rtp_head, senders, App,
-    Fault, FaultReason, Goodbye, Moment, Refusal, Report, RtpFault, SdesItem, SenderReport,
+    about, apps, blocks, check, check_rtp, goodbyes, items, ntp_of, plain_text, round_trip,
+    rtp_head, senders, text, App, Fault, FaultReason, Goodbye, Moment, Refusal, Report, RtpFault, SdesItem, SenderReport,
 };
 use std::time::Duration;
 
@@ -41,6 +41,23 @@ fn a_datagram_is_a_compound_or_has_a_first_fault() {
 fn a_fault_is_told_in_words() {
     let fault = check(&TWO_BLOCKS[..3]).unwrap_err();
     assert_eq!(fault.to_string(), "fewer than 4 octets are left for a header, in the packet at octet 0");
+}
+
+#[test]
+fn a_datagram_is_a_line_of_text() {
+    let blocks = "000000a1/64/-2/65538/3/00010000/00008000;000000a1/0/5/9/8/00000000/00000000";
+    assert_eq!(text(&TWO_BLOCKS), format!("ok RR(00000007,[{blocks}],0)"));
+    assert_eq!(text(&TWO_BLOCKS[..52]), "F5 Length at 0");
+    assert_eq!(plain_text(&[], None), "F1 Short at 0");
+    let words = |first: &str, second: &str| {
+        format!(
+            "ok RR ssrc=00000007 block about=000000a1 loss=25.0% lost=-2 highest=65538 jitter={first} \
+             lsr=1.000000s dlsr=0.500000s block about=000000a1 loss=0.0% lost=5 highest=9 jitter={second} \
+             lsr=none dlsr=0.000000s"
+        )
+    };
+    assert_eq!(plain_text(&TWO_BLOCKS, None), words("3units", "8units"));
+    assert_eq!(plain_text(&TWO_BLOCKS, Some(8_000)), words("0.375ms", "1.000ms"));
 }
 
 #[test]

@@ -31,6 +31,7 @@ mod change;
 mod guard;
 mod head;
 mod parts;
+mod print;
 mod reading;
 #[cfg(test)]
 mod tests;

@@ -12,6 +12,7 @@ mod forgetting;
 mod guarding;
 mod heads;
 mod parts;
+mod printing;
 mod readings;
 mod sessions;
 mod settings;

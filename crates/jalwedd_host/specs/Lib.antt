@@ -13,3 +13,4 @@ pub mod Walks
 pub mod Apps
 pub mod Sources
 pub mod Changes
+pub mod Texts

@@ -24,4 +24,5 @@ pub mod session;
 pub mod source;
 pub mod status;
 pub mod step;
+pub mod text;
 pub mod walks;

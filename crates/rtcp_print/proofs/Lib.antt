@@ -1,0 +1,2 @@
+mod PageLemmas
+mod Pieces

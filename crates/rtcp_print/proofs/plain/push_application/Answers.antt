@@ -1,0 +1,12 @@
+use Rattle.rtcp_print.proofs.PageLemmas.{both}
+use Rattle.rtcp_print.proofs.plain.push_application.Goals as goal
+
+pub returns-clause-adds : goal.returns-clause-adds
+returns-clause-adds c =
+    both (both (both (both (both (both (both c.push.ensures.adds c.push_source.ensures.adds)
+    c.push-2.ensures.adds)
+    (rw c.from.ensures at c.push_decimal.ensures.adds))
+    c.push-3.ensures.adds)
+    c.push_quoted.ensures.adds)
+    c.push-4.ensures.adds)
+    c.push_decimal-2.ensures.adds
