@@ -321,8 +321,12 @@ typedef struct jalwedd_step {
     uint32_t senders;       /* how many of the members send RTP packets: 0 from a leave on */
     uint32_t ssrc;          /* the participant's SSRC */
     uint32_t changed;       /* 1 if the call changed the SSRC (8.2): media goes on under the new one. Otherwise 0 */
-    uint32_t kind;          /* what the call hands out: send it now, in one datagram, to the other participants */
-    uint32_t size;          /* its size in octets */
+    uint32_t kind;          /* what the call hands out: send it now, in one datagram, to the other participants. Look at
+                               this after each call: the next one may write over step and octets, and a compound that
+                               was never sent counts as sent */
+    uint32_t size;          /* its size in octets. It is read as any datagram is: jalwedd_next_sender gives the own
+                               packets and octets, if it is a sender report, and jalwedd_next_block loss, jitter, lsr
+                               and dlsr of each of its blocks, as they go out */
     uint32_t entries;       /* as jalwedd_entries: the table is full if this is config.capacity */
     uint32_t others_changed; /* 1 if the call changed which other sources are members or which of them send, if only
                                for a moment: list them again with jalwedd_source. 0 if each has the role it had. It is
@@ -432,7 +436,9 @@ typedef struct jalwedd_source_state {
                                1/256: 0 to 255 */
     uint32_t block_highest; /* by that block, the highest sequence number, as in highest */
     uint32_t ssrc;
-    uint32_t member;        /* 1 if it is a member (6.2.1), otherwise 0: it is not yet valid, or it left */
+    uint32_t member;        /* 1 if it is a member (6.2.1), otherwise 0: it left, or, if left is JALWEDD_NEVER, is not
+                               yet valid. One of these that is dropped is seen by comparing listings: neither
+                               others_changed nor jalwedd_change tells of it */
     uint32_t sender;        /* 1 if it sends RTP packets, otherwise 0 */
     uint32_t rate;          /* the units a second of jitter: those of the clock of its newest packet that was counted,
                                or 0 */
@@ -670,6 +676,27 @@ uint32_t jalwedd_next_goodbye(const uint8_t *datagram, size_t size, jalwedd_curs
                               jalwedd_goodbye_place *goodbye) JALWEDD_NOT_NULL;
 uint32_t jalwedd_next_app(const uint8_t *datagram, size_t size, jalwedd_cursor *cursor, jalwedd_app_place *app)
     JALWEDD_NOT_NULL;
+
+/* Gives who sent the next report of a datagram, sender reports and receiver reports alike, also one without a block. A
+ * walk begins with a `place` of 0, and each call takes that past the report, until the status is not TAKEN; then `ssrc`
+ * is left as it is. Only the first call checks the datagram. With another place it is safe, as a cursor is.
+ * Statuses: TAKEN; NO_COMPOUND; NO_PART. */
+static inline uint32_t jalwedd_next_reporter(const uint8_t *datagram, size_t size, size_t *place, uint32_t *ssrc)
+{
+    jalwedd_fault fault;
+    if (*place == 0 && jalwedd_check(datagram, size, &fault) != JALWEDD_TAKEN)
+        return JALWEDD_NO_COMPOUND;
+    while (*place < size && size - *place >= 8) {
+        const uint8_t *const packet = datagram + *place;
+        const size_t words = packet[2] * 256u + packet[3];
+        *place += 4 * words + 4;
+        if (packet[1] == 200 || packet[1] == 201) {
+            *ssrc = packet[4] * 16777216u + packet[5] * 65536u + packet[6] * 256u + packet[7];
+            return JALWEDD_TAKEN;
+        }
+    }
+    return JALWEDD_NO_PART;
+}
 
 /* Gives what the reports of a datagram say about the source `ssrc`: of the blocks about it, in their order, the one at
  * `index`, from 0 on. Go on until the status is not TAKEN; then `report` is left as it is. Each call reads the datagram

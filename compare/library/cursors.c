@@ -1,5 +1,6 @@
 /* Tests the walks with a cursor:
- * - over a datagram that is written out here, each gives these parts and no others;
+ * - over a datagram that is written out here, each gives these parts and no others, and jalwedd_next_reporter those who
+ *   report;
  * - a datagram of 0 octets, of an impossible size or with a fault has no parts, and leaves cursor and output as they
  *   are;
  * - over each datagram of standard input, a line of hex each, a walk gives what the calls by index give;
@@ -72,6 +73,35 @@ static int reports(void)
     HOLDS(report.ssrc == 0xaa && report.fraction == 25 && report.lost == 3 && report.highest == 11);
     HOLDS(report.jitter == 4 && report.lsr == 1 && report.dlsr == 2);
     HOLDS(jalwedd_next_block(PARTS, sizeof PARTS, &of_blocks, &report) == JALWEDD_NO_PART && report.ssrc == 0xaa);
+    return 0;
+}
+
+/* A report of 7 without a block, a BYE of nobody, a packet of another type, a report of 9 and one of 5 that end the
+ * datagram: three who report. A datagram that is none, or a place after its last report, gives nobody. */
+static int reporters(void)
+{
+    static const uint8_t datagram[] = {
+        0x80, 0xc9, 0, 1, 0, 0, 0, 7, 0x80, 0xcb, 0, 0, 0x80, 0xcd, 0, 1, 0, 0, 0, 6,
+        0x80, 0xc8, 0, 6, 0, 0, 0, 9, 0, 0, 0, 0, 0, 0, 0, 0, 0, 0, 0, 0, 0, 0, 0, 0, 0, 0, 0, 0,
+        0x80, 0xc9, 0, 1, 0x80, 0, 0, 5};
+    static const uint32_t who[] = {7, 9, 0x80000005};
+    const uint8_t *const at_end = placed(datagram, sizeof datagram, 1);
+    size_t place = 0;
+    uint32_t ssrc = 99;
+    HOLDS(jalwedd_next_reporter(at_end, 12, &place, &ssrc) == JALWEDD_TAKEN && ssrc == 7);
+    HOLDS(jalwedd_next_reporter(at_end, 12, &place, &ssrc) == JALWEDD_NO_PART && ssrc == 7);
+    place = 0;
+    HOLDS(jalwedd_next_reporter(at_end + 8, sizeof datagram - 8, &place, &ssrc) == JALWEDD_NO_COMPOUND);
+    HOLDS(place == 0 && ssrc == 7);
+    for (size_t at = 0; at < 3; at++)
+        HOLDS(jalwedd_next_reporter(at_end, sizeof datagram, &place, &ssrc) == JALWEDD_TAKEN && ssrc == who[at]);
+    for (int turn = 0; turn < 2; turn++)
+        HOLDS(jalwedd_next_reporter(at_end, sizeof datagram, &place, &ssrc) == JALWEDD_NO_PART && ssrc == who[2]);
+    for (size_t any = 1; any < sizeof datagram + 8; any++)
+        for (place = any; jalwedd_next_reporter(at_end, sizeof datagram, &place, &ssrc) == JALWEDD_TAKEN;)
+            HOLDS(place > any);
+    place = SIZE_MAX;
+    HOLDS(jalwedd_next_reporter(at_end, sizeof datagram, &place, &ssrc) == JALWEDD_NO_PART);
     return 0;
 }
 
@@ -282,7 +312,7 @@ int main(void)
     static uint8_t octets[MOST];
     size_t datagrams = 0;
     pages = guarded();
-    if (reports() || texts() || copied() || without_parts())
+    if (reports() || reporters() || texts() || copied() || without_parts())
         return 1;
     while (fgets(line, sizeof line, stdin) != NULL) {
         const size_t size = unhex(line, octets);

@@ -143,5 +143,7 @@ pub use guard::HeldBack;
 pub use head::{rtp_head, RtpHead};
 pub use moment::{rtp_at, Moment};
 pub use participant::Participant;
-pub use parts::{apps, blocks, goodbyes, items, senders, App, Goodbye, Parts, SdesItem, SenderReport};
+pub use parts::{
+    apps, blocks, goodbyes, items, reporters, senders, App, Goodbye, Parts, Reporters, SdesItem, SenderReport,
+};
 pub use sources::{LastBlock, Reception, SourceState, Sources, Told};

@@ -21,6 +21,47 @@ pub fn senders(datagram: &[u8]) -> Result<Parts<'_, SenderReport>, Fault> {
     })
 }
 
+/// Who sent the reports of an RTCP datagram, in their order: the SSRCs of its sender reports and receiver reports, also
+/// of those without a block (RFC 3550, 6.4).
+///
+/// ```
+/// let report = [0x80, 0xc9, 0, 1, 0, 0, 0, 7];
+/// assert!(jalwedd::reporters(&report)?.eq([7]));
+/// # Ok::<(), jalwedd::Fault>(())
+/// ```
+///
+/// # Errors
+///
+/// The first [`Fault`] of a datagram that is not a compound.
+pub fn reporters(datagram: &[u8]) -> Result<Reporters<'_>, Fault> {
+    check(datagram)?;
+    Ok(Reporters { rest: datagram })
+}
+
+/// Who sent the reports of a datagram: see [`reporters`].
+#[derive(Clone, Debug)]
+pub struct Reporters<'a> {
+    /// The packets that are left.
+    rest: &'a [u8],
+}
+
+impl Iterator for Reporters<'_> {
+    type Item = u32;
+
+    fn next(&mut self) -> Option<u32> {
+        while let [_, kind, high, low, after @ ..] = self.rest {
+            let (body, rest) = after.split_at_checked(4 * usize::from(u16::from_be_bytes([*high, *low])))?;
+            self.rest = rest;
+            if matches!(kind, 200 | 201) {
+                return body.first_chunk().map(|ssrc| u32::from_be_bytes(*ssrc));
+            }
+        }
+        None
+    }
+}
+
+impl FusedIterator for Reporters<'_> {}
+
 /// The blocks of all reports of an RTCP datagram, in their order (RFC 3550, 6.4.1).
 ///
 /// [`about`](crate::about) gives those about one source.

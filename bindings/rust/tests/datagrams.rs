@@ -1,7 +1,7 @@
 //! What datagrams say, and the formulas of times.
 
 use jalwedd::{
-    about, apps, blocks, check, check_rtp, goodbyes, items, ntp_of, plain_text, round_trip,
+    about, apps, blocks, check, check_rtp, goodbyes, items, ntp_of, plain_text, reporters, round_trip,
     rtp_head, senders, text, App, Fault, FaultReason, Goodbye, Moment, Refusal, Report, RtpFault, SdesItem, SenderReport,
 };
 use std::time::Duration;
@@ -58,6 +58,18 @@ fn a_datagram_is_a_line_of_text() {
     };
     assert_eq!(plain_text(&TWO_BLOCKS, None), words("3units", "8units"));
     assert_eq!(plain_text(&TWO_BLOCKS, Some(8_000)), words("0.375ms", "1.000ms"));
+}
+
+#[test]
+fn those_who_report() {
+    let datagram = [
+        0x80, 0xc9, 0, 1, 0, 0, 0, 7, // an RR of 7 without blocks
+        0x80, 0xcb, 0, 0, // a BYE of nobody
+        0x80, 0xc9, 0, 1, 0x80, 0, 0, 5, // an RR of 80000005
+    ];
+    assert!(reporters(&datagram).unwrap().eq([7, 0x8000_0005]));
+    assert!(reporters(&datagram[..12]).unwrap().eq([7]));
+    assert_eq!(reporters(&datagram[8..]).unwrap_err().reason, FaultReason::FirstType);
 }
 
 #[test]
