@@ -58,6 +58,14 @@ static void tick(void)
         exit(1);
 }
 
+static void print(void)
+{
+    static char text[8192];
+    if (jalwedd_print(octets, step.size, text, sizeof text) < 1400
+        || jalwedd_print_plain(octets, step.size, 8000, text, sizeof text) < 1400)
+        exit(1);
+}
+
 static void configure(void)
 {
     static const jalwedd_settings settings = {.sender_bw = 50, .receiver_bw = 150, .clock_count = 1,
@@ -115,7 +123,7 @@ int main(void)
         void (*call)(void);
         size_t limit;
     } calls[] = {{"new", begin, 8192}, {"arrive", arrive, 1024}, {"sent_rtp", send_packet, 1024},
-                 {"tick", tick, 1024}, {"configure", configure, 8192}, {"forget", forget, 1024},
+                 {"tick", tick, 1024}, {"print", print, 1024}, {"configure", configure, 8192}, {"forget", forget, 1024},
                  {"change", collide, 1024}, {"leave", leave, 1024}};
     const size_t none = taken(nothing);
     int is_more = 0;

@@ -1,2 +1,3 @@
 mod PageLemmas
 mod Pieces
+mod examples
