@@ -42,7 +42,9 @@ class Played:
 def value(kind, text):
     if kind == "boolean":
         return text == "true"
-    return int(text) if kind in ("int", "uint", "guint64") else text.strip('"').replace("\\", "")
+    if kind in ("int", "uint", "guint64") and not text.startswith("{"):  # which begins a list
+        return int(text)
+    return text.strip('"').replace("\\", "")
 
 
 def values(structure):

@@ -1,5 +1,4 @@
 """What one element does: the moments of its sender reports, collisions, refusals, records."""
-import os
 import re
 import statistics
 import subprocess
@@ -7,6 +6,7 @@ import threading
 import time
 from pathlib import Path
 
+import building
 import pipelines
 import wire
 from playing import Player
@@ -203,22 +203,17 @@ def refusals(build, element, refused):
 # ---- Records
 
 
-def handed_out(program, record):
-    """The compounds that the program hands out when it plays the record again."""
-    path = f"{record.parent}:{os.environ['PATH']}"
-    (record.parent / "rtcp").symlink_to(program)
+def played_again(record, command):
+    """What a command in place of `rtcp replay` prints of the record."""
+    words = Path(f"{record}.sh").read_text().replace("rtcp replay", command)
     with record.open() as calls:
-        done = subprocess.run(["sh", f"{record}.sh"], stdin=calls, stdout=subprocess.PIPE, text=True,
-                              env=os.environ | {"PATH": path})
-    return re.findall(r" out=(?:report|bye):([0-9a-f]+)", done.stdout)
+        return subprocess.run(["sh", "-c", words], stdin=calls, stdout=subprocess.PIPE, text=True).stdout
 
 
 def recorded(build, program, room):
-    """What an element recorded plays again, octet for octet."""
-    if not Path(program).exists():
-        print(f"  record: left out, there is no {program}")
-        yield
-        return
+    """What an element recorded plays again, octet for octet, and tools/report draws it. Where the program is
+    not built, the plain model plays."""
+    program = program if program.exists() else building.TOP / "compare/model/participant.py"
     own, other = pipelines.two_sides()
     record = room / "call"
     rtcp = wire.Listener(other.rtcp)
@@ -228,8 +223,11 @@ def recorded(build, program, room):
     yield
     played = player.played()
     yield from played.errors
-    sent, again = [octets.hex() for octets in rtcp.datagrams], handed_out(program, record)
-    print(f"  record: {len(sent)} compounds went out, {len(again)} again")
+    sent, answers = [octets.hex() for octets in rtcp.datagrams], played_again(record, f"{program} replay")
+    again = re.findall(r" out=(?:report|bye):([0-9a-f]+)", answers)
+    print(f"  record: {len(sent)} compounds went out, {len(again)} again by {program.name}")
+    if f"{OTHER:08x}" not in played_again(record, f"{building.TOP}/tools/report --program {program}"):
+        yield "the page of tools/report does not have the source"
     if len(sent) < 2 or sent != again:
         yield f"{len(sent)} compounds went out, and the record gives {len(again)} others"
 
