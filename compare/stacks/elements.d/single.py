@@ -22,7 +22,8 @@ REFUSED = {"rtp-profile=avpf": "rtp-profile", "rtcp-min-interval=1000000000": "r
            "update-ntp64-header-ext=true": "update-ntp64-header-ext",
            "timeout-inactive-sources=false": "timeout-inactive-sources"}
 REFUSED_BY_BIN = {"rtp-profile=avpf": "rtp-profile", "do-retransmission=true": "retransmission",
-                  "rtcp-sync=rtp-info": "rtcp-sync", "buffer-mode=buffer": "buffer-mode"}
+                  "rtcp-sync=rtp-info": "rtcp-sync", "buffer-mode=buffer": "buffer-mode",
+                  "timeout-inactive-sources=false": "timeout-inactive-sources"}
 
 FEEDBACK = "rtcp-fb"  # in caps
 
@@ -79,7 +80,7 @@ def in_background(work, *given):
 
 def talk_twice(own, other):
     """Packets of one SSRC from two ports: those of the second once the first is valid."""
-    time.sleep(3)
+    wire.wait_for(own.rtp)
     for at in range(100):
         wire.send(own.rtp, wire.packet(OTHER, at, 160 * at), other.rtp)
         if at > 1:
@@ -104,7 +105,7 @@ def third_party(build):
 
 def talk_from_two_hosts(own, other):
     """Packets of one SSRC from two addresses, by turns from the first on."""
-    time.sleep(3)
+    wire.wait_for(own.rtp)
     for at in range(100):
         wire.send(own.rtp, wire.packet(OTHER, at, 160 * at), other.rtp)
         wire.send(own.rtp, wire.packet(OTHER, 30_000 + at, 160 * at), other.rtp, "127.0.0.2")
@@ -130,7 +131,8 @@ def strangers(build):
 
 def collide(own):
     """Two packets under the SSRC of an element."""
-    time.sleep(4)
+    wire.wait_for(own.rtp)
+    time.sleep(1)  # it sends by then
     for at in range(2):
         wire.send(own.rtp, wire.packet(OWN, at, 160 * at))
 
@@ -162,7 +164,7 @@ def describe(own):
     private = lambda prefix, text: (8, bytes([len(prefix)]) + prefix + text)
     items = [(1, b"a@example.org"), (2, b"Ada"), private(b"mood", b"good"), private(b"cname", b"another"),
              private(b"ssrc", b"7"), private(b"", b"nothing")]
-    time.sleep(2)
+    wire.wait_for(own.rtcp)
     wire.send(own.rtcp, wire.described(OTHER, items))
 
 

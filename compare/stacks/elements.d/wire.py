@@ -4,6 +4,8 @@ import struct
 import threading
 import time
 
+from relay import queued_at
+
 NTP_OF_1970 = 2_208_988_800  # seconds
 HOST = "127.0.0.1"
 SENDER_REPORT, BYE = 200, 203
@@ -12,6 +14,15 @@ SENDER_REPORT, BYE = 200, 203
 def packet(ssrc, sequence, timestamp, octets=160, payload_type=8):
     head = struct.pack(">BBHII", 0x80, payload_type, sequence % 2**16, timestamp % 2**32, ssrc)
     return head + bytes(octets)
+
+
+def wait_for(port):
+    """Until somebody hears what comes to a port, and plays."""
+    for _ in range(100):
+        if queued_at(port) is not None:
+            break
+        time.sleep(0.1)
+    time.sleep(1)
 
 
 def send(port, octets, from_port=0, from_host=HOST):
