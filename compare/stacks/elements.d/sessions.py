@@ -1,8 +1,11 @@
 """Sessions over loopback: pairs of elements, losses that a relay knows, IPv6, and both ways at once."""
+import os
 import shutil
 import signal
+import socket
 import subprocess
 import threading
+import time
 
 import building
 import pipelines
@@ -16,6 +19,9 @@ LATE, MOST_APART = 0.3, 0.05  # seconds: of a stream in the network, and of two 
 BUFFER = 128  # milliseconds that audiotestsrc gives at once
 PACKETS_A_SECOND = 50
 QUIET = 12  # seconds after the last packet of a call: then both sides have reported all of them
+SO_RCVBUFFORCE = 33  # of Linux, for root: as large as it says
+MINUTES_OCTETS = 1 << 23  # of which the system counts twice as many, and 832 for a packet
+LEAST_APART = 0.001  # seconds between packets that are passed on
 DROPPED_TOO = {5, 33, 34, 77, 160, 161}  # places of each 200 packets, besides the relay's
 OURS = ("jalweddsession", "jalweddbin")
 PAIRS = [("jalweddsession", "rtpsession"), ("rtpsession", "jalweddsession"), ("jalweddbin", "rtpbin"),
@@ -116,19 +122,30 @@ def lossy(build, seconds):
 
 
 class Line(LossyRelay):
-    """Loses 5 per cent of the packets, passes so many on, and then nothing any more."""
+    """Loses 5 per cent of the packets, passes so many on, and then nothing any more. It stays right if its
+    process has to wait: a minute of packets fits into its socket, and they are passed on one by one."""
 
     def __init__(self, port, to, packets):
         super().__init__(port, to)
-        self.port, self.left = port, packets
+        self.port, self.left, self.number = port, packets, None
+        kind = SO_RCVBUFFORCE if os.geteuid() == 0 else socket.SO_RCVBUF
+        self.socket.setsockopt(socket.SOL_SOCKET, kind, MINUTES_OCTETS)
         self.start()
 
     def take(self, packet, place):
-        self.left -= 1
+        octets, self.left = packet[1], self.left - 1
+        sequence = int.from_bytes(octets[2:4], "big")
+        if self.number is None:
+            self.number = sequence
+        self.number += (sequence - self.number + 2**15) % 2**16 - 2**15  # without its wraps
         if place in DROPPED_TOO:
             self.dropped += 1
         elif self.left >= 0:
-            super().take(packet, place)
+            super().take((self.number, octets), place)
+
+    def pass_on(self, packet):
+        super().pass_on(packet)
+        time.sleep(LEAST_APART)
 
     def counts(self):
         """The packets that its receiver has to count, and those that are lost."""
