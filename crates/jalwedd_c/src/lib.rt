@@ -41,7 +41,7 @@ mod walks;
 pub use jalwedd_host::app::AppPlace;
 pub use jalwedd_host::change::RoleChange;
 pub use jalwedd_host::config::{Clock, Config, GuardConfig, Item, Settings};
-pub use jalwedd_host::guarded::HostCounts;
+pub use jalwedd_host::guarded::{HostCounts, HostHeldBack};
 pub use jalwedd_host::handle::Handle;
 pub use jalwedd_host::head::HeadPlace;
 pub use jalwedd_host::laws;

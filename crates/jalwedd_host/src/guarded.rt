@@ -30,6 +30,9 @@ pub struct HostCounts {
     pub last_crowd: u64,
 }
 
+/// The name that [`HostCounts`] had before.
+pub type HostHeldBack = HostCounts;
+
 impl HostCounts {
     /// What a host in C is told of it.
     fn of(counts: &HeldBack) -> HostCounts
