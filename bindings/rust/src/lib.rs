@@ -3,7 +3,7 @@
 //! Pass to a [`Participant`] the datagrams that arrive, the packets that the host sends and the time; it
 //! returns the reports and BYEs to send, the sources of the session and how their packets are received, and
 //! when to call it next. It opens no socket, reads no clock, draws no random number and starts no thread. It
-//! allocates only in [`Participant::new`].
+//! allocates only in [`Participant::new`], and for what [`text`] and [`plain_text`] return.
 //!
 //! # The loop of a host
 //!
