@@ -47,8 +47,8 @@
  * call whose clock was read before the lock was taken may be refused as JALWEDD_BACKWARDS; if it passed an RTP packet
  * that came, this one counts as lost.
  *
- * No call takes more than 8,192 octets of stack; of those that a participant is told by, none but jalwedd_configure
- * takes more than 1,024 (as measured, at 1,000 members).
+ * jalwedd_new takes at most 12,288 octets of stack, and no other call more than 8,192; of those that a participant is
+ * told by, none but jalwedd_configure takes more than 1,024 (as measured, at 1,000 members).
  *
  * Moments are those of the host's clock, in microseconds: of any that does not go back, whatever it counts from. A
  * session starts with jalwedd_new, at the moment config.start, 0 to 2^63 - 1. All moments that are passed in lie

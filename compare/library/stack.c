@@ -122,7 +122,7 @@ int main(void)
         const char *name;
         void (*call)(void);
         size_t limit;
-    } calls[] = {{"new", begin, 8192}, {"arrive", arrive, 1024}, {"sent_rtp", send_packet, 1024},
+    } calls[] = {{"new", begin, 12288}, {"arrive", arrive, 1024}, {"sent_rtp", send_packet, 1024},
                  {"tick", tick, 1024}, {"print", print, 1024}, {"configure", configure, 8192}, {"forget", forget, 1024},
                  {"change", collide, 1024}, {"leave", leave, 1024}};
     const size_t none = taken(nothing);
