@@ -48,12 +48,14 @@ class Endpoint:
 
     @property
     def number(self) -> int:
-        """The peer of a record: an IPv4 address times 65,536 plus the port; for IPv6 2^63 plus the first 63 bits of the
-        SHA-256 of the address and the port, 18 octets."""
+        """The peer of a record: an IPv4 address times 65,536 plus the port. For IPv6 the upper 48 bits are a one and
+        the first 47 bits of the SHA-256 of the /64 network, 8 octets: an origin, as a guard has it. The lower 16 are the
+        first ones of the SHA-256 of the address and the port, 18 octets."""
         octets = ipaddress.ip_address(self.address).packed + self.port.to_bytes(2, "big")
         if not self.is_ipv6:
             return int.from_bytes(octets, "big")
-        return 2**63 + int.from_bytes(hashlib.sha256(octets).digest()[:8], "big") // 2
+        network, whole = (hashlib.sha256(part).digest() for part in (octets[:8], octets))
+        return (2**47 + int.from_bytes(network[:6], "big") // 2) * 2**16 + int.from_bytes(whole[:2], "big")
 
 
 @dataclass(frozen=True)
