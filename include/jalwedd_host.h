@@ -265,6 +265,12 @@ static inline void jalwedd_host_take_reports(jalwedd_host *host, uint64_t now, u
     }
 }
 
+/* Whether the guard held a datagram back. A record has none of these: the command that plays it again has no guard. */
+static inline int jalwedd_host_holds_back(uint32_t status)
+{
+    return status == JALWEDD_STRANGER || status == JALWEDD_CROWD;
+}
+
 static inline void jalwedd_host_take_rtcp(jalwedd_host *host, const jalwedd_address *from, size_t came)
 {
     const size_t size = host->puts_report_before ? jalwedd_put_report_before(host->datagram, came) : came;
@@ -272,7 +278,8 @@ static inline void jalwedd_host_take_rtcp(jalwedd_host *host, const jalwedd_addr
     const uint32_t own = host->step.ssrc, word = jalwedd_word(); /* blocks about it name the one before the call */
     const uint32_t status = jalwedd_arrive_rtcp(&host->session, now, peer, word, host->datagram, size, &host->step,
                                                 host->octets);
-    jalwedd_record_arrive_rtcp(&host->calls, now, peer, word, host->datagram, size);
+    if (!jalwedd_host_holds_back(status))
+        jalwedd_record_arrive_rtcp(&host->calls, now, peer, word, host->datagram, size);
     jalwedd_host_settle(host, own);
     if (status != JALWEDD_TAKEN) {
         if (host->refused)
@@ -293,7 +300,8 @@ static inline void jalwedd_host_take_rtp(jalwedd_host *host, const jalwedd_addre
     const uint32_t status = jalwedd_arrive_rtp(&host->session, now, peer, word, host->datagram, size, &host->step,
                                                host->octets);
     jalwedd_head_place head;
-    jalwedd_record_arrive_rtp(&host->calls, now, peer, word, host->datagram, size);
+    if (!jalwedd_host_holds_back(status))
+        jalwedd_record_arrive_rtp(&host->calls, now, peer, word, host->datagram, size);
     jalwedd_host_settle(host, own);
     if (status != JALWEDD_TAKEN) {
         if (host->refused)

@@ -21,7 +21,7 @@
  * - It records all calls of one participant in their order, from the jalwedd_new that is taken to jalwedd_free,
  *   whatever their status: a refused call changes nothing, and the program refuses it again.
  * - With a guard (config.guard) it records an arrival after the call, unless the status is JALWEDD_STRANGER or
- *   JALWEDD_CROWD: the program has no guard, and would take what was held back.
+ *   JALWEDD_CROWD: the command that is written has no guard, and the program would take what was held back.
  * - The record's start is config.start of that participant: the program counts moments from 0, so a line has the time
  *   from the start to the moment of its call. A call before the start changes nothing, and has no line.
  * - It draws each random word once, and passes it to both functions.

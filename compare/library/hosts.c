@@ -216,11 +216,43 @@ static void test_bye_alone(uint16_t port)
     close(stranger);
 }
 
+static void held_back(jalwedd_host *host, uint32_t status, const uint8_t *octets_of, size_t size)
+{
+    (void)host, (void)octets_of, (void)size;
+    IS("a stranger", status, JALWEDD_STRANGER);
+    refused_count++;
+}
+
+/* A guard holds back what another address sends of a source, and that is not recorded: its command has no guard. */
+static void test_guard(uint16_t port)
+{
+    static const uint8_t packet_of[] = {0x80, 0, 0, 1, 0, 0, 0, 0, 0, 0, 0, 7};
+    static jalwedd_row of_one[4];
+    jalwedd_address from, other;
+    jalwedd_host_init(&one, "one", 64000, 8000, of_one, 4);
+    one.config.guard.names = 1, one.config.guard.hold = 60 * JALWEDD_SECOND;
+    one.refused = held_back, one.calls.write = record, recorded_size = 0, refused_count = 0;
+    IS("ports", jalwedd_host_open(&one, "127.0.0.1", port, "127.0.0.1", (uint16_t)(port + 4)), 0);
+    IS("an address", jalwedd_resolve("192.0.2.1", 5004, AF_INET, &from), 0);
+    IS("another", jalwedd_resolve("192.0.2.2", 5004, AF_INET, &other), 0);
+    IS("one", jalwedd_host_begin(&one), JALWEDD_TAKEN);
+    memcpy(one.datagram, packet_of, sizeof packet_of);
+    jalwedd_host_take_rtp(&one, &from, sizeof packet_of);
+    jalwedd_host_take_rtp(&one, &other, sizeof packet_of);
+    memcpy(one.datagram, datagram, report_of(7, 1, "a", 1));
+    jalwedd_host_take_rtcp(&one, &from, 20);
+    jalwedd_host_take_rtcp(&one, &other, 20);
+    IS("two are held back", refused_count, 2);
+    IS("two are recorded", recorded_lines("rtp ") * 10 + recorded_lines("rtcp "), 11);
+    jalwedd_host_end(&one);
+}
+
 int main(int count, char **words)
 {
     const uint16_t port = (uint16_t)(count == 2 ? atoi(words[1]) : 0);
     test_limit(port);
     test_bye_alone(port);
+    test_guard(port);
     test_hosts("127.0.0.1", port);
     test_hosts("::1", port);
     printf(faults ? "%d faults\n" : "hosts: as worked out\n", faults);

@@ -242,12 +242,15 @@ impl Host {
         command(&self.config, &self.settings.cname, &self.settings.items, self.word)
     }
 
-    /// Records a call and makes it, sends what it hands out, and returns its step.
+    /// Makes a call and records it, sends what it hands out, and returns its step. What the guard holds back is not
+    /// recorded: the command that plays the record again has no guard.
     fn make(&mut self, call: Call<'_>) -> Result<Step, Refusal> {
-        if let Some(record) = &mut self.record {
+        let answer = call.make(&mut self.session);
+        let is_held_back = matches!(answer, Err(Refusal::Stranger | Refusal::Crowd));
+        if let Some(record) = self.record.as_mut().filter(|_| !is_held_back) {
             record(&call.line(self.config.start));
         }
-        settle(&self.sockets, &self.table, self.settings.is_to_members, call.make(&mut self.session))
+        settle(&self.sockets, &self.table, self.settings.is_to_members, answer)
     }
 
     /// A moment as it is told: none is earlier than that of the latest call.
