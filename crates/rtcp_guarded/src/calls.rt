@@ -35,7 +35,10 @@ impl<T: MemberTable> GuardedParticipant<T> {
         let (participant, guard) = (&self.participant, &mut self.guard);
         match apart::admit_rtcp(participant, guard, now, peer, w, bytes) {
             Ok(inspected) => {
-                as_untaken(self.participant.take_rtcp_into(now, peer, w, inspected, octets))
+                as_untaken(
+                    self.participant
+                        .take_rtcp_into(now, peer, w, inspected, octets),
+                )
             }
             Err(untaken) => Err(untaken),
         }
@@ -61,7 +64,10 @@ impl<T: MemberTable> GuardedParticipant<T> {
         let (participant, guard) = (&self.participant, &mut self.guard);
         match apart::admit_rtp(participant, guard, now, peer, w, bytes) {
             Ok(inspected) => {
-                as_untaken(self.participant.take_rtp_into(now, peer, w, inspected, octets))
+                as_untaken(
+                    self.participant
+                        .take_rtp_into(now, peer, w, inspected, octets),
+                )
             }
             Err(untaken) => Err(untaken),
         }
