@@ -11,7 +11,7 @@ use crate::sayings::tells_of;
 use rtcp_wire::{Compound, RtpHead, facts};
 
 /// How many identifiers are looked for in a datagram at once.
-pub(crate) const BLOCK: usize = 1024;
+pub(crate) const BLOCK: usize = 32;
 
 /// What a datagram says that came.
 #[derive(Drop)]
@@ -70,7 +70,7 @@ fn names_of_packet(head: &RtpHead<'_>, first: u32) -> [bool; BLOCK]
 
 /// No identifier of a block.
 fn none() -> [bool; BLOCK]
-    ensures { (place : ℕ) → place < 1024 → is_marked result place ≡ false }
+    ensures { (place : ℕ) → place < 32 → is_marked result place ≡ false }
 {
     [false; BLOCK]
 }

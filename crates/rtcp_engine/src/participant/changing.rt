@@ -20,7 +20,7 @@ use rtcp_wire::MAX_COMPOUND;
 
 /// So many blocks have more identifiers than can be taken: at most nine are or were the participant's own, 1,024 are in
 /// its table, and fewer than 2^16 are in a datagram.
-const MAX_BLOCKS: u32 = 128;
+const MAX_BLOCKS: u32 = 4096;
 
 impl<T: MemberTable> Participant<T> {
     /// Takes a datagram that names the participant's SSRC, after a change of that, or refuses it.
@@ -107,7 +107,7 @@ impl<T: MemberTable> Participant<T> {
         ensures free { (session : Session) → IsIn self.now session → (self.now.phase ≡ over → ⊥) →
             IfSome result (IsFirstFree (is_taken_of session (datagram_of arrival.now)) first) }
         ensures none { (session : Session) → IsIn self.now session → (self.now.phase ≡ over → ⊥) → result ≡ None →
-            AreTaken (is_taken_of session (datagram_of arrival.now)) first 1024 }
+            AreTaken (is_taken_of session (datagram_of arrival.now)) first 32 }
     {
         let named = arrival.names_from(first);
         'tries: for offset in 0..BLOCK {

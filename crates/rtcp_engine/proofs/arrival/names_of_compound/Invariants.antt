@@ -7,6 +7,6 @@ use Rattle.rtcp_engine.proofs.arrival.names_of_compound.Given as goal
 
 abbrev pub invariant-facts : goal.invariant-facts
 invariant-facts l =
-    (place : ℕ) → place < 1024 →
+    (place : ℕ) → place < 32 →
     (is_marked l.named place || is_among (map subject l.fact-iterator) (after l.first place))
     ≡ is_among (map subject (facts_of l.compound)) (after l.first place)

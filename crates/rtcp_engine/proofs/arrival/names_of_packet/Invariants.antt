@@ -9,6 +9,6 @@ use Rattle.rtcp_engine.proofs.arrival.names_of_packet.Given as goal
 
 abbrev pub invariant-csrcs : goal.invariant-csrcs
 invariant-csrcs l =
-    (place : ℕ) → place < 1024 →
+    (place : ℕ) → place < 32 →
     (is_marked l.named place || is_among l.csrc-iterator (after l.first place))
     ≡ is_among (named_by (rtp (Ok l.head))) (after l.first place)

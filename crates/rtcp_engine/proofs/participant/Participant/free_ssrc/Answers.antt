@@ -11,7 +11,7 @@ pub returns-in-Some : goal.returns-in-Some
 returns-in-Some g c history h there =
     let session = session_at history in
     let datagram = datagram_of c.args.arrival.now in
-    let places : ℕ = c.spans.block * 1024 in
+    let places : ℕ = c.spans.block * 32 in
     let first = c.in-Some.ensures.free session h.session there in
     let tries : ℕ = first.tries in
     let place : c.in-Some.ssrc ≡ after c.args.w (places + tries) = first.here ∙ omega arith in
@@ -26,10 +26,10 @@ pub spans-preserved : goal.spans-preserved
 spans-preserved g c history h there =
     let session = session_at history in
     let datagram = datagram_of c.args.arrival.now in
-    let places : ℕ = c.spans.block * 1024 in
-    let next : places + 1024 ≡ (c.spans.block + 1) * 1024 = omega arith in
+    let places : ℕ = c.spans.block * 32 in
+    let next : places + 32 ≡ (c.spans.block + 1) * 32 = omega arith in
     subst (AreTaken (is_taken session datagram) c.args.w) next
-    (both_taken (is_taken session datagram) c.args.w places 1024 (c.spans.invariant history h there)
+    (both_taken (is_taken session datagram) c.args.w places 32 (c.spans.invariant history h there)
     (c.in_default.ensures.none session h.session there refl))
 
 pub returns : goal.returns
@@ -38,7 +38,7 @@ returns g c history h there =
     let datagram = datagram_of c.args.arrival.now in
     let free = new_is_free history datagram c.args.w h.is_history c.ranges.w.fits (omega (arith, c.requires.few)) in
     let taken = some_is_free (most_taken session datagram) (is_taken session datagram) c.args.w
-    (c.spans.block * 1024) c.ranges.w.fits (omega (
+    (c.spans.block * 32) c.ranges.w.fits (omega (
       arith,
       few_are_taken history datagram h.is_history
           c.requires.few,

@@ -10,4 +10,4 @@ use Rattle.rtcp_engine.proofs.participant.Participant.free_ssrc.Given as goal
 abbrev pub invariant-spans : goal.invariant-spans
 invariant-spans g l =
     (history : History) → StandsAt l.fn.self history → (l.fn.self.phase ≡ over → ⊥) →
-    AreTaken (is_taken (session_at history) (datagram_of l.fn.arrival)) l.fn.w (l.block * 1024)
+    AreTaken (is_taken (session_at history) (datagram_of l.fn.arrival)) l.fn.w (l.block * 32)
