@@ -9,11 +9,11 @@ use jalwedd_host::guarded::HostCounts;
 use jalwedd_host::handle::Handle;
 use std::alloc::Global;
 
-/// Says, when the host's clock shows `now`, in microseconds, that a source is expected from a peer, as signalling knows:
-/// it belongs to the peer's origin from now on, as if that had named it now. The participant is not told.
+/// Says, when the host's clock shows `now`, in microseconds, that a source is expected from a peer, as signalling
+/// knows: it belongs to the peer's origin from now on, as if that had named it now. The participant is not told.
 ///
-/// Statuses: 0; 20 where the handle is empty; 19 where the session has no guard; 2 before the start, and nothing changes; 25 where the origin
-/// would have more sources than it may, or all origins together would: then nothing changes.
+/// Statuses: 0; 20 where the handle is empty; 19 where the session has no guard; 2 before the start; 25 where the
+/// origin would have more sources than it may, or all origins together would. With 2 and 25 nothing changes.
 #[unsafe(no_mangle)]
 pub extern "C" fn jalwedd_expect(
     alloc: Global,
@@ -32,10 +32,11 @@ pub extern "C" fn jalwedd_expect(
     handle.expect(alloc, now, ssrc, peer)
 }
 
-/// Trusts a peer's origin with as many sources as the configuration's `trusted_names` says: a relay, a mixer or a network
-/// address translator. The participant is not told.
+/// Trusts a peer's origin with as many sources as the configuration's `trusted_names` says: a relay, a mixer or a
+/// network address translator. The participant is not told.
 ///
-/// Statuses: 0; 20 where the handle is empty; 19 where the session has no guard; 25 where 16 others are trusted already.
+/// Statuses: 0; 20 where the handle is empty; 19 where the session has no guard; 25 where 16 others are trusted
+/// already.
 #[unsafe(no_mangle)]
 pub extern "C" fn jalwedd_trust(alloc: Global, handle: &mut Handle, peer: u64) -> u32
     ensures trusts { Trusts peer handle.old.owned.held handle.new.owned.held result }
