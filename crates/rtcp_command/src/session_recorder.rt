@@ -1,6 +1,7 @@
 //! What records a session.
 
-use rtcp_engine::{Answer, Event, Participant};
+use rtcp_engine::{Event, Participant};
+use rtcp_guarded::GuardedAnswer;
 use rtcp_members::MemberTable;
 use rtcp_serve::Observer;
 use rtcp_text::record::Recorder;
@@ -20,7 +21,7 @@ impl<W: Write, F: Write> Observer for SessionRecorder<W, F> {
     fn told<T: MemberTable>(
         &mut self,
         event: &Event<'_>,
-        _answer: &Answer,
+        _answer: &GuardedAnswer,
         _participant: &Participant<T>,
     ) {
         if self.recorder.record(event).is_err() {

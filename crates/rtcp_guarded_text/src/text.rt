@@ -5,7 +5,7 @@
 //! Each function here returns `AllocError` where memory is refused. It is then left open how much of the text was
 //! appended.
 
-ghost use Rattle.std.specs.Prelude.{◌≡◌, ◌≤◌, ◌++◌, OnOk};
+ghost use Rattle.std.specs.Prelude.{◌≡◌, ◌≤◌, ◌++◌, Err, OnOk};
 ghost use Rattle.rtcp_engine.specs.state.Views.{size_written};
 ghost use Rattle.rtcp_guarded.specs.Views.{out_written, reply_value};
 ghost use Rattle.rtcp_guarded_text.specs.GuardedText.{guarded_answer_text, held_back_text, reason_text};
@@ -30,8 +30,17 @@ pub fn push_guarded_reply(
             let taken: Reply = Ok(*told);
             push_reply(out, &taken, octets)
         }
-        Err(Untaken::Refused(refusal)) => push_refusal(out, refusal),
-        Err(Untaken::HeldBack(reason)) => push_held_back(out, *reason),
+        Err(untaken) => push_untaken(out, untaken),
+    }
+}
+
+/// Appends the line for a call that was refused, or for a datagram that was held back.
+pub fn push_untaken(out: &mut Vec<u8>, untaken: &Untaken) -> Result<(), AllocError>
+    ensures { OnOk result (out.new.items ≡ out.old.items ++ guarded_answer_text (Err untaken.now)) }
+{
+    match untaken {
+        Untaken::Refused(refusal) => push_refusal(out, refusal),
+        Untaken::HeldBack(reason) => push_held_back(out, *reason),
     }
 }
 

@@ -13,17 +13,16 @@ use Rattle.rtcp_serve.specs.Links.{Call, LinkValue, GrowsBy, WereCalled, clock_r
 use Rattle.rtcp_serve.specs.Observers.{Notice, event_told, send_tried, telling}
 use Rattle.rand_core.specs.Stream.{Stream, next_u32}
 use Rattle.rtcp_engine.specs.answers.Acts.{ticked, left as asked_to_leave, EventValue, IsActOfEvent, rtcp_arrived, rtp_arrived, packet_sent, time_passed, leave_asked, settings_given, forget_asked}
-use Rattle.rtcp_engine.specs.answers.Histories.{History}
-use Rattle.rtcp_engine.specs.answers.Answers.{answer_of, followed_by}
-use Rattle.rtcp_engine.specs.state.States.{ParticipantValue, StandsAt}
 use Rattle.rtcp_engine.specs.declared.step.Step.{Step}
-use Rattle.rtcp_engine.specs.declared.refusal.Refusal.{Refusal}
-use Rattle.rtcp_engine.specs.state.Views.{answer_value}
-use Rattle.rtcp_engine.specs.answers.Steps.{AnswerValue, OutValue}
+use Rattle.rtcp_engine.specs.answers.Steps.{OutValue}
+use Rattle.rtcp_guarded.specs.Guarded.{GuardedAnswer}
+use Rattle.rtcp_guarded.specs.Views.{guarded_value}
+use Rattle.rtcp_guarded.specs.declared.untaken.Untaken.{Untaken}
+use Rattle.rtcp_serve.specs.Served.{Served, ServedValue, StandsServed, answer_for, followed_for}
 use Rattle.rtcp_serve.specs.declared.serving.tally.Tally.{Tally}
-use Rattle.rtcp_serve.specs.Tallies.{HasRoom, end_of, is_limit, with_arrival, with_datagram, with_moment, with_refused, with_send}
-use Rattle.rtcp_serve.specs.Serving.{IsReader, Reader, Stage, act_in, resting, beginning, hearing, deciding, sending, ended, SessionState, rested, going, ReadsClock, Hears, Sends, Fits, at_stage, with_turns, paused, turn_by, turn_or, after_turns, gone_on, left_with, event_at, after_port, came_with, heard_at, after_clock, after_sending, after_call, after_calls, AllFit, at_the_start, stage_to_send, ticked_with, ticked_now, with_tally}
-use Rattle.rtcp_serve.specs.Sessions.{Closes, EndsAs, EndsTurns, HasTurn, Holds, IsLeaveDue, Moves, Kept, Run, RunsCut, RunsSession, Turns, Walks, keeps, led_to, next_at, run_of, turns_of, turns_with}
+use Rattle.rtcp_serve.specs.Tallies.{HasRoom, end_of, ends_session, with_arrival, with_datagram, with_moment, with_refused, with_send}
+use Rattle.rtcp_serve.specs.Serving.{IsReader, Reader, Stage, act_in, resting, beginning, hearing, deciding, sending, ended, SessionState, rested, going, ReadsClock, Hears, Sends, Fits, at_stage, with_turns, paused, turn_by, turn_or, after_turns, gone_on, left_with, event_at, after_port, came_with, heard_at, after_clock, after_sending, after_call, after_calls, AllFit, at_the_start_of, stage_to_send, ticked_with, ticked_now, with_tally}
+use Rattle.rtcp_serve.specs.Sessions.{Closes, EndsAs, EndsTurns, HasTurn, Holds, IsLeaveDue, Moves, Kept, Run, RunsCutOf, RunsSession, Turns, Walks, keeps_served, led_to, next_at, run_of, turns_of, turns_with}
 
 -- ---- Logs
 
@@ -210,21 +209,21 @@ going_under_way : (reader : Reader) (total : ℕ) (s : SessionState) (stage : St
     going reader total s ≡ s
 going_under_way reader total s stage is under_way = goes_on _ s s.stage (subst IsUnderWay (sym is) under_way)
 
-pub either_way : (next : Stage) (answer : AnswerValue) → led_to next next answer ≡ next
+pub either_way : (next : Stage) (answer : GuardedAnswer) → led_to next next answer ≡ next
 either_way next (Ok step) = refl
 either_way next (Err refusal) = refl
 
-pub led_as : (next refused : Stage) (answer : Result Step Refusal) →
-    led_to next refused (answer_value answer) ≡ (if is_ok answer then next else refused)
+pub led_as : (next refused : Stage) (answer : Result Step Untaken) →
+    led_to next refused (guarded_value answer) ≡ (if is_ok answer then next else refused)
 led_as next refused (Ok step) = refl
 led_as next refused (Err refusal) = refl
 
 -- ---- Turns
 
 -- The participant is told an event, and answers it: where that leads, with these words and counts.
-abbrev pub told_as : Reader → EventValue → AnswerValue → Stream → Tally → Stage → SessionState → SessionState
+abbrev pub told_as : Reader → EventValue → GuardedAnswer → Stream → Tally → Stage → SessionState → SessionState
 told_as reader event answer words tally stage s = record {
-  history = followed_by s.history (act_in reader event);
+  history = followed_for s.history (act_in reader event);
   notices = event_told (telling event answer) ∷ s.notices;
   words = words;
   tally = tally;
@@ -236,11 +235,11 @@ told_as reader event answer words tally stage s = record {
 
 -- The clock is read, and the participant told that time has passed.
 pub tick_told : {O : Type 0} {takes : Notice → O → O → Type 0} (run : Run O) (moment : ℕ) (s : SessionState)
-    (before : Kept O) (mid rest : Stream) (first second : ℕ) (counted told : Tally) (answer : AnswerValue)
+    (before : Kept O) (mid rest : Stream) (first second : ℕ) (counted told : Tally) (answer : GuardedAnswer)
     (y : LinkValue) → Holds takes run s before counted → s.stage ≡ deciding
     → WereCalled (clock_read moment ∷ []) before.link y → told ≡ with_moment moment counted
     → (first, mid) ≡ next_u32 before.words → (second, rest) ≡ next_u32 mid
-    → answer ≡ answer_of s.history (ticked told.moment first second)
+    → answer ≡ answer_for s.history (ticked told.moment first second)
     → Moves run (clock_read moment ∷ []) s (told_as run.reader (time_passed told.moment first second) answer rest told
     (stage_to_send resting resting answer) s) before.link y
 tick_told run moment s before mid rest first second counted told answer y holds is called counts one two answers =
@@ -251,7 +250,7 @@ tick_told run moment s before mid rest first second counted told answer y holds 
     (going_under_way reader run.total s deciding is (tt {0})) fits called in
     let drawn : next_u32 s.words ≡ (first, mid) = ap next_u32 (sym holds.words) ∙ sym one in
     let u : Tally → SessionState = λ tally. with_tally tally s in
-    let given = answer_of s.history (ticked told.moment first second) in
+    let given = answer_for s.history (ticked told.moment first second) in
     let ticks : told_as reader event given rest told (stage_to_send resting resting given) s
     ≡ ticked_now reader (with_tally (with_moment moment s.tally) s) =
     ap (λ q. ticked_with reader (first, mid) q (u told)) two
@@ -298,11 +297,11 @@ turn_clocked {takes = takes} run left moment s kept counted told y holds has cal
 -- A datagram came, a word is drawn, and the participant is told.
 pub datagram_told : {O : Type 0} {takes : Notice → O → O → Type 0} (run : Run O) (port : Port) (peer : ℕ)
     (octets given : List ℕ) (s : SessionState) (before : Kept O) (rest : Stream) (word : ℕ)
-    (counted mid told : Tally) (event : EventValue) (answer : AnswerValue) (y : LinkValue)
+    (counted mid told : Tally) (event : EventValue) (answer : GuardedAnswer) (y : LinkValue)
     → Holds takes run s before counted → s.stage ≡ hearing port → octets ≡ given
     → WereCalled (port_heard port 20000 (datagram peer given) ∷ []) before.link y
     → (word, rest) ≡ next_u32 before.words → mid ≡ with_datagram counted → told ≡ with_arrival answer mid
-    → event ≡ event_at port mid.moment peer word octets → answer ≡ answer_of s.history (act_in run.reader event)
+    → event ≡ event_at port mid.moment peer word octets → answer ≡ answer_for s.history (act_in run.reader event)
     → Moves run (port_heard port 20000 (datagram peer given) ∷ []) s (told_as run.reader event answer rest told
     (stage_to_send (after_port port) (after_port port) answer) s) before.link y
 datagram_told run port peer octets given s before rest word counted mid told event answer y holds is named called drawn
@@ -310,10 +309,10 @@ datagram_told run port peer octets given s before rest word counted mid told eve
     let next = after_port port in
     let reader = run.reader in
     let event_by : Tally → EventValue = λ c. event_at port c.moment peer word octets in
-    let told_by : EventValue → AnswerValue → Tally → SessionState =
+    let told_by : EventValue → GuardedAnswer → Tally → SessionState =
     λ e a c. told_as reader e a rest c (stage_to_send next next a) s in
     let answered : EventValue → Tally → SessionState =
-    λ e c. let a = answer_of s.history (act_in reader e) in told_by e a (with_arrival a c) in
+    λ e c. let a = answer_for s.history (act_in reader e) in told_by e a (with_arrival a c) in
     let came : Tally → ℕ × Stream → SessionState =
     λ c. λ p. came_with reader (λ w. event_at port c.moment peer w octets) next p (with_tally c s) in
     let there = ap (told_by event answer) tells ∙ ap (λ a. told_by event a (with_arrival a mid)) answers
@@ -343,7 +342,7 @@ sent_over {takes = takes} run next changed out octets failed lost s before after
     let moves = subst (λ t. Moves run (compound_sent octets failed ∷ []) s t before.link after.link)
     (ap (λ stage. after_sending failed stage s) is) sends in
     walks_after moves (walks_nowhere takes run t after told _ (record {
-      participant = subst (λ p. StandsAt p s.history) (sym same) holds.participant;
+      participant = subst (λ p. StandsServed p s.history) (sym same) holds.participant;
       words = alike ∙ holds.words;
       tally = counts ∙ ap (λ b. with_send out.kind changed b counted) fails
           ∙ ap (with_send out.kind changed failed) holds.tally;
@@ -450,13 +449,13 @@ leave_comes reader total s due = rests_at reader total s due.resting
 
 -- A word is drawn, and the participant told to leave. The observer is told that, and what it hands out is sent.
 pub leave_told : {O : Type 0} {takes : Notice → O → O → Type 0} (run : Run O) (s : SessionState)
-    (before after : Kept O) (participant : ParticipantValue) (rest : Stream) (word : ℕ) (counted told : Tally)
-    (answer : AnswerValue) (at : SessionState → Type 0) → Holds takes run s before counted → IsLeaveDue s
-    → (word, rest) ≡ next_u32 before.words → answer ≡ answer_of s.history (asked_to_leave counted.moment word)
-    → StandsAt participant (followed_by s.history (asked_to_leave counted.moment word))
+    (before after : Kept O) (participant : ServedValue) (rest : Stream) (word : ℕ) (counted told : Tally)
+    (answer : GuardedAnswer) (at : SessionState → Type 0) → Holds takes run s before counted → IsLeaveDue s
+    → (word, rest) ≡ next_u32 before.words → answer ≡ answer_for s.history (asked_to_leave counted.moment word)
+    → StandsServed participant (followed_for s.history (asked_to_leave counted.moment word))
     → ((t : SessionState) → ((observer : O)
     → takes (event_told (telling (leave_asked counted.moment word) answer)) before.observer observer
-    → Holds takes run t (keeps before.link participant rest observer) counted)
+    → Holds takes run t (keeps_served before.link participant rest observer) counted)
     → t.stage ≡ stage_to_send resting (ended Done) answer
     → Walks takes run t before.link after told at (turns_of t))
     → (u : SessionState) × (going run.reader run.total s ≡ going run.reader run.total u)
@@ -557,27 +556,27 @@ pub uncut : (most made : ℕ) → IsCut (Some false) most made → made ≡ most
 uncut most made cut = never_cut most made cut.whole
 
 -- A session that no ending ends is one of all turns.
-pub runs_whole : {O : Type 0} {takes : Notice → O → O → Type 0} {reader : Reader} {start : O} {history : History}
+pub runs_whole : {O : Type 0} {takes : Notice → O → O → Type 0} {reader : Reader} {start : O} {history : Served}
     {words : Stream} {before : LinkValue} {after : Kept O} {result : End} (most turns made further : ℕ) → most ≡ turns
     → IsCut (Some false) most made → IsCut (Some false) most further
-    → RunsSession takes (run_of reader further start) (at_the_start history words made) before after result
-    → RunsSession takes (run_of reader turns start) (at_the_start history words turns) before after result
+    → RunsSession takes (run_of reader further start) (at_the_start_of history words made) before after result
+    → RunsSession takes (run_of reader turns start) (at_the_start_of history words turns) before after result
 runs_whole {takes = takes} {reader = reader} {start = start} {history = history} {words = words} {before = before}
     {after = after} {result = result} most turns made further same leaves waits runs =
-    subst (λ n. RunsSession takes (run_of reader n start) (at_the_start history words turns) before after result)
+    subst (λ n. RunsSession takes (run_of reader n start) (at_the_start_of history words turns) before after result)
     (uncut most further waits ∙ same)
-    (subst (λ n. RunsSession takes (run_of reader further start) (at_the_start history words n) before after result)
+    (subst (λ n. RunsSession takes (run_of reader further start) (at_the_start_of history words n) before after result)
     (uncut most made leaves ∙ same) runs)
 
 -- A session that may be ended, by its last part, which is the whole of it.
-pub runs_cut : {O : Type 0} {takes : Notice → O → O → Type 0} {reader : Reader} {history : History}
+pub runs_cut : {O : Type 0} {takes : Notice → O → O → Type 0} {reader : Reader} {history : Served}
     {before after : Kept O} {counted : Tally} {at : SessionState → Type 0} {pauses : List Pause}
     (known : Bool → ℕ → Option Bool) (most made further left_at : ℕ)
-    (closed : Closes takes (run_of reader further before.observer) (at_the_start history before.words made) before.link
+    (closed : Closes takes (run_of reader further before.observer) (at_the_start_of history before.words made) before.link
     after counted at pauses) (cause : Cause) (result : End) → closed.reached.stage ≡ ended cause
     → result ≡ end_of cause counted → IsCut (known false left_at) most made → left_at ≤ counted.moment
     → IsCut (known true counted.moment) most further → AreHeeded known most made pauses
-    → RunsCut takes reader known most history before after result
+    → RunsCutOf takes reader known most history before after result
 unfolding runs_as
 runs_cut {counted = counted} known most made further left_at closed cause result ends is leaves left_by waits heeded =
     let moment = ap (λ (t : Tally). t.moment) closed.holds.tally in
@@ -665,14 +664,14 @@ limit_room : (limit : Bool) (more : ℕ) (tally : Tally) (link : LinkValue) → 
 limit_room true more tally link one_more room = room
 limit_room false more tally link one_more room = search rules
 
-arrival_room : (answer : AnswerValue) (more : ℕ) (tally : Tally) (link : LinkValue) →
+arrival_room : (answer : GuardedAnswer) (more : ℕ) (tally : Tally) (link : LinkValue) →
     tally.refused + 1 + more < 2 ^ 64 → HasRoom more tally link
     → HasRoom more (with_arrival answer tally) link
 arrival_room (Ok step) more tally link one_more room = room
-arrival_room (Err refusal) more tally link one_more room = limit_room (is_limit refusal) more tally link one_more room
+arrival_room (Err refusal) more tally link one_more room = limit_room (ends_session refusal) more tally link one_more room
 
 -- The room that is left once a datagram was counted, and the answer to it.
-pub datagram_room : (more : ℕ) (port : Port) (wait peer : ℕ) (octets : List ℕ) (answer : AnswerValue)
+pub datagram_room : (more : ℕ) (port : Port) (wait peer : ℕ) (octets : List ℕ) (answer : GuardedAnswer)
     (counted mid told : Tally) (x y : LinkValue)
     → HasRoom (more + 2) counted x → mid ≡ with_datagram counted → told ≡ with_arrival answer mid
     → WereCalled (port_heard port wait (datagram peer octets) ∷ []) x y → HasRoom (more + 1) told y

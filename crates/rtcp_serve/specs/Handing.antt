@@ -2,9 +2,9 @@
 -- newest first.
 use Rattle.std.specs.Prelude.{ℕ, Bool, List, [], ◌∷◌, ◌++◌, Option, Some, None, Ok, Err}
 use Rattle.rtcp_engine.specs.answers.Acts.{Act}
-use Rattle.rtcp_engine.specs.answers.Histories.{History}
-use Rattle.rtcp_engine.specs.answers.Steps.{OutValue, AnswerValue}
-use Rattle.rtcp_engine.specs.answers.Answers.{answer_of, followed_by}
+use Rattle.rtcp_engine.specs.answers.Steps.{OutValue}
+use Rattle.rtcp_guarded.specs.Guarded.{GuardedAnswer}
+use Rattle.rtcp_serve.specs.Served.{Served, answer_for, followed_for}
 use Rattle.rtcp_serve.specs.Links.{Call, compound_sent}
 use Rattle.rtcp_serve.specs.Observers.{Notice, event_told, send_tried}
 use Rattle.rtcp_serve.specs.Serving.{Reader, act_in}
@@ -14,19 +14,19 @@ abbrev pub octets_of : Option OutValue → List (List ℕ)
 octets_of None = []
 octets_of (Some out) = out.octets ∷ []
 
-abbrev pub handed_by : AnswerValue → List (List ℕ)
+abbrev pub handed_by : GuardedAnswer → List (List ℕ)
 handed_by (Ok step) = octets_of step.out
-handed_by (Err refusal) = []
+handed_by (Err untaken) = []
 
 -- the history after acts that a participant was told, those that it refused among them
-abbrev pub history_after : History → List Act → History
+abbrev pub history_after : Served → List Act → Served
 history_after start [] = start
-history_after start (act ∷ earlier) = followed_by (history_after start earlier) act
+history_after start (act ∷ earlier) = followed_for (history_after start earlier) act
 
 -- all compounds that it handed out
-abbrev pub handed_out : History → List Act → List (List ℕ)
+abbrev pub handed_out : Served → List Act → List (List ℕ)
 handed_out start [] = []
-handed_out start (act ∷ earlier) = handed_by (answer_of (history_after start earlier) act) ++ handed_out start earlier
+handed_out start (act ∷ earlier) = handed_by (answer_for (history_after start earlier) act) ++ handed_out start earlier
 
 -- all compounds that a link was given to send
 abbrev pub given : Call → List (List ℕ)
@@ -46,7 +46,7 @@ acts_in reader (event_told one ∷ earlier) = act_in reader one.event ∷ acts_i
 acts_in reader (send_tried failed ∷ earlier) = acts_in reader earlier
 
 -- the answers to all these
-abbrev pub answers_in : List Notice → List AnswerValue
+abbrev pub answers_in : List Notice → List GuardedAnswer
 answers_in [] = []
 answers_in (event_told one ∷ earlier) = one.answer ∷ answers_in earlier
 answers_in (send_tried failed ∷ earlier) = answers_in earlier
@@ -64,6 +64,6 @@ sends_of (compound_sent octets failed ∷ earlier) = failed ∷ sends_of earlier
 sends_of (call ∷ earlier) = sends_of earlier
 
 -- the answers to acts, each after those before it
-abbrev pub answers_given : History → List Act → List AnswerValue
+abbrev pub answers_given : Served → List Act → List GuardedAnswer
 answers_given start [] = []
-answers_given start (act ∷ earlier) = answer_of (history_after start earlier) act ∷ answers_given start earlier
+answers_given start (act ∷ earlier) = answer_for (history_after start earlier) act ∷ answers_given start earlier

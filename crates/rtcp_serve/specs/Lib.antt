@@ -1,4 +1,5 @@
 pub mod Links
+pub mod Served
 pub mod Observers
 pub mod Endings
 pub mod Tallies

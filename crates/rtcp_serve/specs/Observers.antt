@@ -1,18 +1,18 @@
 -- What watches a session is told. Lists of notices are newest first.
 use Rattle.std.specs.Prelude.{◌≡◌, Bool, Option, Some, None, List, [], ◌∷◌}
 use Rattle.rtcp_engine.specs.answers.Acts.{EventValue}
-use Rattle.rtcp_engine.specs.answers.Steps.{AnswerValue}
+use Rattle.rtcp_guarded.specs.Guarded.{GuardedAnswer}
 
 -- an event that the participant was told, with its answer
 pub record Telling : Type 0 where
   pub event : EventValue
-  pub answer : AnswerValue
+  pub answer : GuardedAnswer
 
-abbrev pub telling : EventValue → AnswerValue → Telling
+abbrev pub telling : EventValue → GuardedAnswer → Telling
 telling event answer = record { event = event; answer = answer }
 
 pub data Notice : Type 0 where
-  -- the participant was told an event, refused or not, with its answer
+  -- the participant was told an event, refused or held back or not, with the answer
   event_told : Telling → Notice
   -- the link was asked to send a compound, which failed or not
   send_tried : (failed : Bool) → Notice

@@ -7,16 +7,16 @@ use Rattle.rtcp_wire.specs.declared.rtp.fault.RtpFault.{RtpFault}
 use Rattle.rtcp_wire.specs.Values.{RtcpPacket}
 use Rattle.rtcp_wire.specs.RtpHeads.{RtpValue}
 use Rattle.rtcp_engine.specs.answers.Acts.{Act, rtcp_came, rtp_came, rtp_sent, ticked, left, configured, forgotten, IsReading, IsRtpReading, EventValue, rtcp_arrived, rtp_arrived, packet_sent, time_passed, leave_asked, settings_given, forget_asked}
-use Rattle.rtcp_engine.specs.answers.Histories.{History, life_at}
-use Rattle.rtcp_engine.specs.answers.Lives.{next_in_life}
-use Rattle.rtcp_engine.specs.answers.Steps.{OutValue, AnswerValue}
-use Rattle.rtcp_engine.specs.answers.Answers.{answer_of, followed_by}
+use Rattle.rtcp_engine.specs.answers.Histories.{History}
+use Rattle.rtcp_engine.specs.answers.Steps.{OutValue}
+use Rattle.rtcp_guarded.specs.Guarded.{GuardedAnswer}
+use Rattle.rtcp_serve.specs.Served.{Served, alone, answer_for, followed_for, next_for}
 use Rattle.rtcp_serve.specs.declared.link.Port.{Port}
 use Rattle.rtcp_serve.specs.declared.link.Port.TheVariants.{Rtcp as RtcpPort, Rtp as RtpPort}
 use Rattle.rtcp_serve.specs.declared.serving.Cause.{Cause}
 use Rattle.rtcp_serve.specs.declared.serving.Cause.TheVariants.{Done, LinkDown, Limit}
 use Rattle.rtcp_serve.specs.declared.serving.tally.Tally.{Tally}
-use Rattle.rtcp_serve.specs.Tallies.{is_limit, no_calls, with_arrival, with_datagram, with_failed_receive, with_moment, with_send, with_silence}
+use Rattle.rtcp_serve.specs.Tallies.{ends_session, no_calls, with_arrival, with_datagram, with_failed_receive, with_moment, with_send, with_silence}
 use Rattle.rtcp_serve.specs.Endings.{Pause, pause}
 use Rattle.rtcp_serve.specs.Links.{Heard, datagram, silence, failure, Call, clock_read, port_heard, compound_sent}
 use Rattle.rtcp_serve.specs.Observers.{Notice, event_told, send_tried, telling}
@@ -61,8 +61,8 @@ pub data Stage : Type 0 where
   ended : Cause → Stage
 
 pub record SessionState : Type 0 where
-  -- the acts that the participant took
-  pub history : History
+  -- what the participant was told, alone or with its guard
+  pub history : Served
   -- what its observer was told in this session: all events with their answers, refused ones too, and the sends
   pub notices : List Notice
   -- the random words that are left
@@ -101,8 +101,8 @@ noticed notice s = record s { notices = notice ∷ s.notices }
 abbrev pub told_event : Reader → EventValue → SessionState → SessionState
 told_event reader event s = let act = act_in reader event in
     record s {
-      history = followed_by s.history act;
-      notices = event_told (telling event (answer_of s.history act)) ∷ s.notices;
+      history = followed_for s.history act;
+      notices = event_told (telling event (answer_for s.history act)) ∷ s.notices;
     }
 
 -- ---- Answers
@@ -113,14 +113,14 @@ stage_after_step next changed (Some out) = sending out changed next
 
 -- The compound that an answer hands out goes out first, and then comes `next`. A limit ends the session, and another
 -- refusal leads to `refused`.
-abbrev pub stage_to_send : (next refused : Stage) → AnswerValue → Stage
+abbrev pub stage_to_send : (next refused : Stage) → GuardedAnswer → Stage
 stage_to_send next refused (Ok step) = stage_after_step next step.changed step.out
-stage_to_send next refused (Err refusal) = if is_limit refusal then ended Limit else refused
+stage_to_send next refused (Err untaken) = if ends_session untaken then ended Limit else refused
 
 -- ---- Arrivals
 
 abbrev pub arrived : Reader → (next : Stage) → EventValue → SessionState → SessionState
-arrived reader next event s = let answer = answer_of s.history (act_in reader event) in
+arrived reader next event s = let answer = answer_for s.history (act_in reader event) in
     at_stage (stage_to_send next next answer) (with_tally (with_arrival answer s.tally) (told_event reader event s))
 
 -- A word is drawn for a datagram, and the participant is told that it came.
@@ -152,7 +152,7 @@ heard_at reader port failure s =
 
 abbrev pub asked : Reader → (refused : Stage) → EventValue → SessionState → SessionState
 asked reader refused event s =
-    at_stage (stage_to_send resting refused (answer_of s.history (act_in reader event))) (told_event reader event s)
+    at_stage (stage_to_send resting refused (answer_for s.history (act_in reader event))) (told_event reader event s)
 
 -- Two words are drawn, and the participant is told that time has passed.
 abbrev pub ticked_with : Reader → (first second : ℕ × Stream) → SessionState → SessionState
@@ -178,7 +178,7 @@ turn_by (Some moment) zero otherwise s = otherwise
 turn_by (Some moment) (suc turns) otherwise s = at_stage beginning (with_turns turns s.leaving (paused false s))
 
 abbrev pub turn_or : (otherwise s : SessionState) → SessionState
-turn_or otherwise s = turn_by (next_in_life (life_at s.history)) s.turns otherwise s
+turn_or otherwise s = turn_by (next_for s.history) s.turns otherwise s
 
 -- where nothing is under way, what comes then
 abbrev pub rested : (next : SessionState) → Stage → SessionState → SessionState
@@ -251,8 +251,8 @@ AllFit reader total s (call ∷ earlier) =
     AllFit reader total s earlier × Fits call (going reader total (after_calls reader total s earlier)).stage
 
 -- where a session stands before its first call
-abbrev pub at_the_start : History → Stream → (turns : ℕ) → SessionState
-at_the_start history words turns = record {
+abbrev pub at_the_start_of : Served → Stream → (turns : ℕ) → SessionState
+at_the_start_of history words turns = record {
   history = history;
   notices = [];
   words = words;
@@ -262,3 +262,7 @@ at_the_start history words turns = record {
   pauses = [];
   stage = resting;
 }
+
+-- that of a participant alone
+abbrev pub at_the_start : History → Stream → (turns : ℕ) → SessionState
+at_the_start history words turns = at_the_start_of (alone history) words turns

@@ -1,10 +1,9 @@
 -- How far a session over a link has come, and what is kept of it.
 use Rattle.std.specs.Prelude.{◌≡◌, ◌≤◌, ℕ, suc, ◌⊎◌, IsTrue, is_some, Bool, true, false, List, Option, None, Result, Ok, Err}
 use Rattle.rand_core.specs.Stream.{Stream}
-use Rattle.rtcp_engine.specs.answers.Histories.{History, life_at}
-use Rattle.rtcp_engine.specs.answers.Lives.{next_in_life}
-use Rattle.rtcp_engine.specs.state.States.{ParticipantValue, StandsAt}
-use Rattle.rtcp_engine.specs.answers.Steps.{AnswerValue}
+use Rattle.rtcp_engine.specs.answers.Histories.{History}
+use Rattle.rtcp_engine.specs.state.States.{ParticipantValue}
+use Rattle.rtcp_guarded.specs.Guarded.{GuardedAnswer}
 use Rattle.rtcp_serve.specs.declared.serving.End.{End}
 use Rattle.rtcp_serve.specs.declared.serving.Cause.{Cause}
 use Rattle.rtcp_serve.specs.declared.serving.Cause.TheVariants.{Done}
@@ -13,21 +12,26 @@ use Rattle.rtcp_serve.specs.Tallies.{end_of}
 use Rattle.rtcp_serve.specs.Endings.{Pause, IsCut, AreHeeded}
 use Rattle.rtcp_serve.specs.Links.{Call, LinkValue, WereCalled}
 use Rattle.rtcp_serve.specs.Observers.{Notice, TakesAll}
-use Rattle.rtcp_serve.specs.Serving.{Reader, Stage, resting, ended, SessionState, going, after_calls, AllFit, at_the_start}
+use Rattle.rtcp_serve.specs.Served.{Served, ServedValue, StandsServed, alone, by_itself, next_for}
+use Rattle.rtcp_serve.specs.Serving.{Reader, Stage, resting, ended, SessionState, going, after_calls, AllFit, at_the_start_of}
 
 -- ---- What is kept
 
 -- what is kept of a session at some point of it
 pub record Kept (O : Type 0) : Type 0 where
   pub link : LinkValue
-  pub participant : ParticipantValue
+  pub participant : ServedValue
   -- the random words that are left
   pub words : Stream
   pub observer : O
 
-abbrev pub keeps : {O : Type 0} → LinkValue → ParticipantValue → Stream → O → Kept O
-keeps link participant words observer =
+abbrev pub keeps_served : {O : Type 0} → LinkValue → ServedValue → Stream → O → Kept O
+keeps_served link participant words observer =
     record { link = link; participant = participant; words = words; observer = observer }
+
+-- that of a participant alone
+abbrev pub keeps : {O : Type 0} → LinkValue → ParticipantValue → Stream → O → Kept O
+keeps link participant words observer = keeps_served link (by_itself participant) words observer
 
 -- what a session is of: how datagrams are read, how many turns are made after the leave, and its observer at the start
 pub record Run (O : Type 0) : Type 0 where
@@ -42,7 +46,7 @@ run_of reader total start = record { reader = reader; total = total; start = sta
 pub record Holds
     {O : Type 0} (takes : Notice → O → O → Type 0) (run : Run O) (s : SessionState) (kept : Kept O) (counted : Tally)
     : Type 0 where
-  pub participant : StandsAt kept.participant s.history
+  pub participant : StandsServed kept.participant s.history
   pub words : kept.words ≡ s.words
   pub tally : counted ≡ s.tally
   pub told : TakesAll takes s.notices run.start kept.observer
@@ -67,13 +71,13 @@ Reaches next (Ok done) s = s.stage ≡ next
 Reaches next (Err cause) s = s.stage ≡ ended cause
 
 -- the stage that an answer leads to, where it met no limit and what it handed out was sent
-abbrev pub led_to : (next refused : Stage) → AnswerValue → Stage
+abbrev pub led_to : (next refused : Stage) → GuardedAnswer → Stage
 led_to next refused (Ok step) = next
-led_to next refused (Err refusal) = refused
+led_to next refused (Err untaken) = refused
 
 -- when the participant is to be asked next, unless it has left
 abbrev pub next_at : SessionState → Option ℕ
-next_at s = next_in_life (life_at s.history)
+next_at s = next_for s.history
 
 -- A turn comes next, and so many are left after it.
 pub record HasTurn (left : ℕ) (s : SessionState) : Type 0 where
@@ -157,12 +161,12 @@ pub record RunsSession
 -- A session over a link whose turns may be ended, before the leave and after it: it is one of the turns that were
 -- made before the leave, and of so many at most after it. Its ending is heeded in each pause, and at the end of the
 -- turns after the leave.
-pub record RunsCut
+pub record RunsCutOf
     {O : Type 0} (takes : Notice → O → O → Type 0) (reader : Reader) (known : Bool → ℕ → Option Bool) (most : ℕ)
-    (history : History) (before after : Kept O) (result : End) : Type 0 where
+    (history : Served) (before after : Kept O) (result : End) : Type 0 where
   pub made : ℕ
   pub further : ℕ
-  pub runs : RunsSession takes (run_of reader further before.observer) (at_the_start history before.words made)
+  pub runs : RunsSession takes (run_of reader further before.observer) (at_the_start_of history before.words made)
       before.link
       after result
   pub heeded : AreHeeded known most made runs.reached.pauses
@@ -171,3 +175,9 @@ pub record RunsCut
   pub leaves : IsCut (known false left_at) most made
   pub left_by : left_at ≤ runs.reached.tally.moment
   pub waits : IsCut (known true runs.reached.tally.moment) most further
+
+-- that of a participant alone
+abbrev pub RunsCut : {O : Type 0} → (takes : Notice → O → O → Type 0) → Reader → (known : Bool → ℕ → Option Bool) →
+    (most : ℕ) → History → (before after : Kept O) → End → Type 0
+RunsCut takes reader known most history before after result =
+    RunsCutOf takes reader known most (alone history) before after result

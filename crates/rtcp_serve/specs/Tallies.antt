@@ -5,7 +5,9 @@ use Rattle.rtcp_engine.specs.declared.step.OutKind.TheVariants.{Report, Bye}
 use Rattle.rtcp_engine.specs.declared.refusal.Refusal.{Refusal}
 use Rattle.rtcp_engine.specs.declared.refusal.Refusal.TheVariants.{TooFar, TooMany}
 use Rattle.rtcp_engine.specs.answers.Outcomes.{one_if}
-use Rattle.rtcp_engine.specs.answers.Steps.{AnswerValue}
+use Rattle.rtcp_guarded.specs.Guarded.{GuardedAnswer}
+use Rattle.rtcp_guarded.specs.declared.untaken.Untaken.{Untaken}
+use Rattle.rtcp_guarded.specs.declared.untaken.Untaken.TheVariants.{HeldBack, Refused}
 use Rattle.rtcp_serve.specs.Links.{LinkValue}
 use Rattle.rtcp_serve.specs.declared.serving.Cause.{Cause}
 use Rattle.rtcp_serve.specs.declared.serving.End.{End}
@@ -17,6 +19,11 @@ abbrev pub is_limit : Refusal → Bool
 is_limit TooFar = true
 is_limit TooMany = true
 is_limit refusal = false
+
+-- What a guard holds back is none.
+abbrev pub ends_session : Untaken → Bool
+ends_session (Refused refusal) = is_limit refusal
+ends_session (HeldBack reason) = false
 
 -- ---- Events
 
@@ -49,10 +56,10 @@ with_failed_receive tally =
 abbrev pub with_refused : (refused : ℕ) → Tally → Tally
 with_refused refused tally = record tally { refused = refused }
 
--- an arrival that is refused counts, unless a limit is met
-abbrev pub with_arrival : AnswerValue → Tally → Tally
+-- an arrival that is refused or held back counts, unless a limit is met
+abbrev pub with_arrival : GuardedAnswer → Tally → Tally
 with_arrival (Ok step) tally = tally
-with_arrival (Err refusal) tally = if is_limit refusal then tally else with_refused (tally.refused + 1) tally
+with_arrival (Err untaken) tally = if ends_session untaken then tally else with_refused (tally.refused + 1) tally
 
 -- whether a compound is the BYE of leaving: one that a change of identifier hands out is not
 abbrev pub is_leave_bye : OutKind → (changed : Option ℕ) → Bool

@@ -15,13 +15,15 @@
 //! `Sessions`); `serve_laws` states in plain words what follows.
 #![tactic(auto)]
 
+mod attendant;
 mod ending;
 mod link;
 mod observer;
 pub mod serve_laws;
 mod serving;
 
+pub use attendant::Attendant;
 pub use ending::{Ending, Until};
 pub use link::{Link, LinkFault, Port, Received, endpoint_number};
 pub use observer::Observer;
-pub use serving::{Cause, End, MOST_TURNS, serve, serve_until};
+pub use serving::{Cause, End, MOST_TURNS, serve, serve_guarded_until, serve_until};

@@ -1,9 +1,11 @@
 //! What watches a session.
 
-ghost use Rattle.rtcp_engine.specs.state.Views.{answer_value, event_value};
+ghost use Rattle.rtcp_engine.specs.state.Views.{event_value};
+ghost use Rattle.rtcp_guarded.specs.Views.{guarded_value};
 ghost use Rattle.rtcp_serve.specs.Observers.{Notice, TakesIfSome, event_told, send_tried, telling};
 
-use rtcp_engine::{Answer, Event, Participant};
+use rtcp_engine::{Event, Participant};
+use rtcp_guarded::GuardedAnswer;
 use rtcp_members::MemberTable;
 
 /// What watches a session. It cannot change it. `()` and `None` watch nothing, and of a pair the first is told before
@@ -13,15 +15,15 @@ pub trait Observer {
     /// nothing.
     ghost takes: { Notice → (before after : Self) → Type 0 } = { λ notice before after. Unit {0} };
 
-    /// Is called after each event that the participant was told, refused or not, with its answer and the participant as
-    /// it is then, and before the compound of the answer is sent, if it has one.
+    /// Is called after each event that the participant was told, refused or held back or not, with the answer and the
+    /// participant as it is then, and before the compound of the answer is sent, if it has one.
     fn told<T: MemberTable>(
         &mut self,
         event: &Event<'_>,
-        answer: &Answer,
+        answer: &GuardedAnswer,
         participant: &Participant<T>,
     )
-        ensures { takes (event_told (telling (event_value event.now) (answer_value answer.now))) self.old self.new };
+        ensures { takes (event_told (telling (event_value event.now) (guarded_value answer.now))) self.old self.new };
 
     /// Is called after each compound that the link was asked to send: whether that failed.
     fn sent(&mut self, failed: bool)
@@ -32,7 +34,7 @@ impl Observer for () {
     fn told<T: MemberTable>(
         &mut self,
         _event: &Event<'_>,
-        _answer: &Answer,
+        _answer: &GuardedAnswer,
         _participant: &Participant<T>,
     ) {}
 
@@ -45,7 +47,7 @@ impl<O: Observer> Observer for Option<O> {
     fn told<T: MemberTable>(
         &mut self,
         event: &Event<'_>,
-        answer: &Answer,
+        answer: &GuardedAnswer,
         participant: &Participant<T>,
     ) {
         if let Some(observer) = self {
@@ -66,7 +68,7 @@ impl<A: Observer, B: Observer> Observer for (A, B) {
     fn told<T: MemberTable>(
         &mut self,
         event: &Event<'_>,
-        answer: &Answer,
+        answer: &GuardedAnswer,
         participant: &Participant<T>,
     ) {
         self.0.told(event, answer, participant);

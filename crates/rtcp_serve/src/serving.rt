@@ -3,18 +3,23 @@
 ghost use Rattle.std.specs.Prelude.{◌≡◌, ◌≤◌, ◌<◌, ◌^◌};
 ghost use Rattle.rtcp_engine.specs.answers.Histories.{History};
 ghost use Rattle.rtcp_engine.specs.state.States.{StandsAt};
+ghost use Rattle.rtcp_guarded.specs.Guarded.{GuardedHistory};
+ghost use Rattle.rtcp_guarded.specs.Views.{StandsAt as IsAtGuarded};
 ghost use Rattle.rtcp_serve.specs.Observers.{unwatched};
+ghost use Rattle.rtcp_serve.specs.Served.{Served, StandsServed, behind_guard, guarded};
 ghost use Rattle.rtcp_serve.specs.Serving.{IsReader, Reader, SessionState, at_the_start, ended};
-ghost use Rattle.rtcp_serve.specs.Sessions.{EndsAs, RunsCut, RunsSession, keeps, run_of};
+ghost use Rattle.rtcp_serve.specs.Sessions.{EndsAs, RunsCut, RunsCutOf, RunsSession, keeps, keeps_served, run_of};
 
 mod tally;
 mod turns;
 
+use crate::attendant::Attendant;
 use crate::ending::{Ending, Until};
 use crate::link::Link;
 use crate::observer::Observer;
 use rand_core::Rng;
 use rtcp_engine::Participant;
+use rtcp_guarded::GuardedParticipant;
 use rtcp_members::MemberTable;
 use tally::Tally;
 
@@ -39,8 +44,8 @@ pub struct End {
     pub cause: Cause,
     /// How many datagrams came.
     pub received: u64,
-    /// How many of them the participant refused: not as a compound, by their head, or for naming its own SSRC where
-    /// they could not change it.
+    /// How many of them the participant refused, or its guard held back: not as a compound, by their head, or for naming
+    /// its own SSRC where they could not change it.
     pub refused: u64,
     /// How many compounds were handed to the link, those that it failed to send included.
     pub sent: u64,
@@ -124,6 +129,50 @@ pub fn serve_until<L: Link, T: MemberTable, R: Rng, E: Ending, O: Observer>(
         RunsCut O.takes reader (E.known ending.old) turns history
         (keeps (L.value link.old) participant.old (R.stream rng.old) observer.old)
         (keeps (L.value link.new) participant.new (R.stream rng.new) observer.new) result }
+{
+    serve_attended(link, participant, rng, ending, turns, observer, buf)
+}
+
+/// Runs a participant with a guard before it on a link as [`serve_until`] does. What the guard holds back is told the
+/// observer as what is refused, and counts so.
+pub fn serve_guarded_until<L: Link, T: MemberTable, R: Rng, E: Ending, O: Observer>(
+    link: &mut L,
+    participant: &mut GuardedParticipant<T>,
+    rng: &mut R,
+    ending: &mut E,
+    turns: u64,
+    observer: &mut O,
+    buf: &mut [u8; 65_535],
+) -> End
+    requires turns { turns ≤ 2 ^ 59 }
+    requires receives { (L.value link.old).failed_receives < 2 ^ 63 }
+    requires sends { (L.value link.old).failed_sends < 2 ^ 63 }
+    // As the clause of `serve_until`, over all that the guarded participant was told.
+    ensures serves { (reader : Reader) (history : GuardedHistory) → IsReader reader →
+        IsAtGuarded participant.old history → RunsCutOf O.takes reader (E.known ending.old) turns (guarded history)
+        (keeps_served (L.value link.old) (behind_guard participant.old) (R.stream rng.old) observer.old)
+        (keeps_served (L.value link.new) (behind_guard participant.new) (R.stream rng.new) observer.new) result }
+{
+    serve_attended(link, participant, rng, ending, turns, observer, buf)
+}
+
+/// Runs what takes part in a session on a link, until an ending is met, and then lets it leave.
+fn serve_attended<L: Link, P: Attendant, R: Rng, E: Ending, O: Observer>(
+    link: &mut L,
+    participant: &mut P,
+    rng: &mut R,
+    ending: &mut E,
+    turns: u64,
+    observer: &mut O,
+    buf: &mut [u8; 65_535],
+) -> End
+    requires turns { turns ≤ 2 ^ 59 }
+    requires receives { (L.value link.old).failed_receives < 2 ^ 63 }
+    requires sends { (L.value link.old).failed_sends < 2 ^ 63 }
+    ensures serves { (reader : Reader) (history : Served) → IsReader reader →
+        StandsServed (P.value participant.old) history → RunsCutOf O.takes reader (E.known ending.old) turns history
+        (keeps_served (L.value link.old) (P.value participant.old) (R.stream rng.old) observer.old)
+        (keeps_served (L.value link.new) (P.value participant.new) (R.stream rng.new) observer.new) result }
 {
     let mut tally = Tally::new();
     let returned = turns::session(

@@ -10,6 +10,7 @@ use std::test::*;
 mod draws;
 mod endings;
 mod example;
+mod guarded;
 mod log;
 mod logs;
 mod memory_link;

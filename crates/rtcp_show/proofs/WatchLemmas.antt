@@ -6,7 +6,7 @@ use Rattle.std.proofs.KnownBytes.{Appends-trans}
 use Rattle.std.specs.Io.KnownBytes.{Appends}
 use Rattle.rtcp_engine.specs.answers.Acts.{EventValue}
 use Rattle.rtcp_engine.specs.answers.Histories.{History, setup_at}
-use Rattle.rtcp_engine.specs.answers.Steps.{AnswerValue}
+use Rattle.rtcp_guarded.specs.Guarded.{GuardedAnswer}
 use Rattle.rtcp_wire.specs.Values.{RtcpPacket}
 use Rattle.rtcp_show.specs.declared.board.Board.{Board}
 use Rattle.rtcp_show.specs.declared.page.Page.{Page}
@@ -49,7 +49,7 @@ second_ok P (Err e) b given = tt
 
 -- what an event tells of sources, before the rows are due
 pub record Notes
-    (event : EventValue) (answer : AnswerValue) (history : History) (arrived : ℕ) (before after : Board) : Type 0 where
+    (event : EventValue) (answer : GuardedAnswer) (history : History) (arrived : ℕ) (before after : Board) : Type 0 where
   pub noted : (packets : List RtcpPacket) → HasPackets event answer packets → (ssrc : ℕ) →
       noted_in after.notes ssrc ≡ if_listed (lists history ssrc)
       (noted_after arrived (setup_at history).ssrc packets ssrc)
@@ -89,7 +89,7 @@ looked_then false now history before after stays = stays.looked
 -- ---- The whole
 
 pub watched :
-    {W : Type 0} {contents : W → Option (List ℕ)} (event : EventValue) (answer : AnswerValue) (history : History)
+    {W : Type 0} {contents : W → Option (List ℕ)} (event : EventValue) (answer : GuardedAnswer) (history : History)
     (before after : Printer W) (lined told : Page W) (noted : Board)
     → terms_of after ≡ terms_of before
     → (lines : List ℕ) × ShowsBothBy (shown_in (terms_of before).wording) (terms_of before).to event answer lines

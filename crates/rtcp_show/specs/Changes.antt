@@ -4,7 +4,7 @@ use Rattle.std.specs.List.{flat_map}
 use Rattle.rtcp_engine.specs.answers.Acts.{EventValue, leave_asked, forget_asked}
 use Rattle.rtcp_engine.specs.answers.Histories.{History, life_at, setup_at}
 use Rattle.rtcp_engine.specs.answers.Lives.{WalksInLife}
-use Rattle.rtcp_engine.specs.answers.Steps.{AnswerValue}
+use Rattle.rtcp_guarded.specs.Guarded.{GuardedAnswer}
 use Rattle.rtcp_listing.specs.declared.change.Change.{Change}
 use Rattle.rtcp_listing.specs.declared.change.Role.TheVariants.{Away, Sender}
 use Rattle.rtcp_listing.specs.Differences.{ListedValue, changes, is_gone, is_same, listed_of, rises_from, went_without_bye}
@@ -41,18 +41,18 @@ abbrev pub is_forgetting : EventValue → Bool
 is_forgetting (forget_asked moment ssrc) = true
 is_forgetting event = false
 
-abbrev pub others_changed_in : AnswerValue → Bool
+abbrev pub others_changed_in : GuardedAnswer → Bool
 others_changed_in (Ok step) = step.others_changed
-others_changed_in (Err refusal) = false
+others_changed_in (Err untaken) = false
 
 -- The answer says that others changed their roles, by an event after which the participant still lists them: from a
 -- leave on it lists nobody, though nobody has gone.
-abbrev pub lists_anew : EventValue → AnswerValue → Bool
+abbrev pub lists_anew : EventValue → GuardedAnswer → Bool
 lists_anew event answer = others_changed_in answer && not (is_leave event)
 
 -- Whether lines say who changed. A source that the host forgot has neither timed out nor sent a BYE, and no other
 -- changes with it, so nothing is said of it.
-abbrev pub shows_others : EventValue → AnswerValue → Bool
+abbrev pub shows_others : EventValue → GuardedAnswer → Bool
 shows_others event answer = lists_anew event answer && not (is_forgetting event)
 
 -- ---- What is told

@@ -1,7 +1,7 @@
 -- What is kept of the packets of sources beside their table: where they come from, and how many a second.
 use Rattle.std.specs.Prelude.{◌≡◌, ℕ, ℤ, pos, negsuc, ◌+◌, ◌-◌, ◌*◌, ◌/◌, ◌^◌, Bool, false, List, [], ◌∷◌, max, min, if◌then◌else◌, nat_eq, nat_le, is_some, Option, Some, None, Ok, Err, option_map, unwrap_or}
 use Rattle.rtcp_engine.specs.answers.Acts.{EventValue, rtcp_arrived, rtp_arrived}
-use Rattle.rtcp_engine.specs.answers.Steps.{AnswerValue}
+use Rattle.rtcp_guarded.specs.Guarded.{GuardedAnswer}
 use Rattle.rtcp_members.specs.Listings.{StateValue}
 use Rattle.rtcp_source.specs.Receptions.{ReceptionValue}
 use Rattle.rtcp_wire.specs.RtpHeads.{RtpValue, IsRtpHead}
@@ -29,11 +29,11 @@ peer_of_event (rtp_arrived moment peer word octets) = peer
 peer_of_event event = 0
 
 -- whose RTP packet came with an event, where it was taken (RFC 3550, 5.1)
-abbrev pub IsMedia : (octets : List ℕ) → AnswerValue → (media : Option ℕ) → Type 0
+abbrev pub IsMedia : (octets : List ℕ) → GuardedAnswer → (media : Option ℕ) → Type 0
 IsMedia octets (Ok step) media = (head : RtpValue) × IsRtpHead octets head × (media ≡ Some head.ssrc)
-IsMedia octets (Err refusal) media = media ≡ None
+IsMedia octets (Err untaken) media = media ≡ None
 
-abbrev pub IsMediaOf : EventValue → AnswerValue → (media : Option ℕ) → Type 0
+abbrev pub IsMediaOf : EventValue → GuardedAnswer → (media : Option ℕ) → Type 0
 IsMediaOf (rtp_arrived moment peer word octets) answer media = IsMedia octets answer media
 IsMediaOf event answer media = media ≡ None
 

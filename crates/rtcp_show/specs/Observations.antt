@@ -2,7 +2,7 @@
 use Rattle.std.specs.Prelude.{◌≡◌, ℕ, Bool, List, [], ◌∷◌, ◌++◌, if◌then◌else◌, Option, None}
 use Rattle.rtcp_engine.specs.answers.Acts.{EventValue}
 use Rattle.rtcp_engine.specs.answers.Histories.{History, setup_at}
-use Rattle.rtcp_engine.specs.answers.Steps.{AnswerValue}
+use Rattle.rtcp_guarded.specs.Guarded.{GuardedAnswer}
 use Rattle.rtcp_wire.specs.About.{blocks_about}
 use Rattle.rtcp_wire.specs.Values.{RtcpPacket}
 use Rattle.rtcp_show.specs.declared.flows.Flow.{Flow}
@@ -17,7 +17,7 @@ use Rattle.rtcp_show.specs.Watchers.{arrival_at, flow_by, is_due, looked_of, not
 -- packets of the datagram that was taken, or whose RTP packet was, if one was.
 pub record Observation : Type 0 where
   pub event : EventValue
-  pub answer : AnswerValue
+  pub answer : GuardedAnswer
   pub history : History
   pub packets : List RtcpPacket
   pub media : Option ℕ

@@ -8,7 +8,7 @@ use Rattle.rtcp_members.specs.Listings.{StateValue}
 use Rattle.rtcp_engine.specs.answers.Acts.{EventValue}
 use Rattle.rtcp_engine.specs.answers.Histories.{History, life_at, setup_at}
 use Rattle.rtcp_engine.specs.answers.Lives.{WalksInLife, members_in_life, senders_in_life}
-use Rattle.rtcp_engine.specs.answers.Steps.{AnswerValue}
+use Rattle.rtcp_guarded.specs.Guarded.{GuardedAnswer}
 use Rattle.rtcp_clock.specs.Moments.{ntp_moment}
 use Rattle.rtcp_wire.specs.Values.{RtcpPacket}
 use Rattle.rtcp_text.specs.declared.fault.TextFault.{TextFault}
@@ -134,7 +134,7 @@ is_due_at printer event = is_due (second_of printer) (moment_of_event event)
 
 -- What a printer writes of an event and its answer, and what it keeps, by the participant's history after it: the lines
 -- of both, then those of sources whose roles changed, and then who is there.
-pub record Watches {W : Type 0} (contents : W → Option (List ℕ)) (event : EventValue) (answer : AnswerValue)
+pub record Watches {W : Type 0} (contents : W → Option (List ℕ)) (event : EventValue) (answer : GuardedAnswer)
     (history : History) (before after : Printer W) : Type 0 where
   pub lines : List ℕ
   pub changes : List ℕ

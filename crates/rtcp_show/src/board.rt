@@ -3,7 +3,8 @@
 ghost use Rattle.std.specs.Prelude.{◌≡◌, ◌++◌, [], ℕ, Option, OnOk, true, unwrap_or};
 ghost use Rattle.rtcp_engine.specs.answers.Histories.{History, setup_at};
 ghost use Rattle.rtcp_engine.specs.state.States.{StandsAt};
-ghost use Rattle.rtcp_engine.specs.state.Views.{answer_value, event_value};
+ghost use Rattle.rtcp_engine.specs.state.Views.{event_value};
+ghost use Rattle.rtcp_guarded.specs.Views.{guarded_value};
 ghost use Rattle.rtcp_show.specs.Flows.{IsMediaOf, flow_in, heard_after, no_flow, peer_of_event};
 ghost use Rattle.rtcp_show.specs.Listings.{if_listed, lists};
 ghost use Rattle.rtcp_show.specs.Notes.{noted_after, noted_in, nothing};
@@ -14,7 +15,8 @@ use crate::flows::{Flow, looked_at};
 use crate::notes::Note;
 use crate::numbers::push_moment;
 use crate::rows::push_sources;
-use rtcp_engine::{Answer, Event, Participant};
+use rtcp_engine::{Event, Participant};
+use rtcp_guarded::GuardedAnswer;
 use rtcp_members::MemberTable;
 use rtcp_wire::Compound;
 use std::alloc::{AllocError, Global};
@@ -67,7 +69,7 @@ impl Board {
         &mut self,
         arrived: u32,
         event: &Event<'_>,
-        answer: &Answer,
+        answer: &GuardedAnswer,
         compound: &Option<Compound<'_>>,
         participant: &Participant<T>,
     ) -> Result<(), AllocError>
@@ -76,7 +78,7 @@ impl Board {
             (noted_after arrived (setup_at history).ssrc (unwrap_or compound.now []) ssrc)
             (noted_in self.old.notes ssrc)) }
         ensures flowing { (history : History) (media : Option ℕ) → StandsAt participant.now history →
-            IsMediaOf (event_value event.now) (answer_value answer.now) media →
+            IsMediaOf (event_value event.now) (guarded_value answer.now) media →
             OnOk result ((ssrc : ℕ) → flow_in self.new.flows ssrc ≡ if_listed (lists history ssrc)
             (heard_after (peer_of_event (event_value event.now)) (unwrap_or compound.now []) media ssrc)
             (flow_in self.old.flows ssrc)) }

@@ -7,11 +7,13 @@ ghost use Rattle.rtcp_engine.specs.answers.Lives.{WalksInLife};
 ghost use Rattle.rtcp_engine.specs.state.States.{StandsAt};
 ghost use Rattle.rtcp_listing.specs.Differences.{changes, listed_of, rises_from};
 ghost use Rattle.rtcp_members.specs.ListViews.{state_value};
-ghost use Rattle.rtcp_engine.specs.state.Views.{answer_value, event_value};
+ghost use Rattle.rtcp_engine.specs.state.Views.{event_value};
+ghost use Rattle.rtcp_guarded.specs.Views.{guarded_value};
 ghost use Rattle.rtcp_show.specs.Changes.{KeepsListing, ShowsChanges, change_text, changes_text, is_forgetting, is_leave, line_where, lists_anew, shows_others, shown_changes};
 
 use crate::numbers::push_moment;
-use rtcp_engine::{Answer, Event, Participant};
+use rtcp_engine::{Event, Participant};
+use rtcp_guarded::GuardedAnswer;
 use rtcp_listing::{Change, Changes, is_rising};
 use rtcp_members::{MemberTable, SourceState};
 use rtcp_text::text::digits::push_word;
@@ -63,8 +65,8 @@ impl Roles {
 
 /// Whether the sources are listed anew after an event: its answer says that others changed their roles, and it is no
 /// leave, after which nobody is listed.
-pub(crate) fn lists_anew(event: &Event<'_>, answer: &Answer) -> bool
-    ensures { result ≡ lists_anew (event_value event.now) (answer_value answer.now) }
+pub(crate) fn lists_anew(event: &Event<'_>, answer: &GuardedAnswer) -> bool
+    ensures { result ≡ lists_anew (event_value event.now) (guarded_value answer.now) }
 {
     match answer {
         Ok(step) => step.others_changed && !is_leave(event),
@@ -73,8 +75,8 @@ pub(crate) fn lists_anew(event: &Event<'_>, answer: &Answer) -> bool
 }
 
 /// Whether lines say whose roles changed: not where the host forgot a source.
-pub(crate) fn shows_others(event: &Event<'_>, answer: &Answer) -> bool
-    ensures { result ≡ shows_others (event_value event.now) (answer_value answer.now) }
+pub(crate) fn shows_others(event: &Event<'_>, answer: &GuardedAnswer) -> bool
+    ensures { result ≡ shows_others (event_value event.now) (guarded_value answer.now) }
 {
     lists_anew(event, answer) && !is_forgetting(event)
 }

@@ -3,7 +3,8 @@
 ghost use Rattle.std.specs.Prelude.{◌≡◌, ◌<◌, [], ℕ, Option, OnOk, option_map, unwrap_or};
 ghost use Rattle.rtcp_engine.specs.answers.Histories.{History};
 ghost use Rattle.rtcp_engine.specs.state.States.{StandsAt};
-ghost use Rattle.rtcp_engine.specs.state.Views.{answer_value, event_value};
+ghost use Rattle.rtcp_engine.specs.state.Views.{event_value};
+ghost use Rattle.rtcp_guarded.specs.Views.{guarded_value};
 ghost use Rattle.rtcp_members.specs.ListViews.{state_value};
 ghost use Rattle.rtcp_source.specs.Views.{reception_value};
 ghost use Rattle.rtcp_show.specs.Flows.{IsMedia, IsMediaOf, counted_in, flow_in, heard_after, heard_at, looked_at, loss_of, lost_packets, no_flow, packet_rate_between, peer_at, peer_of_event, reporter_of, with_peer};
@@ -11,7 +12,8 @@ ghost use Rattle.rtcp_show.specs.Listings.{if_listed, lists};
 
 use crate::by_source::BySource;
 use crate::notes::is_listed;
-use rtcp_engine::{Answer, Event, Participant};
+use rtcp_engine::{Event, Participant};
+use rtcp_guarded::GuardedAnswer;
 use rtcp_members::{MemberTable, SourceState};
 use rtcp_serve::Port;
 use rtcp_source::Reception;
@@ -94,12 +96,12 @@ impl BySource<Flow> {
     pub(crate) fn note_peers<T: MemberTable>(
         &mut self,
         event: &Event<'_>,
-        answer: &Answer,
+        answer: &GuardedAnswer,
         compound: &Option<Compound<'_>>,
         participant: &Participant<T>,
     ) -> Result<(), AllocError>
         ensures { (history : History) (media : Option ℕ) → StandsAt participant.now history →
-            IsMediaOf (event_value event.now) (answer_value answer.now) media →
+            IsMediaOf (event_value event.now) (guarded_value answer.now) media →
             OnOk result ((ssrc : ℕ) → flow_in self.new ssrc ≡ if_listed (lists history ssrc)
             (heard_after (peer_of_event (event_value event.now)) (unwrap_or compound.now []) media ssrc)
             (flow_in self.old ssrc)) }
@@ -146,8 +148,8 @@ fn peer_of(event: &Event<'_>) -> u64
 }
 
 /// The source of an RTP packet, where one came and was taken.
-fn media_of(event: &Event<'_>, answer: &Answer) -> Option<u32>
-    ensures { (media : Option ℕ) → IsMediaOf (event_value event.now) (answer_value answer.now) media →
+fn media_of(event: &Event<'_>, answer: &GuardedAnswer) -> Option<u32>
+    ensures { (media : Option ℕ) → IsMediaOf (event_value event.now) (guarded_value answer.now) media →
         result ≡ media }
 {
     match event {
@@ -157,8 +159,8 @@ fn media_of(event: &Event<'_>, answer: &Answer) -> Option<u32>
 }
 
 /// The source of the RTP packet of a datagram, where it was taken.
-fn media_in(bytes: &[u8], answer: &Answer) -> Option<u32>
-    ensures { (media : Option ℕ) → IsMedia bytes.now (answer_value answer.now) media → result ≡ media }
+fn media_in(bytes: &[u8], answer: &GuardedAnswer) -> Option<u32>
+    ensures { (media : Option ℕ) → IsMedia bytes.now (guarded_value answer.now) media → result ≡ media }
 {
     match answer {
         Ok(_) => match RtpHead::read(bytes) {

@@ -3,16 +3,18 @@
 ghost use Rattle.std.specs.Prelude.{◌≡◌, ◌++◌, [], List, ℕ, IfSome, OnOk, option_map, unwrap_or};
 ghost use Rattle.rtcp_wire.specs.Grammar.{IsAccepted};
 ghost use Rattle.rtcp_wire.specs.Values.{RtcpPacket};
-ghost use Rattle.rtcp_engine.specs.state.Views.{answer_value, event_value, out_value, step_value};
+ghost use Rattle.rtcp_engine.specs.state.Views.{event_value, out_value, step_value};
+ghost use Rattle.rtcp_guarded.specs.Views.{guarded_value};
 ghost use Rattle.rtcp_text.specs.Check.{IsAnswerBy};
 ghost use Rattle.rtcp_show.specs.Wordings.{shown_in};
 ghost use Rattle.rtcp_show.specs.Lines.{ArePackets, HasPackets, ReadsAs, ShowsAnswer, ShowsBoth, ShowsBothBy, ShowsEvent, ShowsOut, ShowsRtcp, changed_text, moment_of_event as moment_in, passing_text, rtp_text, told_text, unsent_text};
 
 use crate::numbers::{push_moment, push_peer};
 use crate::wording::{Wording, push_compound, push_octets};
-use rtcp_engine::{Answer, Event, Out, Refusal};
+use rtcp_engine::{Event, Out};
+use rtcp_guarded::GuardedAnswer;
+use rtcp_guarded_text::text::push_untaken;
 use rtcp_text::text::digits::push_word;
-use rtcp_text::text::push_refusal;
 use rtcp_wire::Compound;
 use std::alloc::AllocError;
 
@@ -20,8 +22,8 @@ use std::alloc::AllocError;
 ///
 /// - `0.250000 in 127.0.0.1:5007 ok RR(00000007,[],0)`: an RTCP datagram came, at this moment in seconds, from this
 ///   peer. The rest is what `rtcp check` says of it, or `refused` and why, as `rtcp replay` says it.
-/// - `0.250000 rtp 127.0.0.1:5006 refused E6 Rtp: G1 Short`: an RTP datagram was refused. Those that are taken are not
-///   shown.
+/// - `0.250000 rtp 127.0.0.1:5006 refused E6 Rtp: G1 Short`: an RTP datagram was refused, or held back. Those that are
+///   taken are not shown.
 /// - `0.250000 refused E3 TooFar`: something else was refused, as a tick.
 /// - `0.250000 ssrc=00000007`: the participant changed its SSRC to this one.
 /// - `0.250000 out 127.0.0.1:5007 ok RR(000000aa,[],0)`: a compound went out.
@@ -33,9 +35,9 @@ pub fn push_lines(
     out: &mut Vec<u8>,
     to: u64,
     event: &Event<'_>,
-    answer: &Answer,
+    answer: &GuardedAnswer,
 ) -> Result<(), AllocError>
-    ensures { OnOk result ((text : List ℕ) × ShowsBoth to (event_value event.now) (answer_value answer.now) text
+    ensures { OnOk result ((text : List ℕ) × ShowsBoth to (event_value event.now) (guarded_value answer.now) text
         × (out.new.items ≡ out.old.items ++ text)) }
 {
     push_read_lines(out, Wording::Brief, to, event, answer, &None)
@@ -47,12 +49,12 @@ pub(crate) fn push_read_lines(
     wording: Wording,
     to: u64,
     event: &Event<'_>,
-    answer: &Answer,
+    answer: &GuardedAnswer,
     compound: &Option<Compound<'_>>,
 ) -> Result<(), AllocError>
     requires { IfSome compound.now (ReadsAs (event_value event.now)) }
     ensures { OnOk result ((text : List ℕ)
-        × ShowsBothBy (shown_in wording) to (event_value event.now) (answer_value answer.now) text
+        × ShowsBothBy (shown_in wording) to (event_value event.now) (guarded_value answer.now) text
         × (out.new.items ≡ out.old.items ++ text)) }
 {
     push_event(out, wording, event, answer, compound)?;
@@ -60,10 +62,10 @@ pub(crate) fn push_read_lines(
 }
 
 /// The compound of an event, where it brought a datagram that was taken.
-pub(crate) fn compound_of<'a>(event: &Event<'a>, answer: &Answer) -> Option<Compound<'a>>
+pub(crate) fn compound_of<'a>(event: &Event<'a>, answer: &GuardedAnswer) -> Option<Compound<'a>>
     ensures read { IfSome result (ReadsAs (event_value event.now)) }
     ensures packets { (packets : List RtcpPacket) →
-        HasPackets (event_value event.now) (answer_value answer.now) packets → unwrap_or result [] ≡ packets }
+        HasPackets (event_value event.now) (guarded_value answer.now) packets → unwrap_or result [] ≡ packets }
 {
     match event {
         Event::ArriveRtcp { bytes, .. } => compound_in(bytes, answer),
@@ -77,9 +79,9 @@ pub(crate) fn compound_of<'a>(event: &Event<'a>, answer: &Answer) -> Option<Comp
 }
 
 /// The compound of a datagram, where it was taken.
-fn compound_in<'a>(bytes: &'a [u8], answer: &Answer) -> Option<Compound<'a>>
+fn compound_in<'a>(bytes: &'a [u8], answer: &GuardedAnswer) -> Option<Compound<'a>>
     ensures read { IfSome result (IsAccepted bytes.now) }
-    ensures packets { (packets : List RtcpPacket) → ArePackets bytes.now (answer_value answer.now) packets →
+    ensures packets { (packets : List RtcpPacket) → ArePackets bytes.now (guarded_value answer.now) packets →
         unwrap_or result [] ≡ packets }
 {
     match answer {
@@ -111,12 +113,12 @@ fn push_event(
     out: &mut Vec<u8>,
     wording: Wording,
     event: &Event<'_>,
-    answer: &Answer,
+    answer: &GuardedAnswer,
     compound: &Option<Compound<'_>>,
 ) -> Result<(), AllocError>
     requires { IfSome compound.now (ReadsAs (event_value event.now)) }
     ensures { OnOk result ((text : List ℕ)
-        × ShowsEvent (shown_in wording) (event_value event.now) (answer_value answer.now) text
+        × ShowsEvent (shown_in wording) (event_value event.now) (guarded_value answer.now) text
         × (out.new.items ≡ out.old.items ++ text)) }
 {
     match event {
@@ -142,18 +144,18 @@ fn push_rtcp(
     now: u64,
     peer: u64,
     bytes: &[u8],
-    answer: &Answer,
+    answer: &GuardedAnswer,
     compound: &Option<Compound<'_>>,
 ) -> Result<(), AllocError>
     requires { IfSome compound.now (IsAccepted bytes.now) }
     ensures { OnOk result ((text : List ℕ)
-        × ShowsRtcp (shown_in wording) now peer bytes.now (answer_value answer.now) text
+        × ShowsRtcp (shown_in wording) now peer bytes.now (guarded_value answer.now) text
         × (out.new.items ≡ out.old.items ++ text)) }
 {
     push_passing(out, now, b" in ", peer)?;
     match answer {
         Ok(_) => push_datagram(out, wording, bytes, compound),
-        Err(refusal) => push_refusal(out, refusal),
+        Err(untaken) => push_untaken(out, untaken),
     }
 }
 
@@ -175,28 +177,33 @@ fn push_datagram(
 }
 
 /// Appends the line of an RTP datagram, where it was refused.
-fn push_rtp(out: &mut Vec<u8>, now: u64, peer: u64, answer: &Answer) -> Result<(), AllocError>
-    ensures { OnOk result (out.new.items ≡ out.old.items ++ rtp_text now peer (answer_value answer.now)) }
+fn push_rtp(
+    out: &mut Vec<u8>,
+    now: u64,
+    peer: u64,
+    answer: &GuardedAnswer,
+) -> Result<(), AllocError>
+    ensures { OnOk result (out.new.items ≡ out.old.items ++ rtp_text now peer (guarded_value answer.now)) }
 {
     match answer {
         Ok(_) => Ok(()),
-        Err(refusal) => {
+        Err(untaken) => {
             push_passing(out, now, b" rtp ", peer)?;
-            push_refusal(out, refusal)
+            push_untaken(out, untaken)
         }
     }
 }
 
 /// Appends the line of another call, where it was refused.
-fn push_told(out: &mut Vec<u8>, now: u64, answer: &Answer) -> Result<(), AllocError>
-    ensures { OnOk result (out.new.items ≡ out.old.items ++ told_text now (answer_value answer.now)) }
+fn push_told(out: &mut Vec<u8>, now: u64, answer: &GuardedAnswer) -> Result<(), AllocError>
+    ensures { OnOk result (out.new.items ≡ out.old.items ++ told_text now (guarded_value answer.now)) }
 {
     match answer {
         Ok(_) => Ok(()),
-        Err(refusal) => {
+        Err(untaken) => {
             push_moment(out, now)?;
             out.push(b' ')?;
-            push_refusal(out, refusal)
+            push_untaken(out, untaken)
         }
     }
 }
@@ -207,9 +214,9 @@ fn push_answered(
     wording: Wording,
     now: u64,
     to: u64,
-    answer: &Answer,
+    answer: &GuardedAnswer,
 ) -> Result<(), AllocError>
-    ensures { OnOk result ((text : List ℕ) × ShowsAnswer (shown_in wording) now to (answer_value answer.now) text
+    ensures { OnOk result ((text : List ℕ) × ShowsAnswer (shown_in wording) now to (guarded_value answer.now) text
         × (out.new.items ≡ out.old.items ++ text)) }
 {
     match answer {

@@ -4,7 +4,8 @@ ghost use Rattle.std.specs.Prelude.{◌≡◌, List, ℕ, IfErr, IfSome, OnOk};
 ghost use Rattle.std.specs.Io.KnownBytes.{Appends};
 ghost use Rattle.rtcp_engine.specs.answers.Histories.{History};
 ghost use Rattle.rtcp_engine.specs.state.States.{StandsAt};
-ghost use Rattle.rtcp_engine.specs.state.Views.{answer_value, event_value};
+ghost use Rattle.rtcp_engine.specs.state.Views.{event_value};
+ghost use Rattle.rtcp_guarded.specs.Views.{guarded_value};
 ghost use Rattle.rtcp_show.specs.Changes.{KeepsListing, ShowsChanges, lists_anew, shows_others};
 ghost use Rattle.rtcp_show.specs.Lines.{ReadsAs, ShowsBothBy, moment_of_event, unsent_text};
 ghost use Rattle.rtcp_show.specs.Wordings.{shown_in};
@@ -13,7 +14,8 @@ use crate::board::Board;
 use crate::changes::{Roles, lists_anew, shows_others};
 use crate::lines::{moment_of, push_read_lines, push_unsent};
 use crate::wording::Wording;
-use rtcp_engine::{Answer, Event, Participant};
+use rtcp_engine::{Event, Participant};
+use rtcp_guarded::GuardedAnswer;
 use rtcp_members::MemberTable;
 use rtcp_text::TextFault;
 use rtcp_wire::Compound;
@@ -48,12 +50,12 @@ impl<W: Write> Page<W> {
         wording: Wording,
         to: u64,
         event: &Event<'_>,
-        answer: &Answer,
+        answer: &GuardedAnswer,
         compound: &Option<Compound<'_>>,
     ) -> Result<(), TextFault>
         requires { IfSome compound.now (ReadsAs (event_value event.now)) }
         ensures written { OnOk result ((lines : List ℕ)
-            × ShowsBothBy (shown_in wording) to (event_value event.now) (answer_value answer.now) lines
+            × ShowsBothBy (shown_in wording) to (event_value event.now) (guarded_value answer.now) lines
             × Appends (held_on W.contents self.old) (held_on W.contents self.new) lines) }
         ensures fault { IfErr result IsOutFault }
     {
@@ -69,16 +71,16 @@ impl<W: Write> Page<W> {
         &mut self,
         roles: &mut Roles,
         event: &Event<'_>,
-        answer: &Answer,
+        answer: &GuardedAnswer,
         participant: &Participant<T>,
     ) -> Result<(), TextFault>
         ensures written { (history : History) → StandsAt participant.now history →
             OnOk result ((changes : List ℕ)
-            × ShowsChanges (shows_others (event_value event.now) (answer_value answer.now))
+            × ShowsChanges (shows_others (event_value event.now) (guarded_value answer.now))
             (moment_of_event (event_value event.now)) history (listed_in roles.old) changes
             × Appends (held_on W.contents self.old) (held_on W.contents self.new) changes) }
         ensures keeps { (history : History) → StandsAt participant.now history →
-            OnOk result (KeepsListing (lists_anew (event_value event.now) (answer_value answer.now)) history
+            OnOk result (KeepsListing (lists_anew (event_value event.now) (guarded_value answer.now)) history
             (listed_in roles.old) (listed_in roles.new)) }
         ensures fault { IfErr result IsOutFault }
     {

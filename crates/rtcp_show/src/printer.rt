@@ -4,7 +4,8 @@ ghost use Rattle.std.specs.Prelude.{◌≡◌, [], IfErr, OnOk, is_ok};
 ghost use Rattle.std.specs.Io.KnownBytes.{Appends};
 ghost use Rattle.rtcp_engine.specs.answers.Histories.{History};
 ghost use Rattle.rtcp_engine.specs.state.States.{StandsAt};
-ghost use Rattle.rtcp_engine.specs.state.Views.{answer_value, event_value};
+ghost use Rattle.rtcp_engine.specs.state.Views.{event_value};
+ghost use Rattle.rtcp_guarded.specs.Views.{guarded_value};
 ghost use Rattle.rtcp_serve.specs.Links.{endpoint_number};
 ghost use Rattle.rtcp_show.specs.Watchers.{IsOutFault, arrival_at};
 ghost use Rattle.rtcp_show.specs.Lines.{unsent_text};
@@ -16,7 +17,8 @@ use crate::lines::{compound_of, moment_of};
 use crate::page::Page;
 use crate::wording::Wording;
 use rtcp_clock::ntp_of;
-use rtcp_engine::{Answer, Event, Participant};
+use rtcp_engine::{Event, Participant};
+use rtcp_guarded::GuardedAnswer;
 use rtcp_members::MemberTable;
 use rtcp_serve::endpoint_number;
 use rtcp_text::TextFault;
@@ -110,11 +112,11 @@ impl<W: Write> Printer<W> {
     pub fn print<T: MemberTable>(
         &mut self,
         event: &Event<'_>,
-        answer: &Answer,
+        answer: &GuardedAnswer,
         participant: &Participant<T>,
     ) -> Result<(), TextFault>
         ensures watches { (history : History) → StandsAt participant.now history →
-            OnOk result (Watches W.contents (event_value event.now) (answer_value answer.now) history self.old
+            OnOk result (Watches W.contents (event_value event.now) (guarded_value answer.now) history self.old
             self.new) }
         ensures fault { IfErr result IsOutFault }
         ensures terms { terms_of self.new ≡ terms_of self.old }

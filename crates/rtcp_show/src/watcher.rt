@@ -4,13 +4,15 @@ ghost use Rattle.std.specs.Prelude.{◌≡◌, IsOk, None, Some, false, true};
 ghost use Rattle.std.specs.Io.KnownBytes.{Appends};
 ghost use Rattle.rtcp_engine.specs.answers.Histories.{History};
 ghost use Rattle.rtcp_engine.specs.state.States.{StandsAt};
-ghost use Rattle.rtcp_engine.specs.state.Views.{answer_value, event_value};
+ghost use Rattle.rtcp_engine.specs.state.Views.{event_value};
+ghost use Rattle.rtcp_guarded.specs.Views.{guarded_value};
 ghost use Rattle.rtcp_text.specs.declared.fault.TextFault.{TextFault as Fault};
 ghost use Rattle.rtcp_show.specs.Lines.{moment_of_event as moment_in, unsent_text};
 
 use crate::lines::moment_of;
 use crate::printer::Printer;
-use rtcp_engine::{Answer, Event, Participant};
+use rtcp_engine::{Event, Participant};
+use rtcp_guarded::GuardedAnswer;
 use rtcp_members::MemberTable;
 use rtcp_serve::Observer;
 use rtcp_text::TextFault;
@@ -63,11 +65,11 @@ impl<W: Write> Observer for Watcher<W> {
     fn told<T: MemberTable>(
         &mut self,
         event: &Event<'_>,
-        answer: &Answer,
+        answer: &GuardedAnswer,
         participant: &Participant<T>,
     )
         ensures watches { (history : History) → StandsAt participant.now history → fault_of self.new ≡ None →
-            Watches W.contents (event_value event.now) (answer_value answer.now) history (printer_of self.old)
+            Watches W.contents (event_value event.now) (guarded_value answer.now) history (printer_of self.old)
             (printer_of self.new) }
         ensures moment { moment_told self.new ≡ moment_in (event_value event.now) }
         ensures terms { terms_of (printer_of self.new) ≡ terms_of (printer_of self.old) }

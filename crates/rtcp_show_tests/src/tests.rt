@@ -1,7 +1,8 @@
 //! What is shown of a session.
 
 use arrayvec::ArrayVec;
-use rtcp_engine::{Answer, Config, Out, OutKind, Step};
+use rtcp_engine::{Config, Out, OutKind, Step};
+use rtcp_guarded::GuardedAnswer;
 use std::process::Abort;
 
 mod changes;
@@ -47,7 +48,7 @@ pub(crate) fn config() -> Config {
 }
 
 /// An answer that hands out this compound, if there is one, and has changed the SSRC to this one, if it has.
-pub(crate) fn taken(compound: Option<&[u8]>, changed: Option<u32>) -> Answer {
+pub(crate) fn taken(compound: Option<&[u8]>, changed: Option<u32>) -> GuardedAnswer {
     let out = match compound {
         Some(octets) => {
             let mut bytes = ArrayVec::new();

@@ -1,11 +1,12 @@
 //! What a session over a link counts.
 
 ghost use Rattle.std.specs.Prelude.{◌≡◌, ◌≤◌, ◌<◌, ◌+◌, ◌^◌};
-ghost use Rattle.rtcp_engine.specs.state.Views.{answer_value};
-ghost use Rattle.rtcp_serve.specs.Tallies.{end_of, is_limit, no_calls, with_arrival, with_datagram, with_failed_receive, with_moment, with_send, with_silence, EndsRow};
+ghost use Rattle.rtcp_guarded.specs.Views.{guarded_value};
+ghost use Rattle.rtcp_serve.specs.Tallies.{end_of, ends_session, is_limit, no_calls, with_arrival, with_datagram, with_failed_receive, with_moment, with_send, with_silence, EndsRow};
 
 use crate::serving::{Cause, End};
-use rtcp_engine::{Answer, OutKind, Refusal};
+use rtcp_engine::{OutKind, Refusal};
+use rtcp_guarded::{GuardedAnswer, Untaken};
 
 /// So many failed receives in a row end a session.
 const MOST_FAILURES: u32 = 64;
@@ -88,14 +89,14 @@ impl Tally {
         Ok(())
     }
 
-    /// The participant answered an arrival. A refusal counts, unless it is a limit.
-    pub(crate) fn arrival(&mut self, answer: &Answer)
+    /// An arrival was answered. One that was not taken counts, unless that is a limit.
+    pub(crate) fn arrival(&mut self, answer: &GuardedAnswer)
         requires { self.old.refused + 1 < 2 ^ 64 }
-        ensures moved { self.new ≡ with_arrival (answer_value answer.now) self.old }
+        ensures moved { self.new ≡ with_arrival (guarded_value answer.now) self.old }
         ensures still { self.new.moment ≡ self.old.moment }
     {
-        if let Err(refusal) = answer {
-            if !is_limit(*refusal) {
+        if let Err(untaken) = answer {
+            if !ends_session(*untaken) {
                 self.refused += 1;
             }
         }
@@ -129,8 +130,18 @@ impl Tally {
     }
 }
 
+/// Whether a session ends by what was not taken: a limit does, and nothing that a guard holds back.
+pub(crate) fn ends_session(untaken: Untaken) -> bool
+    ensures { result ≡ ends_session untaken }
+{
+    match untaken {
+        Untaken::Refused(refusal) => is_limit(refusal),
+        Untaken::HeldBack(_) => false,
+    }
+}
+
 /// Whether a refusal ends a session: no later call would be taken either.
-pub(crate) fn is_limit(refusal: Refusal) -> bool
+fn is_limit(refusal: Refusal) -> bool
     ensures { result ≡ is_limit refusal }
 {
     matches!(refusal, Refusal::TooFar | Refusal::TooMany)

@@ -2,32 +2,34 @@
 
 ghost use Rattle.std.specs.Prelude.{◌≡◌, ◌≤◌, ◌<◌, ◌+◌, ◌*◌, ℕ, Bool, true, false, List, [], ◌∷◌, OnOk};
 ghost use Rattle.rand_core.specs.Stream.{Stream, next_u32};
-ghost use Rattle.rtcp_engine.specs.state.States.{ParticipantValue};
-ghost use Rattle.rtcp_engine.specs.state.Views.{answer_value, event_value};
+ghost use Rattle.rtcp_guarded.specs.Views.{guarded_value};
+ghost use Rattle.rtcp_serve.specs.Served.{ServedValue};
+ghost use Rattle.rtcp_engine.specs.state.Views.{event_value};
 ghost use Rattle.rtcp_serve.specs.Endings.{AreHeeded, IsCut, Pause, pause};
 ghost use Rattle.rtcp_serve.specs.Links.{WereCalled, clock_read};
 ghost use Rattle.rtcp_serve.specs.Observers.{event_told, telling};
 ghost use Rattle.rtcp_serve.specs.Serving.{IsReader, Stage, SessionState, after_port, deciding, event_at, hearing, resting, stage_to_send};
-ghost use Rattle.rtcp_serve.specs.Sessions.{Closes, EndsAs, EndsTurns, HasTurn, Holds, IsLeaveDue, Reaches, Run, Walks, keeps, led_to, turns_of, turns_with};
+ghost use Rattle.rtcp_serve.specs.Sessions.{Closes, EndsAs, EndsTurns, HasTurn, Holds, IsLeaveDue, Reaches, Run, Walks, keeps_served, led_to, turns_of, turns_with};
 ghost use Rattle.rtcp_serve.specs.Tallies.{HasRoom, with_moment};
 
+use crate::attendant::Attendant;
 use crate::ending::Ending;
 use crate::link::{Link, Port, Received};
 use crate::observer::Observer;
 use crate::serving::Cause;
-use crate::serving::tally::{Tally, is_limit};
+use crate::serving::tally::{Tally, ends_session};
 use rand_core::Rng;
-use rtcp_engine::{Answer, Event, Participant};
-use rtcp_members::MemberTable;
+use rtcp_engine::Event;
+use rtcp_guarded::GuardedAnswer;
 
 /// How long a port is listened to in a turn, in microseconds.
 const WAIT: u64 = 20_000;
 
 /// Makes a session: turns, then the leave, and as many turns again at most while the participant backs off. The ending
 /// may end either.
-pub(crate) fn session<L: Link, T: MemberTable, R: Rng, O: Observer, E: Ending>(
+pub(crate) fn session<L: Link, P: Attendant, R: Rng, O: Observer, E: Ending>(
     link: &mut L,
-    participant: &mut Participant<T>,
+    participant: &mut P,
     rng: &mut R,
     observer: &mut O,
     tally: &mut Tally,
@@ -40,11 +42,13 @@ pub(crate) fn session<L: Link, T: MemberTable, R: Rng, O: Observer, E: Ending>(
     ensures serves { (made further left_at : ℕ) × IsCut (E.known ending.old false left_at) turns made
         × (left_at ≤ tally.new.moment) × IsCut (E.known ending.old true tally.new.moment) turns further
         × ((run : Run O) (s : SessionState) → IsReader run.reader → run.total ≡ further →
-        Holds O.takes run s (keeps (L.value link.old) participant.old (R.stream rng.old) observer.old) tally.old →
+        Holds O.takes run s (keeps_served (L.value link.old) (P.value participant.old)
+        (R.stream rng.old) observer.old) tally.old →
         s.stage ≡ resting → s.turns ≡ made → s.leaving ≡ false → s.pauses ≡ [] →
         (pauses : List Pause) × AreHeeded (E.known ending.old) turns made pauses
         × Closes O.takes run s (L.value link.old)
-        (keeps (L.value link.new) participant.new (R.stream rng.new) observer.new) tally.new (EndsAs result) pauses) }
+        (keeps_served (L.value link.new) (P.value participant.new) (R.stream rng.new) observer.new)
+        tally.new (EndsAs result) pauses) }
 {
     make_turns(
         link,
@@ -57,7 +61,7 @@ pub(crate) fn session<L: Link, T: MemberTable, R: Rng, O: Observer, E: Ending>(
         turns,
         buf,
     )?;
-    if participant.next().is_none() {
+    if participant.next_tick().is_none() {
         return Ok(());
     }
     leave(link, participant, rng, observer, tally, ending, turns, buf)
@@ -65,9 +69,9 @@ pub(crate) fn session<L: Link, T: MemberTable, R: Rng, O: Observer, E: Ending>(
 
 /// Draws a word, and asks the participant to leave at the greatest moment so far. While it backs off it is given as
 /// many turns again, unless the ending does.
-fn leave<L: Link, T: MemberTable, R: Rng, O: Observer, E: Ending>(
+fn leave<L: Link, P: Attendant, R: Rng, O: Observer, E: Ending>(
     link: &mut L,
-    participant: &mut Participant<T>,
+    participant: &mut P,
     rng: &mut R,
     observer: &mut O,
     tally: &mut Tally,
@@ -79,19 +83,21 @@ fn leave<L: Link, T: MemberTable, R: Rng, O: Observer, E: Ending>(
     requires room { HasRoom (turns * 5 + 1) tally.old (L.value link.old) }
     ensures serves { (further : ℕ) × IsCut (E.known ending.old true tally.new.moment) turns further
         × ((run : Run O) (s : SessionState) → IsReader run.reader → run.total ≡ further →
-        Holds O.takes run s (keeps (L.value link.old) participant.old (R.stream rng.old) observer.old) tally.old →
+        Holds O.takes run s (keeps_served (L.value link.old) (P.value participant.old)
+        (R.stream rng.old) observer.old) tally.old →
         IsLeaveDue s → (pauses : List Pause)
         × ((most before : ℕ) → AreHeeded (E.known ending.old) most before (pause false tally.old.moment true ∷ s.pauses)
         → AreHeeded (E.known ending.old) most before pauses)
         × Closes O.takes run s (L.value link.old)
-        (keeps (L.value link.new) participant.new (R.stream rng.new) observer.new) tally.new (EndsAs result) pauses) }
+        (keeps_served (L.value link.new) (P.value participant.new) (R.stream rng.new) observer.new)
+        tally.new (EndsAs result) pauses) }
     ensures later { tally.old.moment ≤ tally.new.moment }
 {
     let event = Event::Leave {
         now: tally.moment,
         w: rng.next_u32(),
     };
-    let answer = participant.tell(&event);
+    let answer = participant.take(&event);
     let was_taken = answer.is_ok();
     tell(link, observer, tally, &event, answer, participant)?;
     if was_taken {
@@ -112,9 +118,9 @@ fn leave<L: Link, T: MemberTable, R: Rng, O: Observer, E: Ending>(
 }
 
 /// Makes turns, until the participant has left, or the ending ends them.
-fn make_turns<L: Link, T: MemberTable, R: Rng, O: Observer, E: Ending>(
+fn make_turns<L: Link, P: Attendant, R: Rng, O: Observer, E: Ending>(
     link: &mut L,
-    participant: &mut Participant<T>,
+    participant: &mut P,
     rng: &mut R,
     observer: &mut O,
     tally: &mut Tally,
@@ -127,12 +133,14 @@ fn make_turns<L: Link, T: MemberTable, R: Rng, O: Observer, E: Ending>(
     requires room { HasRoom (turns * 5) tally.old (L.value link.old) }
     ensures leads { (made : ℕ) × IsCut (E.known ending.old has_left tally.new.moment) turns made
         × ((run : Run O) (s : SessionState) → IsReader run.reader →
-        Holds O.takes run s (keeps (L.value link.old) participant.old (R.stream rng.old) observer.old) tally.old →
+        Holds O.takes run s (keeps_served (L.value link.old) (P.value participant.old)
+        (R.stream rng.old) observer.old) tally.old →
         s.stage ≡ resting → s.turns ≡ made → s.leaving ≡ has_left → (left : ℕ) × (pauses : List Pause)
         × ((most before : ℕ) → AreHeeded (E.known ending.old) most before s.pauses →
         AreHeeded (E.known ending.old) most before pauses)
         × Walks O.takes run s (L.value link.old)
-        (keeps (L.value link.new) participant.new (R.stream rng.new) observer.new) tally.new (EndsTurns result)
+        (keeps_served (L.value link.new) (P.value participant.new) (R.stream rng.new) observer.new)
+        tally.new (EndsTurns result)
         (turns_with left s.leaving pauses)) }
     ensures row { OnOk result (tally.new.failures < 64) }
     ensures later { tally.old.moment ≤ tally.new.moment }
@@ -141,7 +149,7 @@ fn make_turns<L: Link, T: MemberTable, R: Rng, O: Observer, E: Ending>(
     ensures ending { (left : Bool) (at : ℕ) → E.known ending.new left at ≡ E.known ending.old left at }
 {
     'turns: for _ in 0..turns {
-        if participant.next().is_none() {
+        if participant.next_tick().is_none() {
             return Ok(());
         }
         if ending.is_over(tally.moment, has_left) {
@@ -158,9 +166,9 @@ fn make_turns<L: Link, T: MemberTable, R: Rng, O: Observer, E: Ending>(
 ///
 /// [`Cause::LinkDown`] where the 64th receive in a row failed, and [`Cause::Limit`] where the participant met a
 /// limit.
-fn turn<L: Link, T: MemberTable, R: Rng, O: Observer>(
+fn turn<L: Link, P: Attendant, R: Rng, O: Observer>(
     link: &mut L,
-    participant: &mut Participant<T>,
+    participant: &mut P,
     rng: &mut R,
     observer: &mut O,
     tally: &mut Tally,
@@ -169,9 +177,10 @@ fn turn<L: Link, T: MemberTable, R: Rng, O: Observer>(
     requires row { tally.old.failures < 64 }
     requires room { HasRoom 5 tally.old (L.value link.old) }
     ensures leads { (run : Run O) (left : ℕ) (s : SessionState) → IsReader run.reader →
-        Holds O.takes run s (keeps (L.value link.old) participant.old (R.stream rng.old) observer.old) tally.old →
+        Holds O.takes run s (keeps_served (L.value link.old) (P.value participant.old)
+        (R.stream rng.old) observer.old) tally.old →
         HasTurn left s → Walks O.takes run s (L.value link.old)
-        (keeps (L.value link.new) participant.new (R.stream rng.new) observer.new)
+        (keeps_served (L.value link.new) (P.value participant.new) (R.stream rng.new) observer.new)
         tally.new (Reaches resting result)
         (turns_with left s.leaving (pause s.leaving s.tally.moment false ∷ s.pauses)) }
     ensures row { OnOk result (tally.new.failures < 64) }
@@ -187,10 +196,10 @@ fn turn<L: Link, T: MemberTable, R: Rng, O: Observer>(
 
 /// Listens to a port, and tells the participant what came, with a random word. Sends the BYE of an SSRC that it gives
 /// up for that.
-fn hear<L: Link, T: MemberTable, R: Rng, O: Observer>(
+fn hear<L: Link, P: Attendant, R: Rng, O: Observer>(
     port: Port,
     link: &mut L,
-    participant: &mut Participant<T>,
+    participant: &mut P,
     rng: &mut R,
     observer: &mut O,
     tally: &mut Tally,
@@ -199,9 +208,10 @@ fn hear<L: Link, T: MemberTable, R: Rng, O: Observer>(
     requires row { tally.old.failures < 64 }
     requires room { HasRoom 2 tally.old (L.value link.old) }
     ensures leads { (run : Run O) (s : SessionState) → IsReader run.reader →
-        Holds O.takes run s (keeps (L.value link.old) participant.old (R.stream rng.old) observer.old) tally.old →
+        Holds O.takes run s (keeps_served (L.value link.old) (P.value participant.old)
+        (R.stream rng.old) observer.old) tally.old →
         s.stage ≡ hearing port → Walks O.takes run s (L.value link.old)
-        (keeps (L.value link.new) participant.new (R.stream rng.new) observer.new)
+        (keeps_served (L.value link.new) (P.value participant.new) (R.stream rng.new) observer.new)
         tally.new (Reaches (after_port port) result) (turns_of s) }
     ensures row { OnOk result (tally.new.failures < 64) }
     ensures later { tally.old.moment ≤ tally.new.moment }
@@ -213,7 +223,7 @@ fn hear<L: Link, T: MemberTable, R: Rng, O: Observer>(
             tally.datagram();
             let (octets, _) = buf.split_at(count);
             let event = arrival(port, tally.moment, peer, rng.next_u32(), octets);
-            let answer = participant.tell(&event);
+            let answer = participant.take(&event);
             tally.arrival(&answer);
             tell(link, observer, tally, &event, answer, participant)
         }
@@ -246,18 +256,19 @@ fn arrival(port: Port, now: u64, peer: u64, w: u32, bytes: &[u8]) -> Event<'_>
 }
 
 /// Reads the clock, and asks the participant at the greatest moment so far, with two words, what is due.
-fn tick<L: Link, T: MemberTable, R: Rng, O: Observer>(
+fn tick<L: Link, P: Attendant, R: Rng, O: Observer>(
     link: &mut L,
-    participant: &mut Participant<T>,
+    participant: &mut P,
     rng: &mut R,
     observer: &mut O,
     tally: &mut Tally,
 ) -> Result<(), Cause>
     requires room { HasRoom 1 tally.old (L.value link.old) }
     ensures leads { (run : Run O) (s : SessionState) →
-        Holds O.takes run s (keeps (L.value link.old) participant.old (R.stream rng.old) observer.old) tally.old →
+        Holds O.takes run s (keeps_served (L.value link.old) (P.value participant.old)
+        (R.stream rng.old) observer.old) tally.old →
         s.stage ≡ deciding → Walks O.takes run s (L.value link.old)
-        (keeps (L.value link.new) participant.new (R.stream rng.new) observer.new)
+        (keeps_served (L.value link.new) (P.value participant.new) (R.stream rng.new) observer.new)
         tally.new (Reaches resting result) (turns_of s) }
     ensures row { tally.new.failures ≡ tally.old.failures }
     ensures later { tally.old.moment ≤ tally.new.moment }
@@ -270,7 +281,7 @@ fn tick<L: Link, T: MemberTable, R: Rng, O: Observer>(
         w1: rng.next_u32(),
         w2: rng.next_u32(),
     };
-    let answer = participant.tell(&event);
+    let answer = participant.take(&event);
     tell(link, observer, tally, &event, answer, participant)
 }
 
@@ -279,27 +290,28 @@ fn tick<L: Link, T: MemberTable, R: Rng, O: Observer>(
 /// # Errors
 ///
 /// [`Cause::Limit`] where the participant met a limit.
-fn tell<L: Link, T: MemberTable, O: Observer>(
+fn tell<L: Link, P: Attendant, O: Observer>(
     link: &mut L,
     observer: &mut O,
     tally: &mut Tally,
     event: &Event<'_>,
-    answer: Answer,
-    participant: &Participant<T>,
+    answer: GuardedAnswer,
+    participant: &P,
 ) -> Result<(), Cause>
     requires room { HasRoom 1 tally.old (L.value link.old) }
-    ensures leads { (run : Run O) (next refused : Stage) (kept : ParticipantValue) (words : Stream) (s : SessionState) →
-        ((after : O) → O.takes (event_told (telling (event_value event.now) (answer_value answer))) observer.old after →
-        Holds O.takes run s (keeps (L.value link.old) kept words after) tally.old) →
-        s.stage ≡ stage_to_send next refused (answer_value answer) → Walks O.takes run s
-        (L.value link.old) (keeps (L.value link.new) kept words observer.new) tally.new
-        (Reaches (led_to next refused (answer_value answer)) result) (turns_of s) }
+    ensures leads { (run : Run O) (next refused : Stage) (kept : ServedValue) (words : Stream) (s : SessionState) →
+        ((after : O) →
+        O.takes (event_told (telling (event_value event.now) (guarded_value answer))) observer.old after →
+        Holds O.takes run s (keeps_served (L.value link.old) kept words after) tally.old) →
+        s.stage ≡ stage_to_send next refused (guarded_value answer) → Walks O.takes run s
+        (L.value link.old) (keeps_served (L.value link.new) kept words observer.new) tally.new
+        (Reaches (led_to next refused (guarded_value answer)) result) (turns_of s) }
     ensures row { tally.new.failures ≡ tally.old.failures }
     ensures later { tally.old.moment ≤ tally.new.moment }
     ensures room { (more : ℕ) → HasRoom (more + 1) tally.old (L.value link.old) →
         HasRoom more tally.new (L.value link.new) }
 {
-    observer.told(event, &answer, participant);
+    observer.told(event, &answer, participant.participant());
     hand_over(link, observer, tally, answer)
 }
 
@@ -308,14 +320,14 @@ fn hand_over<L: Link, O: Observer>(
     link: &mut L,
     observer: &mut O,
     tally: &mut Tally,
-    answer: Answer,
+    answer: GuardedAnswer,
 ) -> Result<(), Cause>
     requires room { HasRoom 1 tally.old (L.value link.old) }
-    ensures leads { (run : Run O) (next refused : Stage) (kept : ParticipantValue) (words : Stream) (s : SessionState) →
-        Holds O.takes run s (keeps (L.value link.old) kept words observer.old) tally.old →
-        s.stage ≡ stage_to_send next refused (answer_value answer) → Walks O.takes run s
-        (L.value link.old) (keeps (L.value link.new) kept words observer.new) tally.new
-        (Reaches (led_to next refused (answer_value answer)) result) (turns_of s) }
+    ensures leads { (run : Run O) (next refused : Stage) (kept : ServedValue) (words : Stream) (s : SessionState) →
+        Holds O.takes run s (keeps_served (L.value link.old) kept words observer.old) tally.old →
+        s.stage ≡ stage_to_send next refused (guarded_value answer) → Walks O.takes run s
+        (L.value link.old) (keeps_served (L.value link.new) kept words observer.new) tally.new
+        (Reaches (led_to next refused (guarded_value answer)) result) (turns_of s) }
     ensures row { tally.new.failures ≡ tally.old.failures }
     ensures later { tally.old.moment ≤ tally.new.moment }
     ensures room { (more : ℕ) → HasRoom (more + 1) tally.old (L.value link.old) →
@@ -335,7 +347,7 @@ fn hand_over<L: Link, O: Observer>(
             }
             Ok(())
         }
-        Err(refusal) if is_limit(refusal) => Err(Cause::Limit),
+        Err(untaken) if ends_session(untaken) => Err(Cause::Limit),
         Err(_) => Ok(()),
     }
 }

@@ -6,6 +6,7 @@ use super::session::{participant, watched};
 use super::watch::Watch;
 use super::*;
 use rtcp_engine::Event;
+use rtcp_guarded::GuardedAnswer;
 use rtcp_members::MemberTable;
 use rtcp_serve::Observer;
 use std::cell::Cell;
@@ -13,15 +14,15 @@ use std::rc::Rc;
 
 /// Counts what it is told, and how often the participant had as many members as the answer says.
 #[derive(Drop)]
-struct Counts {
-    told: usize,
-    agreed: usize,
+pub(crate) struct Counts {
+    pub(crate) told: usize,
+    pub(crate) agreed: usize,
     /// How many sends it was told of, and how many of them failed.
     sent: (usize, usize),
 }
 
 impl Counts {
-    fn new() -> Counts {
+    pub(crate) fn new() -> Counts {
         Counts {
             told: 0,
             agreed: 0,
@@ -34,7 +35,7 @@ impl Observer for Counts {
     fn told<T: MemberTable>(
         &mut self,
         _event: &Event<'_>,
-        answer: &Answer,
+        answer: &GuardedAnswer,
         participant: &Participant<T>,
     ) {
         self.told = self.told.saturating_add(1);

@@ -2,7 +2,7 @@
 
 use super::log::Made;
 use super::memory_link::MemoryLink;
-use super::watch::Watch;
+use super::watch::{Watch, shown};
 use super::zeros::Zeros;
 use super::*;
 use rand_core::Rng;
@@ -77,7 +77,7 @@ impl<'a, R: Rng> Reader<'a, R> {
         let (now, w) = (self.moment, self.words.next_u32());
         let answer = self.participant.leave(now, w);
         self.watch
-            .note(self.place, &Event::Leave { now, w }, &answer);
+            .note(self.place, &Event::Leave { now, w }, shown(&answer));
         let was_taken = self.compound(rt, answer)?;
         assert!(rt; was_taken, "a leave is refused");
         self.turns(rt, turns)
@@ -96,7 +96,7 @@ impl<'a, R: Rng> Reader<'a, R> {
             let (now, w1, w2) = (self.moment, self.words.next_u32(), self.words.next_u32());
             let answer = self.participant.tick(now, w1, w2);
             self.watch
-                .note(self.place, &Event::Tick { now, w1, w2 }, &answer);
+                .note(self.place, &Event::Tick { now, w1, w2 }, shown(&answer));
             let was_taken = self.compound(rt, answer)?;
             assert!(rt; was_taken, "a tick is refused");
         }
@@ -163,7 +163,7 @@ impl<'a, R: Rng> Reader<'a, R> {
             Port::Rtcp => self.participant.arrive_rtcp(now, peer, w, bytes),
             Port::Rtp => self.participant.arrive_rtp(now, peer, w, bytes),
         };
-        self.watch.note(self.place, &event, &answer);
+        self.watch.note(self.place, &event, shown(&answer));
         let _ = self.compound(rt, answer)?;
         Ok(())
     }

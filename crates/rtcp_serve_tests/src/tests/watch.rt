@@ -1,6 +1,9 @@
 //! What an observer is told, as a test reads it.
 
-use rtcp_engine::{Answer, Event, Participant, Reply, Standing, Written, WrittenStep};
+use rtcp_engine::{
+    Answer, Event, Participant, Refusal, Reply, Standing, Step, Written, WrittenStep,
+};
+use rtcp_guarded::{GuardedAnswer, Untaken};
 use rtcp_members::MemberTable;
 use rtcp_serve::{Observer, Port};
 use std::alloc::{AllocError, Global};
@@ -66,7 +69,7 @@ impl Watch {
     }
 
     /// Notes an event with its answer, after so many calls of the link, if it fits.
-    pub(crate) fn note(&mut self, calls: usize, event: &Event<'_>, answer: &Answer) {
+    pub(crate) fn note(&mut self, calls: usize, event: &Event<'_>, answer: Result<&Step, Refusal>) {
         self.is_whole = match telling_of(self.alloc, calls, event, answer) {
             Ok(noted) => self.is_whole
                 && self.tellings.len() < self.tellings.capacity()
@@ -80,14 +83,27 @@ impl Observer for Watch {
     fn told<T: MemberTable>(
         &mut self,
         event: &Event<'_>,
-        answer: &Answer,
+        answer: &GuardedAnswer,
         _participant: &Participant<T>,
     ) {
         let calls = self.calls();
-        self.note(calls, event, answer);
+        match answer {
+            Ok(step) => self.note(calls, event, Ok(step)),
+            Err(Untaken::Refused(refusal)) => self.note(calls, event, Err(*refusal)),
+            // Nothing is held back in the sessions that are noted.
+            Err(Untaken::HeldBack(_)) => self.is_whole = false,
+        }
     }
 
     fn sent(&mut self, _failed: bool) {}
+}
+
+/// An answer as it is noted.
+pub(crate) fn shown(answer: &Answer) -> Result<&Step, Refusal> {
+    match answer {
+        Ok(step) => Ok(step),
+        Err(refusal) => Err(*refusal),
+    }
 }
 
 /// An event with its answer, as it is noted.
@@ -95,7 +111,7 @@ fn telling_of(
     alloc: Global,
     calls: usize,
     event: &Event<'_>,
-    answer: &Answer,
+    answer: Result<&Step, Refusal>,
 ) -> Result<Telling, AllocError> {
     let event = happening_of(alloc, event)?;
     let (reply, octets) = reply_of(alloc, answer)?;
@@ -141,10 +157,10 @@ fn happening_of(alloc: Global, event: &Event<'_>) -> Result<Happening, AllocErro
 }
 
 /// An answer without its compound, and the octets of that. An answer has no SSRC: 0 stands in its place.
-fn reply_of(alloc: Global, answer: &Answer) -> Result<(Reply, Vec<u8>), AllocError> {
+fn reply_of(alloc: Global, answer: Result<&Step, Refusal>) -> Result<(Reply, Vec<u8>), AllocError> {
     let step = match answer {
         Ok(step) => step,
-        Err(refusal) => return Ok((Err(*refusal), Vec::new(alloc))),
+        Err(refusal) => return Ok((Err(refusal), Vec::new(alloc))),
     };
     let (out, octets) = match &step.out {
         Some(out) => (

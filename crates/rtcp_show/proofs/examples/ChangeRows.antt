@@ -1,12 +1,12 @@
 -- When changes of others are told, and when the sources are listed anew.
 use Rattle.std.specs.Prelude.{◌≡◌, ◌++◌, Bool, true, false, [], ◌∷◌, Some, None, Ok}
 use Rattle.rtcp_engine.specs.answers.Acts.{forget_asked, leave_asked, time_passed}
-use Rattle.rtcp_engine.specs.answers.Steps.{AnswerValue}
+use Rattle.rtcp_guarded.specs.Guarded.{GuardedAnswer}
 use Rattle.rtcp_show.specs.Changes.{lists_anew, shows_others}
 use Rattle.rtcp_show.specs.Watchers.{is_due, news_text, second_after}
 use Rattle.rtcp_show.specs.Numbers.{moment_text}
 
-abbrev answered : (others_changed : Bool) → AnswerValue
+abbrev answered : (others_changed : Bool) → GuardedAnswer
 answered others_changed = Ok (record {
   out = None;
   members = 60;

@@ -2,7 +2,8 @@
 
 use super::{PEER, named, same, taken};
 use arrayvec::ArrayVec;
-use rtcp_engine::{Answer, ConfigError, Event, Refusal, Settings};
+use rtcp_engine::{ConfigError, Event, Refusal, Settings};
+use rtcp_guarded::{GuardedAnswer, Reason, Untaken};
 use rtcp_show::push_lines;
 use rtcp_wire::{FaultReason, RtpFault, WireFault};
 use std::alloc::Global;
@@ -14,7 +15,7 @@ fn shows(
     rt: &impl Abort,
     alloc: Global,
     event: &Event<'_>,
-    answer: &Answer,
+    answer: &GuardedAnswer,
     want: &str,
 ) -> Result<(), Fail> {
     let mut text = Vec::new(alloc);
@@ -50,7 +51,7 @@ fn refused(rt: HostRuntime) -> Result<(), Fail> {
         &rt,
         rt.alloc(),
         &rtcp(&[0; 12]),
-        &Err(Refusal::Wire(fault)),
+        &Err(Untaken::Refused(Refusal::Wire(fault))),
         want,
     )?;
     let want = "4200.000007 in 255.0.10.1:65535 refused E7 OwnSsrc\n";
@@ -58,9 +59,12 @@ fn refused(rt: HostRuntime) -> Result<(), Fail> {
         &rt,
         rt.alloc(),
         &rtcp(&named(0xaa)),
-        &Err(Refusal::OwnSsrc),
+        &Err(Untaken::Refused(Refusal::OwnSsrc)),
         want,
-    )
+    )?;
+    let want = "4200.000007 in 255.0.10.1:65535 refused H1 Stranger\n";
+    let stranger = Err(Untaken::HeldBack(Reason::Stranger));
+    shows(&rt, rt.alloc(), &rtcp(&named(7)), &stranger, want)
 }
 
 /// A packet of RTP is shown where it is refused.
@@ -78,9 +82,12 @@ fn media(rt: HostRuntime) -> Result<(), Fail> {
         &rt,
         rt.alloc(),
         &event,
-        &Err(Refusal::Rtp(RtpFault::Short)),
+        &Err(Untaken::Refused(Refusal::Rtp(RtpFault::Short))),
         want,
-    )
+    )?;
+    let want = "0.000001 rtp 127.0.0.1:5007 refused H2 Crowd\n";
+    let crowd = Err(Untaken::HeldBack(Reason::Crowd));
+    shows(&rt, rt.alloc(), &event, &crowd, want)
 }
 
 /// So are settings and forgets.
@@ -106,14 +113,14 @@ fn hosts(rt: HostRuntime) -> Result<(), Fail> {
         &rt,
         rt.alloc(),
         &configure,
-        &Err(Refusal::Settings(ConfigError::Bandwidth)),
+        &Err(Untaken::Refused(Refusal::Settings(ConfigError::Bandwidth))),
         "5.000000 refused E8 Settings: C4 Bandwidth\n",
     )?;
     shows(
         &rt,
         rt.alloc(),
         &forget,
-        &Err(Refusal::Backwards),
+        &Err(Untaken::Refused(Refusal::Backwards)),
         "5.000000 refused E2 Backwards\n",
     )
 }
@@ -140,21 +147,21 @@ fn calls(rt: HostRuntime) -> Result<(), Fail> {
         &rt,
         rt.alloc(),
         &tick,
-        &Err(Refusal::TooFar),
+        &Err(Untaken::Refused(Refusal::TooFar)),
         "5.000000 refused E3 TooFar\n",
     )?;
     shows(
         &rt,
         rt.alloc(),
         &leave,
-        &Err(Refusal::Left),
+        &Err(Untaken::Refused(Refusal::Left)),
         "5.000000 refused E1 Left\n",
     )?;
     shows(
         &rt,
         rt.alloc(),
         &sent,
-        &Err(Refusal::TooMany),
+        &Err(Untaken::Refused(Refusal::TooMany)),
         "5.000000 refused E4 TooMany\n",
     )?;
     let want = "5.000000 out 127.0.0.1:5007 ok RR(000000aa,[],0) SDES([000000aa{1=61}])\n";

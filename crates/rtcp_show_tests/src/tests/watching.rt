@@ -2,6 +2,7 @@
 
 use super::{PEER, config, named, same, taken};
 use rtcp_engine::{Answer, Event, Participant};
+use rtcp_guarded::Untaken;
 use rtcp_members::SortedTable;
 use rtcp_serve::Observer;
 use rtcp_show::{Printer, Watcher, Wording};
@@ -37,10 +38,11 @@ impl<W: Write + Drop> Printed<W> {
         })
     }
 
-    fn print(&mut self, event: &Event<'_>, answer: &Answer) {
+    fn print(&mut self, event: &Event<'_>, answer: Answer) {
+        let answer = answer.map_err(Untaken::Refused);
         if self
             .printer
-            .print(event, answer, &self.participant)
+            .print(event, &answer, &self.participant)
             .is_err()
         {
             self.unwritten = self.unwritten.saturating_add(1);
@@ -55,12 +57,12 @@ impl<W: Write + Drop> Printed<W> {
             w: 0,
             bytes,
         };
-        self.print(&event, &answer);
+        self.print(&event, answer);
     }
 
     fn tick(&mut self, now: u64) {
         let answer = self.participant.tick(now, 0, 0);
-        self.print(&Event::Tick { now, w1: 0, w2: 0 }, &answer);
+        self.print(&Event::Tick { now, w1: 0, w2: 0 }, answer);
     }
 
     /// A packet of source 7, of 20 milliseconds.
@@ -75,17 +77,17 @@ impl<W: Write + Drop> Printed<W> {
             w: 0,
             bytes: &bytes,
         };
-        self.print(&event, &answer);
+        self.print(&event, answer);
     }
 
     fn leave(&mut self, now: u64) {
         let answer = self.participant.leave(now, 0);
-        self.print(&Event::Leave { now, w: 0 }, &answer);
+        self.print(&Event::Leave { now, w: 0 }, answer);
     }
 
     fn forget(&mut self, now: u64, ssrc: u32) {
         let answer = self.participant.forget(now, ssrc);
-        self.print(&Event::Forget { now, ssrc }, &answer);
+        self.print(&Event::Forget { now, ssrc }, answer);
     }
 }
 

@@ -1,6 +1,6 @@
 -- The leave, and turns after it.
 use Rattle.std.proofs.Common.{◌*◌, refl, sym, ap, ◌∙◌, subst, if◌then◌else◌, arith}
-use Rattle.rtcp_engine.specs.state.Views.{answer_value}
+use Rattle.rtcp_guarded.specs.Views.{guarded_value}
 use Rattle.rtcp_serve.specs.declared.serving.Cause.TheVariants.{Done}
 use Rattle.rtcp_serve.specs.Endings.{AreHeeded}
 use Rattle.rtcp_serve.specs.Serving.{resting, ended}
@@ -14,14 +14,14 @@ returns-in_err-tell g c = record {
     c.args.turns,
     uncut_whole _ _,
     λ run s reads same holds due.
-        let takes = c.tell-answer.ensures.takes _ refl in
+        let takes = c.take-answer.ensures.takes _ refl in
         let (u, goes, walk) = leave_told run s _ _ _ _ _ _ _ _ _ holds due c.next_u32.ensures
         (takes.answer s.history holds.participant) (takes.stands s.history holds.participant)
         (c.tell.ensures.leads run resting (ended Done) _ _) in (
           _,
           λ most before heeded. heeded,
           closes goes walk (stops
-              (λ r. Reaches (led_to resting (ended Done) (answer_value c.tell-answer.result)) r walk.reached)
+              (λ r. Reaches (led_to resting (ended Done) (guarded_value c.take-answer.result)) r walk.reached)
               (λ r. IsClosed run walk.reached (EndsAs r)) c.from_residual.result c.in_err-tell.was
               c.from_residual.ensures.1 (closed_at run walk.reached) walk.ends),
         ),
@@ -38,13 +38,13 @@ returns-then-was_taken g c = let (further, cut, leads) = c.make_turns.ensures.le
     further,
     cut,
     λ run s reads same holds due.
-        let takes = c.tell-answer.ensures.takes _ refl in
+        let takes = c.take-answer.ensures.takes _ refl in
         let (u, goes, walk) = leave_told run s _ _ _ _ _ _ _ _ _ holds due c.next_u32.ensures
         (takes.answer s.history holds.participant) (takes.stands s.history holds.participant)
         (c.tell.ensures.leads run resting (ended Done) _ _) in
-        let stage = led_to resting (ended Done) (answer_value c.tell-answer.result) in
+        let stage = led_to resting (ended Done) (guarded_value c.take-answer.result) in
         let rests = subst (λ r. Reaches stage r walk.reached) c.in_ok-tell.was walk.ends
-        ∙ led_as resting (ended Done) c.tell-answer.result ∙ ap (λ b. if b then resting else ended Done)
+        ∙ led_as resting (ended Done) c.take-answer.result ∙ ap (λ b. if b then resting else ended Done)
         (sym c.is_ok-was_taken.ensures.value ∙ c.if-was_taken.true) in
         let (left, pauses, heeds, more) = leads run walk.reached reads walk.holds rests (is_left walk ∙ same)
         (is_leaving walk) in
@@ -64,13 +64,13 @@ returns-else-was_taken g c = record {
     c.args.turns,
     uncut_whole _ _,
     λ run s reads same holds due.
-        let takes = c.tell-answer.ensures.takes _ refl in
+        let takes = c.take-answer.ensures.takes _ refl in
         let (u, goes, walk) = leave_told run s _ _ _ _ _ _ _ _ _ holds due c.next_u32.ensures
         (takes.answer s.history holds.participant) (takes.stands s.history holds.participant)
         (c.tell.ensures.leads run resting (ended Done) _ _) in
-        let stage = led_to resting (ended Done) (answer_value c.tell-answer.result) in
+        let stage = led_to resting (ended Done) (guarded_value c.take-answer.result) in
         let refused = subst (λ r. Reaches stage r walk.reached) c.in_ok-tell.was walk.ends
-        ∙ led_as resting (ended Done) c.tell-answer.result ∙ ap (λ b. if b then resting else ended Done)
+        ∙ led_as resting (ended Done) c.take-answer.result ∙ ap (λ b. if b then resting else ended Done)
         (sym c.is_ok-was_taken.ensures.value ∙ c.if-was_taken.false) in
         (_, λ most before heeded. heeded, closes goes walk (closed_at run walk.reached refused)),
   );

@@ -39,7 +39,7 @@ returns-then-is_none g c = let (made, cut, leads) = c.make_turns.ensures.leads i
         let (left, pauses, heeds, walk) = leads run s reads holds stage turns leaving in
         let (rests, over) = subst (λ r. EndsTurns r walk.reached) c.in_ok-make_turns.was walk.ends in
         let none = none_left (next_at walk.reached)
-        (ap is_some (sym (c.next.ensures.exact walk.reached.history walk.holds.participant)) ∙ c.is_none.ensures
+        (ap is_some (sym (c.next_tick.ensures.exact walk.reached.history walk.holds.participant)) ∙ c.is_none.ensures
         ∙ ap not c.if-is_none.true) in (
           pauses,
           heeds c.args.turns made (none_heeded _ _ _ _ none_yet),
@@ -66,7 +66,7 @@ returns g c =
         λ run s reads same holds stage turns leaving none_yet.
             let (left, pauses, heeds, walk) = leads run s reads holds stage turns leaving in
             let (rests, over) = subst (λ r. EndsTurns r walk.reached) c.in_ok-make_turns.was walk.ends in
-            let there = ap is_some (sym (c.next.ensures.exact walk.reached.history walk.holds.participant))
+            let there = ap is_some (sym (c.next_tick.ensures.exact walk.reached.history walk.holds.participant))
             ∙ c.is_none.ensures ∙ ap not c.if-is_none.false in
             let (all, heed_all, closed) = closing run walk.reached reads same walk.holds (record {
               resting = rests;

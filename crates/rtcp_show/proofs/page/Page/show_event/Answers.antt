@@ -1,7 +1,8 @@
 use Rattle.std.proofs.Common.{◌≡◌, ◌++◌, ◌∙◌, ap, subst, List, ℕ}
 use Rattle.std.proofs.lemmas.Result.{on_ok_weaker}
 use Rattle.std.specs.Io.KnownBytes.{Appends}
-use Rattle.rtcp_engine.specs.state.Views.{answer_value, event_value}
+use Rattle.rtcp_engine.specs.state.Views.{event_value}
+use Rattle.rtcp_guarded.specs.Views.{guarded_value}
 use Rattle.rtcp_show.specs.Lines.{ShowsBothBy}
 use Rattle.rtcp_show.specs.Wordings.{shown_in}
 use Rattle.rtcp_show.specs.Watchers.{held_on}
@@ -14,7 +15,7 @@ returns-in-Ok-clause-written g c =
     let text = c.push_read_lines.new.out.items in
     let Says : List ℕ → Type 0 =
     ShowsBothBy (shown_in c.args.wording) c.args.to
-    (event_value c.args.event.now) (answer_value c.args.answer.now) in
+    (event_value c.args.event.now) (guarded_value c.args.answer.now) in
     let given : (lines : List ℕ) × Says lines × (text ≡ c.clear.new.self.items ++ lines) = c.in-Ok.ensures in
     let same : text ≡ given.0 = given.2 ∙ ap (λ xs. xs ++ given.0) c.clear.ensures.items in
     let step : Appends held holds text → (lines : List ℕ) × Says lines × Appends held holds lines =

@@ -1,6 +1,7 @@
 -- The lines of the event, what it tells of sources, whose roles changed, and who is there.
 use Rattle.std.proofs.Common.{◌∙◌, refl, sym}
-use Rattle.rtcp_engine.specs.state.Views.{answer_value, event_value}
+use Rattle.rtcp_engine.specs.state.Views.{event_value}
+use Rattle.rtcp_guarded.specs.Views.{guarded_value}
 use Rattle.rtcp_show.proofs.WatchLemmas.{all_ok, at_ok, watched}
 use Rattle.rtcp_show.proofs.printer.Printer.print.Goals as goal
 
@@ -9,7 +10,7 @@ returns-clause-watches g c = λ history stands. rw (c.and-3.ensures, c.and-2.ens
     (all_ok c.show_event-shown.result c.or_memory.result c.show_changes-changed.result c.show_sources-listed.result
     (λ lined kept told listed.
     let event = event_value c.args.event.now in
-    let answer = answer_value c.args.answer.now in
+    let answer = guarded_value c.args.answer.now in
     let board = c.note-noted.new.self in
     let noted = sym c.or_memory.ensures.ok ∙ kept in
     let shown = at_ok c.show_event-shown.result lined c.show_event-shown.ensures.written in
