@@ -13,6 +13,8 @@ use Rattle.rtcp_command.specs.declared.orders.OrderFault.{OrderFault}
 use Rattle.rtcp_command.specs.declared.orders.OrderFault.TheVariants.{Clap, Option as BadOption, Memory}
 use Rattle.rtcp_command.specs.Endpoints.{Endpoint, endpoint_in, endpoint_of}
 use Rattle.rtcp_text.specs.Numerals.{decimal_in}
+use Rattle.rtcp_guarded_text.specs.declared.limits.GuardLimits.{GuardLimits}
+use Rattle.rtcp_command.specs.Guards.{guard_given}
 use Rattle.rtcp_command.specs.Options.{setup_in, text_found}
 use Rattle.rtcp_text.specs.Results.{◌>>=◌}
 
@@ -85,6 +87,8 @@ pub record Listening : Type 0 where
   pub show : Bool
   -- whether that is in plain words
   pub plain : Bool
+  -- what an origin may do before it is held back, if a guard stands before the participant
+  pub guard : Option GuardLimits
 
 -- The session, or the name of the first option that is refused.
 abbrev pub listen_in : Found → Result Listening (List ℕ)
@@ -96,6 +100,7 @@ listen_in found = do
   seed ← ok_or (seed_in (text_found found (codes "seed"))) (codes "seed")
   turns ← ok_or (turns_given (first_value found (codes "turns"))) (codes "turns")
   seconds ← ok_or (seconds_given (first_value found (codes "seconds"))) (codes "seconds")
+  guard ← ok_or (guard_given (first_value found (codes "guard"))) (codes "guard")
   Ok (record {
     setup = setup;
     draws_ssrc = is_random (text_found found (codes "ssrc"));
@@ -114,6 +119,7 @@ listen_in found = do
     stop = first_value found (codes "stop");
     show = is_set found (codes "show");
     plain = is_set found (codes "plain");
+    guard = guard;
   })
 
 -- ---- Orders
@@ -136,6 +142,7 @@ listening_of order recording stop = record {
   stop = stop;
   show = order.show;
   plain = order.plain;
+  guard = order.guard;
 }
 
 -- The options come to this order.

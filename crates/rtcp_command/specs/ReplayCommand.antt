@@ -1,11 +1,12 @@
 -- The command that plays a record again, as `rtcp listen` shows it.
-use Rattle.std.specs.Prelude.{ℕ, ◌==◌, nat_lt, List, [], ◌∷◌, ◌++◌, if◌then◌else◌, codes}
+use Rattle.std.specs.Prelude.{ℕ, ◌/◌, ◌==◌, nat_lt, List, [], ◌∷◌, ◌++◌, if◌then◌else◌, codes}
 use Rattle.std.specs.Fmt.{decimal}
 use Rattle.std.specs.List.{flat_map}
 use Rattle.hex.specs.Hex.{encode_lower}
 use Rattle.rtcp_wire.specs.Values.{ItemValue}
 use Rattle.rtcp_engine.specs.answers.Setups.{ClockValue, Setup}
 use Rattle.rtcp_text.specs.SettingsFields.{clock_text}
+use Rattle.rtcp_guarded_text.specs.declared.limits.GuardLimits.{GuardLimits}
 use Rattle.rtcp_text.specs.Text.{hex_word, hex_long}
 
 -- A text between single quotes (39), in which a shell takes each octet as it is. A single quote ends them, stands after
@@ -59,4 +60,14 @@ setup_text setup =
 abbrev pub replay_command : Setup → (word : ℕ) → (file : List ℕ) → List ℕ
 replay_command setup word file =
     codes "rtcp replay" ++ setup_text setup ++ codes " --word " ++ hex_word word
+    ++ codes " --lines 4294967295 < " ++ quoted file ++ codes "\n"
+
+-- the option of a guard, whose hold is in microseconds
+abbrev pub guard_text : GuardLimits → List ℕ
+guard_text limits = codes " --guard " ++ decimal limits.names ++ codes "," ++ decimal (limits.hold / 1000000)
+
+-- the same of a session with a guard
+abbrev pub replay_guarded_command : Setup → (word : ℕ) → GuardLimits → (file : List ℕ) → List ℕ
+replay_guarded_command setup word limits file =
+    codes "rtcp replay" ++ setup_text setup ++ codes " --word " ++ hex_word word ++ guard_text limits
     ++ codes " --lines 4294967295 < " ++ quoted file ++ codes "\n"

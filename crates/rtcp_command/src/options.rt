@@ -88,10 +88,14 @@ pub(crate) fn read_listen(alloc: Global, matches: &ArgMatches<'_>) -> Result<Ord
 {
     let mut order = read_session(matches).map_err(OrderFault::Option)?;
     let (recording, stop) = (matches.get_str("record"), matches.get_str("stop"));
-    let (recording, stop) = read_paths(alloc, recording, stop).map_err(|_| OrderFault::Memory)?;
-    order.recording = recording;
-    order.stop = stop;
-    Ok(Order::Listen(order))
+    match read_paths(alloc, recording, stop) {
+        Ok((recording, stop)) => {
+            order.recording = recording;
+            order.stop = stop;
+            Ok(Order::Listen(order))
+        }
+        Err(AllocError) => Err(OrderFault::Memory),
+    }
 }
 
 /// The same, without the names of files.
@@ -116,6 +120,7 @@ fn read_session(matches: &ArgMatches<'_>) -> Result<ListenOrder, &'static str>
     let counts_turns = turns.is_some() || (seconds.is_none() && matches.get_str("stop").is_none());
     let turns = read_given_turns(turns).ok_or("turns")?;
     let seconds = read_given_seconds(seconds).map_err(|()| "seconds")?;
+    let guard = read_given_guard(matches.get_str("guard")).map_err(|()| "guard")?;
     Ok(ListenOrder {
         config,
         draws_ssrc: ssrc == RANDOM,
@@ -132,6 +137,7 @@ fn read_session(matches: &ArgMatches<'_>) -> Result<ListenOrder, &'static str>
         stop: None,
         show: is_set(matches, "show"),
         plain: is_set(matches, "plain"),
+        guard,
     })
 }
 

@@ -81,6 +81,8 @@ pub struct ListenOrder {
     pub show: bool,
     /// Whether datagrams are shown in plain words.
     pub plain: bool,
+    /// What an origin may do before it is held back, if a guard stands before the participant.
+    pub guard: Option<GuardLimits>,
 }
 
 /// Why a command line gives no order.

@@ -1,14 +1,15 @@
 //! The command that plays a record again.
 
-ghost use Rattle.std.specs.Prelude.{◌≡◌, ◌++◌, IfOk, OnOk};
+ghost use Rattle.std.specs.Prelude.{◌≡◌, ◌++◌, IfOk, OnOk, codes};
 ghost use Rattle.std.specs.Fmt.{decimal};
 ghost use Rattle.std.specs.List.{flat_map};
 ghost use Rattle.rtcp_engine.specs.state.Views.{clock_value, setup_of};
 ghost use Rattle.rtcp_report.specs.Views.{item_value};
 ghost use Rattle.rtcp_text.specs.Text.{hex_long, hex_word};
-ghost use Rattle.rtcp_command.specs.ReplayCommand.{bandwidths_text, clock_option_text, clocks_text, item_name, item_text, name_text, quoted, quoted_octet, replay_command, setup_text, sizes_text};
+ghost use Rattle.rtcp_command.specs.ReplayCommand.{bandwidths_text, clock_option_text, clocks_text, guard_text, item_name, item_text, name_text, quoted, quoted_octet, replay_command, replay_guarded_command, setup_text, sizes_text};
 
 use rtcp_engine::{Clock, Config, Item};
+use rtcp_guarded_text::GuardLimits;
 use rtcp_text::text::digits::{push_decimal, push_long, push_octets, push_word};
 use std::alloc::{AllocError, Global};
 
@@ -26,13 +27,62 @@ pub fn replay_line(
 ) -> Result<Vec<u8>, AllocError>
     ensures { IfOk result (λ line. line.items ≡ replay_command (setup_of config.now) word file.now) }
 {
+    let mut line = begun(alloc, config, word)?;
+    push_end(&mut line, file)?;
+    Ok(line)
+}
+
+/// The same of a session with a guard.
+///
+/// # Errors
+///
+/// `AllocError` where memory is refused.
+pub fn replay_guarded_line(
+    alloc: Global,
+    config: &Config,
+    word: u32,
+    limits: GuardLimits,
+    file: &str,
+) -> Result<Vec<u8>, AllocError>
+    ensures { IfOk result (λ line.
+        line.items ≡ replay_guarded_command (setup_of config.now) word limits file.now) }
+{
+    let mut line = begun(alloc, config, word)?;
+    push_guard(&mut line, limits)?;
+    push_end(&mut line, file)?;
+    Ok(line)
+}
+
+/// The start of a command, with the options of a configuration and the random word.
+fn begun(alloc: Global, config: &Config, word: u32) -> Result<Vec<u8>, AllocError>
+    ensures { IfOk result (λ line.
+        line.items ≡ codes "rtcp replay" ++ setup_text (setup_of config.now) ++ codes " --word " ++ hex_word word) }
+{
     let mut line = Vec::new(alloc);
     line.extend_from_slice(b"rtcp replay")?;
     push_setup(&mut line, config)?;
     push_hex(&mut line, b" --word ", word)?;
-    push_text(&mut line, b" --lines 4294967295 < ", file.as_bytes())?;
-    line.push(b'\n')?;
     Ok(line)
+}
+
+/// Appends the end of a command: the most lines and the file.
+fn push_end(out: &mut Vec<u8>, file: &str) -> Result<(), AllocError>
+    ensures { OnOk result (out.new.items
+        ≡ out.old.items ++ codes " --lines 4294967295 < " ++ quoted file.now ++ codes "\n") }
+{
+    push_text(out, b" --lines 4294967295 < ", file.as_bytes())?;
+    out.push(b'\n')?;
+    Ok(())
+}
+
+/// Appends the option of a guard.
+fn push_guard(out: &mut Vec<u8>, limits: GuardLimits) -> Result<(), AllocError>
+    ensures { OnOk result (out.new.items ≡ out.old.items ++ guard_text limits) }
+{
+    out.extend_from_slice(b" --guard ")?;
+    push_decimal(out, u64::from(limits.names))?;
+    out.push(b',')?;
+    push_decimal(out, limits.hold / 1_000_000)
 }
 
 /// Appends the options of a configuration.

@@ -20,16 +20,18 @@ use rtcp_command::arguments::refuse;
 use rtcp_command::ends::{conclude, end_line};
 use rtcp_command::groups::group_warnings;
 use rtcp_command::ports::picked_ports;
-use rtcp_command::replay_command::replay_line;
+use rtcp_command::replay_command::{replay_guarded_line, replay_line};
 use rtcp_command::session_recorder::SessionRecorder;
 pub use rtcp_command::{
     ListenOrder, Order, OrderFault, RunFault, TextOrder, arguments, command, ends, laws,
 };
 use rtcp_engine::Participant;
+use rtcp_guard::Guard;
+use rtcp_guarded::GuardedParticipant;
 use rtcp_members::HeapTable;
 pub use rtcp_serve::{
     Cause, End, Ending, Link, LinkFault, MOST_TURNS, Observer, Port, Received, Until, serve,
-    serve_laws, serve_until,
+    serve_guarded_until, serve_laws, serve_until,
 };
 use rtcp_show::{Printer, Watcher, Wording, push_header};
 use rtcp_text::record::Recorder;
@@ -126,12 +128,19 @@ fn run_listen(rt: &HostRuntime, order: ListenOrder) -> Result<End, RunFault>
     } else {
         None
     };
+    let guard = guard_of(alloc, &order)?;
     let participant = Participant::with_table(order.config, table, word);
     let warnings = group_warnings(alloc, order.rtp, order.rtcp).map_err(|_| RunFault::Memory)?;
     let _ = rt.stderr().write_all(&warnings);
     let observer = (recorder, watcher);
     let ending = (order.seconds.map(until), StopFile::of(rt, order.stop));
-    let end = serve_on(link, observer, participant, rng, ending, turns);
+    let end = match guard {
+        None => serve_on(link, observer, participant, rng, ending, turns),
+        Some(guard) => {
+            let guarded = GuardedParticipant::new(participant, guard);
+            serve_guarded_on(link, observer, guarded, rng, ending, turns)
+        }
+    };
     let _ = rt.stderr().write_all(&closing);
     write_end(rt, &end)?;
     Ok(end)
@@ -149,6 +158,23 @@ fn table_of(alloc: Global, capacity: u32) -> Result<HeapTable, RunFault>
 {
     match HeapTable::with_room(alloc, capacity) {
         Ok(table) => Ok(table),
+        Err(_) => Err(RunFault::Memory),
+    }
+}
+
+/// The guard that an order asks for, if it does.
+///
+/// # Errors
+///
+/// There is no memory for it.
+fn guard_of(alloc: Global, order: &ListenOrder) -> Result<Option<Guard>, RunFault>
+    requires few { order.now.config.capacity ≤ 1024 }
+{
+    let Some(limits) = order.guard else {
+        return Ok(None);
+    };
+    match Guard::new(alloc, limits.settings(order.config.capacity as u16)) {
+        Ok(guard) => Ok(Some(guard)),
         Err(_) => Err(RunFault::Memory),
     }
 }
@@ -181,11 +207,27 @@ fn write_header(
 /// [`RunFault::Memory`] where memory is refused.
 fn closing(rt: &HostRuntime, order: &ListenOrder, word: u32) -> Result<Vec<u8>, RunFault> {
     match &order.recording {
-        Some(file) if order.show => {
-            replay_line(rt.alloc(), &order.config, word, file).map_err(|_| RunFault::Memory)
-        }
+        Some(file) if order.show => command_again(rt.alloc(), order, word, file),
         _ => Ok(Vec::new(rt.alloc())),
     }
+}
+
+/// The command that plays the record of a session again.
+///
+/// # Errors
+///
+/// [`RunFault::Memory`] where memory is refused.
+fn command_again(
+    alloc: Global,
+    order: &ListenOrder,
+    word: u32,
+    file: &str,
+) -> Result<Vec<u8>, RunFault> {
+    let line = match order.guard {
+        None => replay_line(alloc, &order.config, word, file),
+        Some(limits) => replay_guarded_line(alloc, &order.config, word, limits, file),
+    };
+    line.map_err(|_| RunFault::Memory)
 }
 
 /// How the datagrams of a session are shown. In plain words the jitter of report blocks has the rate of the one clock,
@@ -315,6 +357,31 @@ fn serve_on<L: Link + Drop, O: Observer + Drop, E: Ending + Drop>(
     )
 }
 
+/// Serves a session of a guarded participant as [`serve_on`] does that of a participant.
+fn serve_guarded_on<L: Link + Drop, O: Observer + Drop, E: Ending + Drop>(
+    mut link: L,
+    mut observer: O,
+    mut participant: GuardedParticipant<HeapTable>,
+    mut rng: Pcg32,
+    mut ending: E,
+    turns: u64,
+) -> End
+    requires turns { turns ≤ 2 ^ 59 }
+    requires receives { (L.value link).failed_receives < 2 ^ 63 }
+    requires sends { (L.value link).failed_sends < 2 ^ 63 }
+{
+    let mut buf = [0; 65_535];
+    serve_guarded_until(
+        &mut link,
+        &mut participant,
+        &mut rng,
+        &mut ending,
+        turns,
+        &mut observer,
+        &mut buf,
+    )
+}
+
 /// Writes the line of an end to standard output.
 ///
 /// # Errors
@@ -340,7 +407,7 @@ fn begin_record(
     file: &str,
 ) -> Result<Recorder<RecordFile>, RunFault> {
     let writer = RecordFile::new(created(rt, file, order.overwrites)?);
-    let line = replay_line(rt.alloc(), &order.config, word, file).map_err(|_| RunFault::Memory)?;
+    let line = command_again(rt.alloc(), order, word, file)?;
     let _ = rt.stderr().write_all(&line);
     Ok(Recorder::new(rt.alloc(), writer))
 }

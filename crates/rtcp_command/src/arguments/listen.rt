@@ -1,6 +1,6 @@
 //! The subcommand `listen` of the command line.
 
-use super::rows::{Absent, PARTICIPANT, Row, with_options};
+use super::rows::{Absent, GUARD, PARTICIPANT, Row, with_options};
 use clap::Command;
 use std::alloc::{AllocError, Global};
 
@@ -86,11 +86,17 @@ as a line that rtcp replay reads. The command that plays it again is written to 
 at the start, and with --show once more at the end. A file that is there already is refused without
 --force, and what is no regular file, as a pipe, with it too.
 
+With --guard NAMES[,SECONDS] a source belongs to the address that named it first, until it was silent
+for so long, 60 seconds unless told. What another address says of it is held back, and so is what
+would give an address more than NAMES sources. It is shown, and counted, as refused:
+
+    4.120733 in 198.51.100.9:5005 refused H1 Stranger
+
 The status is 0 at Done and Limit, 2 if the command line, an option or the configuration was
 refused, and 1 at LinkDown and if a port could not be bound, or writing or memory failed.";
 
 /// The options after those of the participant, in the order in which they are looked at.
-const OWN: [Row; 11] = [
+const OWN: [Row; 12] = [
     (
         "rtp",
         "ADDRESS:PORT",
@@ -152,6 +158,7 @@ const OWN: [Row; 11] = [
         "Show the session on standard error while it runs",
     ),
     ("plain", "", Absent::IsFlag, "Show datagrams in plain words"),
+    GUARD,
 ];
 
 /// The subcommand, as `clap` reads it.

@@ -1,8 +1,9 @@
 //! The command that plays a record again.
 
 use arrayvec::ArrayVec;
-use rtcp_command::replay_command::replay_line;
+use rtcp_command::replay_command::{replay_guarded_line, replay_line};
 use rtcp_engine::{Clock, Config, Item};
+use rtcp_guarded_text::GuardLimits;
 use std::test::Fail;
 
 /// A text of at most 255 octets.
@@ -44,6 +45,21 @@ fn quoted(rt: HostRuntime) -> Result<(), Fail> {
     let want = "rtcp replay --ssrc 000000aa --cname '$a b'\\''' --capacity 1024 --limit 1472 \
         --sender-bw 100 --receiver-bw 300 --rate 8000 --ntp 0102030405060708 \
         --tool 'it'\\''s 1' --priv 00ff --word 000000bb --lines 4294967295 < 'my record'\n";
+    assert_eq!(rt; line.as_slice(), want.as_bytes());
+    Ok(())
+}
+
+/// A session with a guard has its option, with the hold in seconds.
+#[test]
+fn guarded(rt: HostRuntime) -> Result<(), Fail> {
+    let limits = GuardLimits {
+        names: 8,
+        hold: 90_000_000,
+    };
+    let line = replay_guarded_line(rt.alloc(), &config(), 0xbb, limits, "call")?;
+    let want = "rtcp replay --ssrc 000000aa --cname '$a b'\\''' --capacity 1024 --limit 1472 \
+        --sender-bw 100 --receiver-bw 300 --rate 8000 --ntp 0102030405060708 \
+        --tool 'it'\\''s 1' --priv 00ff --word 000000bb --guard 8,90 --lines 4294967295 < 'call'\n";
     assert_eq!(rt; line.as_slice(), want.as_bytes());
     Ok(())
 }

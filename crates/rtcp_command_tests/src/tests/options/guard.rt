@@ -1,8 +1,9 @@
 //! The option of a guard.
 
 use super::super::text_order;
-use super::{REQUIRED, refused_at, with};
-use rtcp_command::TextOrder;
+use super::{REQUIRED, listen, refused_at, with};
+use rtcp_command::arguments::order;
+use rtcp_command::{Order, TextOrder};
 use std::alloc::Global;
 use std::test::Fail;
 
@@ -57,5 +58,26 @@ fn refused_guards(rt: HostRuntime) -> Result<(), Fail> {
         let words = with(rt.alloc(), REQUIRED, &["--guard", text])?;
         refused_at(&rt, rt.alloc(), &words, "guard")?;
     }
+    Ok(())
+}
+
+/// A session over UDP has a guard if one is asked for.
+#[test]
+fn listening(rt: HostRuntime) -> Result<(), Fail> {
+    let words = with(rt.alloc(), listen::REQUIRED, &["--guard", "8,1"])?;
+    let guard = match order(rt.alloc(), &words) {
+        Ok(Order::Listen(order)) => order.guard,
+        _other => Err("no session over UDP is asked for")?,
+    };
+    assert_eq!(rt;
+        guard.map(|limits| (limits.names, limits.hold)),
+        Some((8, 1_000_000))
+    );
+    let words = with(rt.alloc(), listen::REQUIRED, &[])?;
+    let guard = match order(rt.alloc(), &words) {
+        Ok(Order::Listen(order)) => order.guard,
+        _other => Err("no session over UDP is asked for")?,
+    };
+    assert!(rt; guard.is_none());
     Ok(())
 }
