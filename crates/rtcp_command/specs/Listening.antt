@@ -8,7 +8,7 @@ use Rattle.clap.specs.declared.parser.matches.Found.{Found}
 use Rattle.clap.specs.Matches.{first_value}
 use Rattle.rtcp_command.specs.declared.orders.ListenOrder.{ListenOrder}
 use Rattle.rtcp_command.specs.declared.orders.Order.{Order}
-use Rattle.rtcp_command.specs.declared.orders.Order.TheVariants.{Text, Listen}
+use Rattle.rtcp_command.specs.declared.orders.Order.TheVariants.{Text, Listen, Version}
 use Rattle.rtcp_command.specs.declared.orders.OrderFault.{OrderFault}
 use Rattle.rtcp_command.specs.declared.orders.OrderFault.TheVariants.{Clap, Option as BadOption, Memory}
 use Rattle.rtcp_command.specs.Endpoints.{Endpoint, endpoint_in, endpoint_of}
@@ -150,6 +150,7 @@ abbrev pub IsListening : Order → Result Listening (List ℕ) → Type 0
 IsListening (Listen order) expected =
     expected ≡ Ok (listening_of order (option_map string_bytes order.recording) (option_map string_bytes order.stop))
 IsListening (Text order) expected = ⊥
+IsListening (Version line) expected = ⊥
 
 -- What the options come to is this order, or this fault. Memory is asked for only where a file is named.
 abbrev pub IsListenOrder : Result Order OrderFault → Result Listening (List ℕ) → Type 0
@@ -164,3 +165,4 @@ IsListenOrder (Err Memory) expected =
 abbrev pub HasTurns : Order → Type 0
 HasTurns (Listen order) = (1 ≤ order.turns) × (order.turns ≤ 1000000)
 HasTurns (Text order) = Unit {0}
+HasTurns (Version line) = Unit {0}

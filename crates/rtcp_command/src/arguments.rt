@@ -1,6 +1,7 @@
 //! The arguments of the program, and the order that they give.
 
-ghost use Rattle.std.specs.Prelude.{◌≡◌, IfOk};
+ghost use Rattle.std.specs.Prelude.{◌≡◌, ◌⊎◌, IfOk};
+ghost use Rattle.std.specs.Io.KnownBytes.{Appends};
 ghost use Rattle.rtcp_command.specs.Listening.{HasTurns};
 ghost use Rattle.rtcp_command.specs.Status.{order_status};
 
@@ -9,12 +10,16 @@ mod listen;
 mod replay;
 mod rows;
 
+use crate::fault::{RunFault, fail};
 use crate::options::read_listen;
 use crate::orders::{Order, OrderFault};
 use clap::Command;
 use clap::error::ErrorKind as ClapErrorKind;
 use std::alloc::{AllocError, Global};
 use std::io::{ErrorKind, Write};
+
+/// The version of the program, which is that of the package.
+const VERSION: &str = "0.6.1";
 
 const ABOUT: &str = "The control half of an RTP participant (RFC 3550)";
 
@@ -50,8 +55,14 @@ pub fn order<'a>(alloc: Global, words: &'a [&'a str]) -> Result<Order, OrderFaul
             Some(("listen", matches)) => read_listen(alloc, matches),
             _ => Err(shown(program.render_help())),
         },
-        Err(error) if error.kind() == ClapErrorKind::OutOfMemory => Err(OrderFault::Memory),
-        Err(error) => Err(shown(format!(in alloc; "{error}"))),
+        Err(error) => match error.kind() {
+            ClapErrorKind::OutOfMemory => Err(OrderFault::Memory),
+            ClapErrorKind::DisplayVersion => match format!(in alloc; "{error}") {
+                Ok(line) => Ok(Order::Version(line)),
+                Err(AllocError) => Err(OrderFault::Memory),
+            },
+            _ => Err(shown(format!(in alloc; "{error}"))),
+        },
     }
 }
 
@@ -61,6 +72,18 @@ pub fn unreadable(alloc: Global, kind: ErrorKind) -> OrderFault {
     match kind {
         ErrorKind::OutOfMemory => OrderFault::Memory,
         _ => shown(String::from_str(alloc, NON_UTF8)),
+    }
+}
+
+/// Writes a line that was asked for, and returns the status to end with: 0, or 1 where writing failed. A failed write
+/// of the fault line is ignored.
+pub fn tell<W: Write, F: Write>(line: &str, writer: &mut W, faults: &mut F) -> u8
+    ensures whole { result ≡ 0 → Appends (W.contents writer.old) (W.contents writer.new) line.now }
+    ensures status { (result ≡ 0) ⊎ (result ≡ 1) }
+{
+    match writer.write_all(line.as_bytes()) {
+        Ok(()) => 0,
+        Err(_) => fail(RunFault::Write, faults),
     }
 }
 
@@ -89,6 +112,7 @@ pub fn refuse<W: Write>(fault: &OrderFault, faults: &mut W) -> u8
 fn program<'a>(alloc: Global) -> Result<Command<'a>, AllocError> {
     Command::new(alloc, "rtcp")
         .bin_name("rtcp")?
+        .version(VERSION)
         .about(ABOUT)
         .after_help(AFTER_HELP)
         .disable_help_subcommand(true)

@@ -11,6 +11,8 @@ pub enum Order {
     Text(TextOrder),
     /// A session over UDP.
     Listen(ListenOrder),
+    /// The line with the program's name and version.
+    Version(String),
 }
 
 /// A run from standard input to standard output.

@@ -16,7 +16,7 @@ mod stop_file;
 use rand_core::{Rng, SeedableRng};
 use rand_pcg::Pcg32;
 use record_file::RecordFile;
-use rtcp_command::arguments::refuse;
+use rtcp_command::arguments::{refuse, tell};
 use rtcp_command::ends::{conclude, end_line};
 use rtcp_command::groups::group_warnings;
 use rtcp_command::ports::picked_ports;
@@ -49,6 +49,7 @@ fn main(rt: HostRuntime) -> ExitCode {
     let status = match asked(&rt) {
         Ok(Order::Text(order)) => run_text(&rt, order),
         Ok(Order::Listen(order)) => conclude(&run_listen(&rt, order), &mut rt.stderr()),
+        Ok(Order::Version(line)) => tell(&line, &mut rt.stdout(), &mut rt.stderr()),
         Err(fault) => refuse(&fault, &mut rt.stderr()),
     };
     ExitCode::from(status)

@@ -2,7 +2,7 @@
 
 use super::failing::{FailingReader, Full};
 use super::{refused, same};
-use rtcp_command::arguments::{order, refuse, unreadable};
+use rtcp_command::arguments::{order, refuse, tell, unreadable};
 use rtcp_command::command::command;
 use rtcp_command::{Order, OrderFault, TextOrder};
 use std::alloc::{AllocError, Global};
@@ -184,6 +184,24 @@ fn plain(rt: HostRuntime) -> Result<(), Fail> {
     let want = b"ok RR ssrc=00000007\nF1 Short at 0\n";
     same(&rt, written.split_at(want.len()).0, want, "plain");
     same(&rt, &faults, b"line 3: X4 Hex\n", "a line that is no hex");
+    Ok(())
+}
+
+/// The version goes to standard output, unless that is full.
+#[test]
+fn version(rt: HostRuntime) -> Result<(), Fail> {
+    let alloc = rt.alloc();
+    let line = match order(alloc, &["rtcp", "--version"]) {
+        Ok(Order::Version(line)) => line,
+        _other => return Err("no version")?,
+    };
+    assert_eq!(rt; line.as_str(), "rtcp 0.6.1\n");
+    let (mut written, mut faults) = (Vec::new(alloc), Vec::new(alloc));
+    assert_eq!(rt; tell(&line, &mut written, &mut faults), 0);
+    same(&rt, &written, b"rtcp 0.6.1\n", "the version");
+    same(&rt, &faults, b"", "no fault");
+    assert_eq!(rt; tell(&line, &mut [0; 3].as_mut_slice(), &mut faults), 1);
+    same(&rt, &faults, b"write\n", "no room");
     Ok(())
 }
 
