@@ -213,6 +213,19 @@ ACCEPTED = Session(media(0, 7, 1) + media(20_000, 7, 2) + compound(30_000, BYE_7
 # A BYE that is refused while media still come is no end of these: they stop a second later, at 1.02 seconds.
 EARLY = Session(media(0, 7, 1) + compound(10_000, BYE_7) + media(1_020_000, 7, 2) + "tick 9000000 00000000 00000000\n",
                 words=["has sent no media since 0:00:01", "BYE refused at 0:00:00"])
+# A guard of two sources: 7 is that of the first address, from whichever port, so that a BYE of the second one is held
+# back, and so is what names a third source of the first one. Neither BYE is one that 7 or 9 said.
+FIRST, SECOND_PEER = 0x7F000002_138D, 0x7F000003_138F
+GUARDED = Session(compound(0, RR_7, FIRST) + compound(1, RR_7 + NAME_7, FIRST + 1)
+                  + compound(2, RR_7 + BYE_7, SECOND_PEER) + media(3, 7, 1, SECOND_PEER)
+                  + compound(4, RR_7 + "82cb0002" + "00000008" + "00000009", FIRST) + FIRST_TICK,
+                  [["1", "RTCP datagram", "H1 Stranger", "held back by the guard: it names a source of another address",
+                    "127.0.0.3:5007 (1)"],
+                   ["1", "RTP datagram", "H1 Stranger", "held back by the guard: it names a source of another address",
+                    "127.0.0.3:5007 (1)"],
+                   ["1", "RTCP datagram", "H2 Crowd",
+                    "held back by the guard: its address would have too many sources", "127.0.0.2:5005 (1)"]],
+                  none_of=["BYE from"], options=[*PLAIN, "--guard", "2"])
 # Two of three members send, so all three share the bandwidth of 400 octets a second: 2/3 of it are theirs.
 SHARED = Session(compound(0, SR_7 + NAME_7)
                  + compound(0, "80c90001" + "00000008" + "81ca0002" + "00000008" + "01016200")
@@ -224,4 +237,4 @@ SESSIONS = {"cut": CUT, "cut at once": CUT_AT_ONCE, "cut after a refusal": CUT_A
             "ended": ENDED, "dated": DATED, "next era": NEXT_ERA, "undated": UNDATED, "peers": PEERS,
             "furthest": FURTHEST, "furthest undated": FURTHEST_UNDATED, "trips": TRIPS, "one way": ONE_WAY, "own": OWN,
             "order": ORDER, "twice": TWICE, "anew": ANEW, "refused": REFUSED, "shared": SHARED,
-            "late": LATE, "accepted": ACCEPTED, "early": EARLY}
+            "late": LATE, "accepted": ACCEPTED, "early": EARLY, "guarded": GUARDED}

@@ -247,19 +247,40 @@ def ending(session: Session) -> str:
 
 
 def refusals(session: Session) -> str:
-    """A row for each kind of call and fault."""
+    """A row for each kind of call and fault, and from where the datagrams came."""
     if not session.refused:
         return ""
     names = {"rtcp": "RTCP datagram", "rtp": "RTP datagram", "sent": "RTP packet sent", "configure": "other settings",
              "forget": "source that is gone"}
     counts = Counter((fault_of(refused.reason), refused.call) for refused in session.refused)
+    places = refused_from(session)
     rows = "".join(f'<tr><td class="number">{number(count)}</td><td>{names.get(call, call)}</td><td>{shown(fault)}</td>'
-                   f"<td>{meaning(fault)}</td></tr>\n" for (fault, call), count in counts.most_common())
-    titles = ("call", "fault", "meaning")
+                   f"<td>{meaning(fault)}</td>{of_places(places, fault, call)}</tr>\n"
+                   for (fault, call), count in counts.most_common())
+    titles = ("call", "fault", "meaning", *(["from"] if places else []))
     head = "".join(f'<th scope="col">{title}</th>' for title in titles)
     inside = (f'<table>\n<thead><tr><th scope="col" class="number">how many</th>{head}</tr></thead>\n<tbody>\n{rows}'
               "</tbody></table>")
     return section("Refused", "") + box("Refused", inside)
+
+
+def refused_from(session: Session) -> dict[tuple[str, str], Counter]:
+    """How many datagrams came from each endpoint, by fault and call; of peers whose number tells an endpoint."""
+    places: dict[tuple[str, str], Counter] = {}
+    for refused in session.refused:
+        if place := session.endpoint(refused.peer):
+            places.setdefault((fault_of(refused.reason), refused.call), Counter())[place] += 1
+    return places
+
+
+def of_places(places: dict[tuple[str, str], Counter], fault: str, call: str) -> str:
+    """The cell of a row: the endpoints that most came from."""
+    if not places:
+        return ""
+    found = places.get((fault, call), Counter()).most_common()
+    words = [f"{place} ({number(count)})" for place, count in found[:MOST_PEERS]]
+    more = f" and {len(found) - MOST_PEERS} more" if len(found) > MOST_PEERS else ""
+    return f"<td>{shown(', '.join(words))}{more}</td>"
 
 
 def meaning(fault: str) -> str:

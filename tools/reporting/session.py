@@ -88,6 +88,7 @@ class Refused:
     moment: int
     call: str  # rtcp, rtp, sent, tick, leave, configure, forget
     reason: str
+    peer: int | None = None  # of a datagram
 
     @property
     def is_datagram(self) -> bool:
@@ -214,7 +215,8 @@ class Session:
         moment = self.latest = int(moment)
         self.lines[kind] += 1
         if answer.refusal:
-            self.refused.append(Refused(moment, kind.decode(), answer.refusal))
+            peer = int(fields[0]) if kind in (b"rtcp", b"rtp") else None
+            self.refused.append(Refused(moment, kind.decode(), answer.refusal, peer))
             if kind == b"rtcp" and not answer.refusal.startswith(HELD_BACK):  # of those the BYE is another's
                 self._refuse(moment, answer.refusal, *fields)
             if answer.refusal.startswith(EXAMINED):

@@ -24,6 +24,8 @@ MEANINGS = {
     "F10": "more than 65,535 octets", "G1": "fewer octets than the head has", "G2": "the version of RTP is not 2",
     "G3": "a payload type of 72 to 76, which may be RTCP", "G4": "an extension longer than the datagram",
     "G5": "padding that cannot be",
+    "H1": "held back by the guard: it names a source of another address",
+    "H2": "held back by the guard: its address would have too many sources",
 }
 
 
