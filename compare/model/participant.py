@@ -752,6 +752,11 @@ def answer(participant, line):
         return f"refused {refusal}"
 
 
+def begun(options):
+    """A participant, with a guard before it if one is asked for."""
+    return (Guarded if options["guard"] else Participant)(options)
+
+
 def replay(arguments, octets, others=lambda participant: "\n", begin=None):
     """What goes to standard output and to standard error, and the status. `others` gives the end of each answer, and
     `begin` what answers: a participant, with a guard before it if one is asked for, unless told."""
@@ -761,7 +766,7 @@ def replay(arguments, octets, others=lambda participant: "\n", begin=None):
         return "", __doc__ + "\n", 2
     except Fault as fault:
         return "", f"{fault}\n", 2
-    participant = (begin or (Guarded if options["guard"] else Participant))(options)
+    participant = (begin or begun)(options)
     answers = [f"start members=1 senders=0 next={participant.next}{others(participant)}"]
     lines = octets.split(b"\n")
     if not lines[-1]:

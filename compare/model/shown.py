@@ -105,7 +105,7 @@ class Shown:
     the jitter of report blocks is by the clock of `--rate`, and in units if there is a `--clock`."""
 
     def __init__(self, options, to, is_plain=False):
-        self.participant, self.to = participant.Participant(participant.configuration(options)), to
+        self.participant, self.to = participant.begun(participant.configuration(options)), to
         rate = None if "--clock" in options else int(options[options.index("--rate") + 1])
         self.answer = (lambda octets: plain_answer(octets, rate)) if is_plain else decoder.answer
         self.cnames, self.trips = {}, {}  # of the sources that are listed
