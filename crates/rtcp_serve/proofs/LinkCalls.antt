@@ -572,7 +572,8 @@ runs_whole {takes = takes} {reader = reader} {start = start} {history = history}
 pub runs_cut : {O : Type 0} {takes : Notice → O → O → Type 0} {reader : Reader} {history : Served}
     {before after : Kept O} {counted : Tally} {at : SessionState → Type 0} {pauses : List Pause}
     (known : Bool → ℕ → Option Bool) (most made further left_at : ℕ)
-    (closed : Closes takes (run_of reader further before.observer) (at_the_start_of history before.words made) before.link
+    (closed : Closes takes (run_of reader further before.observer) (at_the_start_of history before.words made)
+    before.link
     after counted at pauses) (cause : Cause) (result : End) → closed.reached.stage ≡ ended cause
     → result ≡ end_of cause counted → IsCut (known false left_at) most made → left_at ≤ counted.moment
     → IsCut (known true counted.moment) most further → AreHeeded known most made pauses
@@ -668,7 +669,8 @@ arrival_room : (answer : GuardedAnswer) (more : ℕ) (tally : Tally) (link : Lin
     tally.refused + 1 + more < 2 ^ 64 → HasRoom more tally link
     → HasRoom more (with_arrival answer tally) link
 arrival_room (Ok step) more tally link one_more room = room
-arrival_room (Err refusal) more tally link one_more room = limit_room (ends_session refusal) more tally link one_more room
+arrival_room (Err refusal) more tally link one_more room = limit_room (ends_session refusal) more tally link one_more
+    room
 
 -- The room that is left once a datagram was counted, and the answer to it.
 pub datagram_room : (more : ℕ) (port : Port) (wait peer : ℕ) (octets : List ℕ) (answer : GuardedAnswer)

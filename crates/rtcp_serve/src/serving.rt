@@ -44,8 +44,8 @@ pub struct End {
     pub cause: Cause,
     /// How many datagrams came.
     pub received: u64,
-    /// How many of them the participant refused, or its guard held back: not as a compound, by their head, or for naming
-    /// its own SSRC where they could not change it.
+    /// How many of them the participant refused, or its guard held back: not as a compound, by their head, or for
+    /// naming its own SSRC where they could not change it.
     pub refused: u64,
     /// How many compounds were handed to the link, those that it failed to send included.
     pub sent: u64,

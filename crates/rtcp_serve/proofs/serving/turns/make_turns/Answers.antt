@@ -34,7 +34,8 @@ returns-then-is_none-clause-leads g c = (
         walks_to walk (
           walk.ends,
           inl (none_left (next_at walk.reached)
-              (ap is_some (sym (c.next_tick.ensures.exact walk.reached.history walk.holds.participant)) ∙ c.is_none.ensures
+              (ap is_some (sym (c.next_tick.ensures.exact walk.reached.history walk.holds.participant))
+              ∙ c.is_none.ensures
               ∙ ap not c.if-is_none.true)),
         ),
       ),
@@ -80,7 +81,8 @@ returns-in_err-turn-clause-leads g c = (
       (omega (arith, turns, c.turns-test.true)) leaving in
       let has : HasTurn left walk.reached = record {
         resting = walk.ends;
-        there = ap is_some (sym (c.next_tick.ensures.exact walk.reached.history walk.holds.participant)) ∙ c.is_none.ensures
+        there = ap is_some (sym (c.next_tick.ensures.exact walk.reached.history walk.holds.participant))
+            ∙ c.is_none.ensures
             ∙ ap not c.if-is_none.false;
         turns = omega (arith, is_left walk);
       } in
@@ -119,7 +121,8 @@ turns-preserved g c = record {
       (omega (arith, turns)) leaving in
       let has : HasTurn left walk.reached = record {
         resting = walk.ends;
-        there = ap is_some (sym (c.next_tick.ensures.exact walk.reached.history walk.holds.participant)) ∙ c.is_none.ensures
+        there = ap is_some (sym (c.next_tick.ensures.exact walk.reached.history walk.holds.participant))
+            ∙ c.is_none.ensures
             ∙ ap not c.if-is_none.false;
         turns = omega (arith, is_left walk);
       } in

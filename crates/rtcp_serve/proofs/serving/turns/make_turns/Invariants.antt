@@ -12,12 +12,14 @@ invariant-turns g l = record {
   room : (more : ℕ) → HasRoom (more + l.counter * 5) l.fn.tally (g.L.Link.value l.fn.link) →
       HasRoom more l.tally (g.L.Link.value l.link);
   leads : (run : Run g.row.O.Denot) (left : ℕ) (s : SessionState) → IsReader run.reader →
-      Holds g.O.Observer.takes run s (keeps_served (g.L.Link.value l.fn.link) (g.P.Attendant.value l.fn.participant) (g.R.Rng.stream l.fn.rng)
+      Holds g.O.Observer.takes run s (keeps_served (g.L.Link.value l.fn.link) (g.P.Attendant.value l.fn.participant)
+      (g.R.Rng.stream l.fn.rng)
       l.fn.observer) l.fn.tally → s.stage ≡ resting → s.turns ≡ left + l.counter → s.leaving ≡ l.fn.has_left
       → (pauses : List Pause) × ((most before : ℕ) → AreHeeded (g.E.Ending.known l.fn.ending) most before s.pauses →
       AreHeeded (g.E.Ending.known l.fn.ending) most before pauses)
       × Walks g.O.Observer.takes run s (g.L.Link.value l.fn.link)
-      (keeps_served (g.L.Link.value l.link) (g.P.Attendant.value l.participant) (g.R.Rng.stream l.rng) l.observer) l.tally
+      (keeps_served (g.L.Link.value l.link) (g.P.Attendant.value l.participant) (g.R.Rng.stream l.rng) l.observer)
+      l.tally
       (λ t. t.stage ≡ resting) (turns_with left s.leaving pauses);
   ending : (left : Bool) (at : ℕ) →
       g.E.Ending.known l.ending left at ≡ g.E.Ending.known l.fn.ending left at;
