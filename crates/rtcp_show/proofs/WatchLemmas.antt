@@ -49,7 +49,8 @@ second_ok P (Err e) b given = tt
 
 -- what an event tells of sources, before the rows are due
 pub record Notes
-    (event : EventValue) (answer : GuardedAnswer) (history : History) (arrived : ℕ) (before after : Board) : Type 0 where
+    (event : EventValue) (answer : GuardedAnswer) (history : History) (arrived : ℕ) (before after : Board) : Type
+    0 where
   pub noted : (packets : List RtcpPacket) → HasPackets event answer packets → (ssrc : ℕ) →
       noted_in after.notes ssrc ≡ if_listed (lists history ssrc)
       (noted_after arrived (setup_at history).ssrc packets ssrc)

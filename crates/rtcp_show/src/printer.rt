@@ -38,8 +38,8 @@ pub(crate) struct Terms {
 }
 
 /// Writes the lines of a session to a writer: those of each event and its answer ([`push_lines`](crate::push_lines)),
-/// and once a second the members, the senders and a row for each source ([`push_row`](crate::push_row)), unless they are
-/// the last ones again. Each part is flushed.
+/// and once a second the members, the senders and a row for each source ([`push_row`](crate::push_row)), unless they
+/// are the last ones again. Each part is flushed.
 #[derive(Drop)]
 pub struct Printer<W> {
     terms: Terms,
