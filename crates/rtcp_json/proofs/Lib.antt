@@ -1,0 +1,11 @@
+mod AddingLemmas
+mod AnswerLemmas
+mod CheckJsonLemmas
+mod FitLemmas
+mod GuardedJsonLemmas
+mod LineLemmas
+mod ReplayJsonLemmas
+mod SmallLemmas
+mod TextLemmas
+mod ValueLemmas
+mod examples

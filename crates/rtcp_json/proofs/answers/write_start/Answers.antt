@@ -1,0 +1,14 @@
+use Rattle.rtcp_json.proofs.AddingLemmas.{one, then}
+use Rattle.rtcp_json.proofs.answers.write_start.Goals as goal
+
+pub returns : goal.returns
+returns c =
+    then (one c.in_ok-begin_object.ensures)
+    (then (one c.in_ok-key.ensures)
+    (then
+    (then (one c.in_ok-begin_object-2.ensures)
+    (then c.in_ok-write_number.ensures
+    (then c.in_ok-write_number-2.ensures
+    (then c.in_ok-write_next.ensures
+    (one c.in_ok-end_object.ensures)))))
+    (one c.in_ok-end_object-2.ensures)))

@@ -1,0 +1,2 @@
+mod AnswerRows
+mod PacketRows

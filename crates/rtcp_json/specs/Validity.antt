@@ -1,0 +1,37 @@
+-- What a line of JSON promises to whoever reads it, whatever a peer sent.
+use Rattle.std.specs.Prelude.{◌≡◌, ℕ, ◌^◌, ◌<◌, Option, Some, None}
+use Rattle.std.specs.Str.{IsUtf8}
+use Rattle.json.specs.Json.{Json, document}
+use Rattle.rtcp_engine.specs.answers.Steps.{StepValue}
+use Rattle.rtcp_engine.specs.declared.refusal.Refusal.{Refusal}
+use Rattle.rtcp_engine.specs.declared.refusal.Refusal.TheVariants.{Left, Backwards, TooFar, TooMany, Wire, Rtp, OwnSsrc, Settings}
+use Rattle.rtcp_text.specs.Lines.{HasNoLineFeed}
+use Rattle.rtcp_json.specs.JsonValues.{json_text}
+
+-- The text is one document of JSON (RFC 8259), which is read as this value. It is UTF-8 and has no line feed, so the
+-- only one in the line is its last octet.
+pub record IsValidLine (value : Json) : Type 0 where
+  pub reads : document (json_text value) ≡ Some value
+  pub utf8 : IsUtf8 (json_text value)
+  pub whole : HasNoLineFeed (json_text value)
+
+-- ---- The ranges of an answer's numbers, as Rust's types have them
+
+abbrev pub IsMomentInRange : Option ℕ → Type 0
+IsMomentInRange None = Unit {0}
+IsMomentInRange (Some moment) = moment < 2 ^ 64
+
+pub record IsStepInRange (step : StepValue) : Type 0 where
+  pub members : step.members < 2 ^ 32
+  pub senders : step.senders < 2 ^ 32
+  pub next : IsMomentInRange step.next
+
+abbrev pub IsRefusalInRange : Refusal → Type 0
+IsRefusalInRange Left = Unit {0}
+IsRefusalInRange Backwards = Unit {0}
+IsRefusalInRange TooFar = Unit {0}
+IsRefusalInRange TooMany = Unit {0}
+IsRefusalInRange (Wire fault) = fault.place < 2 ^ 64
+IsRefusalInRange (Rtp fault) = Unit {0}
+IsRefusalInRange OwnSsrc = Unit {0}
+IsRefusalInRange (Settings error) = Unit {0}
