@@ -7,7 +7,7 @@ from pathlib import Path
 FLAGS = ["-std=gnu11", "-O2", "-Wall", "-Wextra", f"-I{Path(__file__).resolve().parents[1]}/stacks"]
 DEBIAN = ["gcc", "pkg-config", "libgstreamer1.0-dev", "libgstreamer-plugins-base1.0-dev", "libunwind-dev",
           "gstreamer1.0-plugins-good"]
-GSTREAMER = ["gstreamer-check-1.0", "gstreamer-1.0"]
+GSTREAMER = ["gstreamer-check-1.0", "gstreamer-net-1.0", "gstreamer-1.0", "gio-2.0"]
 
 
 def install():

@@ -136,7 +136,7 @@ static void give(const uint8_t *octets, size_t size, size_t from, size_t to)
 {
     participant *it = &all[to];
     if (it->session) {
-        push_octets(it->rtcp, octets, size);
+        push_octets(it->rtcp, NULL, octets, size);
         return;
     }
     static uint8_t out[JALWEDD_OCTETS];

@@ -4,6 +4,7 @@
 #define RTPSESSION_H
 
 #include <gst/gst.h>
+#include <gst/net/gstnet.h>
 
 /* Links one of its sources to a pad that passes what comes to a function, with a value of the pad's own. */
 static inline void listen_at(GstPad *source, GstPadChainFunction function, gpointer value)
@@ -30,11 +31,13 @@ static inline GstPad *feed_of(GstElement *session, const char *name, GstCaps *ca
     return source;
 }
 
-/* Pushes so many octets to one of its sinks. */
-static inline void push_octets(GstPad *feed, const guint8 *octets, gsize size)
+/* Pushes so many octets to one of its sinks, as what came from an address, if one is given. */
+static inline void push_octets(GstPad *feed, GSocketAddress *from, const guint8 *octets, gsize size)
 {
     GstBuffer *buffer = gst_buffer_new_allocate(NULL, size, NULL);
     gst_buffer_fill(buffer, 0, octets, size);
+    if (from)
+        gst_buffer_add_net_address_meta(buffer, from);
     gst_pad_push(feed, buffer);
 }
 

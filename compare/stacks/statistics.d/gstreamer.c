@@ -1,14 +1,17 @@
-/* Passes a stream of datagrams to GStreamer's rtpsession, for compare/stacks/statistics. Its clock is a GstTestClock,
- * which stands at the moment of each line, or at the moment of rtpsession's own timer, rounded up to a microsecond.
+/* Passes a stream of datagrams to GStreamer's rtpsession, for compare/stacks/statistics, membership and strangers. Its
+ * clock is a GstTestClock, which stands at the moment of each line, or at the moment of rtpsession's own timer, rounded
+ * up to a microsecond.
  *
  * Lines on standard input: "rtp MOMENT TIMES HEX", a datagram that comes so often; "rtcp MOMENT HEX"; "look MOMENT";
- * "end MOMENT". It prints "check MOMENT" when the timer expired, "report MOMENT HEX" for each compound, and for a look
- * "seen MOMENT SSRC:ROLE ..": each source that is valid and said no goodbye, as member or sender.
+ * "end MOMENT". "from HOST PORT" gives the datagrams after it an address, RTCP with the port one above; those before
+ * it have none. It prints "check MOMENT" when the timer expired, "report MOMENT HEX" for each compound, and for a look
+ * "seen MOMENT SSRC:ROLE:RECEIVED:NTP ..": each source that is valid and said no goodbye, as member or sender, with its
+ * packets, and the NTP timestamp of its latest sender report.
  *
- * usage: gstreamer SEED own|standard INTERVAL TYPE:RATE.. < LINES
+ * usage: gstreamer SEED own|standard INTERVAL BANDWIDTH TYPE:RATE.. < LINES
  *        gstreamer                prints the version of the plugin that has rtpsession
  * `own` leaves rtpsession its limits on jumps, and `standard` sets those of RFC 3550, A.1. INTERVAL is the minimum
- * between reports, in milliseconds. */
+ * between reports, in milliseconds, and BANDWIDTH that of the session, in bits a second. */
 #include "rtpsession.h"
 
 #include <gst/check/gsttestclock.h>
@@ -22,6 +25,7 @@ enum { ROOM = 4096, TYPES = 128 };
 
 static GstClock *the_clock;
 static int rates[TYPES];
+static GSocketAddress *rtp_from, *rtcp_from;
 
 static GstFlowReturn on_report(GstPad *pad, GstObject *parent, GstBuffer *buffer)
 {
@@ -54,14 +58,14 @@ static GstCaps *caps_of(GstElement *session, guint type, gpointer data)
                                rates[type % TYPES], NULL);
 }
 
-static GstElement *new_session(gboolean is_standard, guint64 interval)
+static GstElement *new_session(gboolean is_standard, guint64 interval, double bandwidth)
 {
     GstElement *session = gst_element_factory_make("rtpsession", NULL);
     GObject *inner;
     g_assert(session);
     if (is_standard)
         g_object_set(session, "max-dropout-time", 0, "max-misorder-time", 0, NULL);
-    g_object_set(session, "bandwidth", 1e9, "rtcp-min-interval", interval * GST_MSECOND, NULL);
+    g_object_set(session, "bandwidth", bandwidth, "rtcp-min-interval", interval * GST_MSECOND, NULL);
     g_object_get(session, "internal-session", &inner, NULL);
     g_object_set(inner, "internal-ssrc", 0xAA, NULL);
     g_object_unref(inner);
@@ -89,7 +93,18 @@ static void go_to(GstClockTime moment, gboolean has_begun)
     gst_test_clock_set_time(clock, moment);
 }
 
-static void push(GstPad *pad, const char *hex, unsigned times)
+static void come_from(const char *line)
+{
+    char host[16];
+    unsigned port;
+    g_assert(sscanf(line, "from %15s %u", host, &port) == 2);
+    g_clear_object(&rtp_from);
+    g_clear_object(&rtcp_from);
+    rtp_from = g_inet_socket_address_new_from_string(host, port);
+    rtcp_from = g_inet_socket_address_new_from_string(host, port + 1);
+}
+
+static void push(GstPad *pad, GSocketAddress *from, const char *hex, unsigned times)
 {
     uint8_t octets[ROOM];
     size_t size = 0;
@@ -97,19 +112,22 @@ static void push(GstPad *pad, const char *hex, unsigned times)
     for (; sscanf(hex, "%2x", &octet) == 1; hex += 2)
         octets[size++] = (uint8_t)octet;
     while (times--)
-        push_octets(pad, octets, size);
+        push_octets(pad, from, octets, size);
 }
 
 /* A source that is valid and said no goodbye counts among `num-active-sources`. */
 static void print_source(const GstStructure *source)
 {
     guint ssrc;
+    guint64 received = 0, ntp = 0;
     gboolean is_internal, is_valid, has_left, is_sender;
     g_assert(gst_structure_get(source, "ssrc", G_TYPE_UINT, &ssrc, "internal", G_TYPE_BOOLEAN, &is_internal,
                                "validated", G_TYPE_BOOLEAN, &is_valid, "received-bye", G_TYPE_BOOLEAN, &has_left,
                                "is-sender", G_TYPE_BOOLEAN, &is_sender, NULL));
+    gst_structure_get(source, "packets-received", G_TYPE_UINT64, &received, NULL);
+    gst_structure_get(source, "sr-ntptime", G_TYPE_UINT64, &ntp, NULL);
     if (!is_internal && is_valid && !has_left)
-        printf(" %08x:%s", ssrc, is_sender ? "sender" : "member");
+        printf(" %08x:%s:%" PRIu64 ":%016" PRIx64, ssrc, is_sender ? "sender" : "member", received, ntp);
 }
 
 static void look(GstElement *session, uint64_t moment)
@@ -135,6 +153,10 @@ static void take_lines(GstElement *session, GstPad *rtp, GstPad *rtcp)
         uint64_t moment;
         unsigned times = 1;
         int hex = 0;
+        if (g_str_has_prefix(line, "from")) {
+            come_from(line);
+            continue;
+        }
         g_assert(sscanf(line, "%7s %" SCNu64 " %n", kind, &moment, &hex) == 2);
         if (!strcmp(kind, "rtp"))
             sscanf(line, "rtp %*u %u %n", &times, &hex);
@@ -145,7 +167,8 @@ static void take_lines(GstElement *session, GstPad *rtp, GstPad *rtcp)
             look(session, moment);
             continue;
         }
-        push(strcmp(kind, "rtp") ? rtcp : rtp, line + hex, times);
+        gboolean is_rtp = !strcmp(kind, "rtp");
+        push(is_rtp ? rtp : rtcp, is_rtp ? rtp_from : rtcp_from, line + hex, times);
         has_begun = TRUE;
     }
 }
@@ -164,9 +187,9 @@ static int print_version(void)
 int main(int count, char **values)
 {
     gst_init(NULL, NULL);
-    if (count < 5)
+    if (count < 6)
         return print_version();
-    for (int at = 4; at < count; at++) {
+    for (int at = 5; at < count; at++) {
         int type, rate;
         g_assert(sscanf(values[at], "%d:%d", &type, &rate) == 2 && type >= 0 && type < TYPES);
         rates[type] = rate;
@@ -174,7 +197,7 @@ int main(int count, char **values)
     the_clock = gst_test_clock_new_with_start_time(0);
     gst_system_clock_set_default(the_clock);
     g_random_set_seed((guint32)atoi(values[1]));
-    GstElement *session = new_session(!strcmp(values[2], "standard"), (guint64)atoi(values[3]));
+    GstElement *session = new_session(!strcmp(values[2], "standard"), (guint64)atoi(values[3]), atof(values[4]));
     listen_at(gst_element_request_pad_simple(session, "send_rtcp_src"), on_report, NULL);
     gst_element_set_state(session, GST_STATE_PLAYING);
     GstPad *rtp = feed_of(session, "recv_rtp_sink", gst_caps_new_empty_simple("application/x-rtp"));
