@@ -1,4 +1,4 @@
--- The values of JSON that the answers of a participant are shown as by `rtcp replay --json`.
+-- The values of JSON that a replay shows the answers of a participant as.
 --
 --   {"start":{"members":1,"senders":0,"next":1026037}}
 --   {"members":2,"senders":0,"next":1026037,"out":null,"ssrc":null}

@@ -1,4 +1,4 @@
--- The values of JSON that datagrams are shown as by `rtcp check --json`.
+-- The values of JSON that a check shows datagrams as.
 --
 --   {"packets":[{"type":"RR","ssrc":"00000007","blocks":[],"extension":""}]}
 --   {"refused":"F1 Short","at":0}
