@@ -19,9 +19,12 @@
 -- Falls: `Falling` goes from tick to tick, a longest wait apart: each brings a report, or a fall came since the one
 -- before.
 --
+-- Departures: `Departing` says of each kind of step of a trace which members it leaves, and counts them. `Departed` goes
+-- from there to acts, to falls and to reports, and `TimingOut` to the silence before a time-out.
+--
 -- `examples` has small sessions. Among them are a turnover, in which at most two wait at a time and each counts two,
 -- and a pair whose reports come 300 milliseconds late. The modules `WrongRows`, `DeliveryWrongs`, `JoinRows`,
--- `LeaveRows` and `FallRows` disprove claims that are a little stronger.
+-- `LeaveRows`, `FallRows` and `DepartureWrongs` disprove claims that are a little stronger.
 mod Deciding
 mod Loads
 mod Hearing
@@ -46,3 +49,6 @@ mod Delivering
 mod Delivered
 mod Introduced
 mod Falling
+mod Departing
+mod Departed
+mod TimingOut

@@ -5,3 +5,4 @@ pub mod Joins
 pub mod BackoffByes
 pub mod Deliveries
 pub mod Falls
+pub mod Departures
