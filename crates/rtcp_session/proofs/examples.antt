@@ -6,3 +6,5 @@ mod LeaveRows
 mod WrongRows
 mod DeliveryWrongs
 mod FallRows
+mod DepartureRows
+mod DepartureWrongs

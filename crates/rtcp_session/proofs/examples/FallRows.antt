@@ -8,17 +8,17 @@ use Rattle.rtcp_session.proofs.examples.CrowdRows.{stands, who_hears}
 
 -- ---- A participant that was not told of anything yet
 
-abbrev told : History
+abbrev pub told : History
 told = (who_hears 187 170).history
 
-abbrev untold : History
+abbrev pub untold : History
 untold = record { setup = told.setup; word = told.word; acts = [] }
 
-untold_stands : IsHistory untold
+pub untold_stands : IsHistory untold
 untold_stands = let whole : IsHistory told = stands told refl in
     record { usable = whole.usable; word = whole.word; taken = tt }
 
-has_none : (from until : ℕ) → HasReport from until [] → ⊥
+pub has_none : (from until : ℕ) → HasReport from until [] → ⊥
 has_none from until h = by h.later h.report h.earlier h.parts
   where
     by : (later : List Sent) (report : Sent) (earlier : List Sent) → [] ≡ later ++ report ∷ earlier → ⊥
