@@ -1,8 +1,8 @@
 -- What a step of a trace leaves of the members: those who do not depart by it. So they fall in number only where one
 -- of them departs.
-use Rattle.std.proofs.Common.{◌≡◌, ℕ, ◌<◌, ◌≤◌, ◌&&◌, ◌||◌, ◌==◌, not, nat_lt, Bool, true, false, cond, List, [], ◌∷◌, length, filter, Option, Some, None, is_none, option_map, if◌then◌else◌, refl, sym, ap, ◌∙◌, arith, le_refl}
+use Rattle.std.proofs.Common.{◌≡◌, ℕ, ◌+◌, ◌<◌, ◌≤◌, ◌&&◌, ◌||◌, ◌==◌, not, nat_lt, Bool, true, false, cond, List, [], ◌∷◌, length, filter, Option, Some, None, is_none, is_some, option_map, if◌then◌else◌, refl, sym, ap, ◌∙◌, arith, le_refl}
 use Rattle.std.specs.List.{list_any}
-use Rattle.std.proofs.lemmas.Bool.{ltb-false, or_parts}
+use Rattle.std.proofs.lemmas.Bool.{ltb-false, or_parts, or_right}
 use Rattle.rtcp_wire.specs.declared.fact.Fact.{Fact}
 use Rattle.rtcp_wire.specs.Facts.{subject, is_gone}
 use Rattle.rtcp_members.specs.Traces.{Horizons, TraceStep, fact_came, check_made, block_made_of, source_forgotten, names, with_facts}
@@ -10,12 +10,16 @@ use Rattle.rtcp_members.specs.Stays.{mark_at, mark_of, ends_stay, is_removed, la
 use Rattle.rtcp_members.specs.Entries.{entry_of, entry_at, is_member, is_such, members_at}
 use Rattle.rtcp_members.specs.Pending.{EntryRow}
 use Rattle.rtcp_members.proofs.Lasting.{all_before, member_on, naming_of_stay, stay_of_member}
-use Rattle.rtcp_members.proofs.LawLemmas.{roles_move_with_counts-block, roles_move_with_counts-kept}
+use Rattle.rtcp_members.proofs.LawLemmas.{present_were_named_and_fit-named, roles_move_with_counts-block, roles_move_with_counts-kept}
 use Rattle.rtcp_report.specs.Traced.{with_blocks}
 
 -- whether one of these facts says that a source left
 abbrev pub says_bye_among : (ssrc : ℕ) → List Fact → Bool
 says_bye_among ssrc facts = list_any (λ fact. is_gone fact && subject fact == ssrc) facts
+
+-- whether a source is one of these
+abbrev pub is_in : ℕ → List ℕ → Bool
+is_in x xs = list_any (λ other. other == x) xs
 
 -- ---- Members after a step
 
@@ -171,6 +175,48 @@ facts_name test t (fact ∷ facts) trace =
     facts_name test t facts (fact_came fact t ∷ trace) in
     omega (arith, one, rest)
 
+-- Whom a fact does not name yet is no earlier member, and so those are counted once.
+known_before : (test : ℕ → Bool) (fact : Fact) (trace : List TraceStep) →
+    ((x : ℕ) → test x ≡ true → is_in x (names trace) ≡ true) → (known : Bool) →
+    (is_gone fact || is_in (subject fact) (names trace)) ≡ known →
+    length (filter test (if known then names trace else subject fact ∷ names trace))
+    ≤ length (filter test (names trace))
+known_before test fact trace all true is = le_refl _
+known_before test fact trace all false is = by (test (subject fact)) (all (subject fact))
+  where
+    by : (passes : Bool) → (passes ≡ true → is_in (subject fact) (names trace) ≡ true) →
+        length (cond passes (subject fact ∷ filter test (names trace)) (filter test (names trace)))
+        ≤ length (filter test (names trace))
+    by true there =
+        let unknown = (or_parts (is_gone fact) (is_in (subject fact) (names trace)) is).1 in
+        let both : false ≡ true = sym unknown ∙ there refl in absurd cc
+    by false there = le_refl _
+
+still_in : (x : ℕ) (fact : Fact) (trace : List TraceStep) → is_in x (names trace) ≡ true →
+    is_in x (names (fact_came fact 0 ∷ trace)) ≡ true
+still_in x fact trace there = by (is_gone fact || is_in (subject fact) (names trace))
+  where
+    by : (known : Bool) → is_in x (if known then names trace else subject fact ∷ names trace) ≡ true
+    by true = there
+    by false = or_right (subject fact == x) (is_in x (names trace)) there
+
+facts_known : (test : ℕ → Bool) (t : ℕ) (facts : List Fact) (trace : List TraceStep) →
+    ((x : ℕ) → test x ≡ true → is_in x (names trace) ≡ true) →
+    length (filter test (names (with_facts facts t trace))) ≤ length (filter test (names trace))
+facts_known test t [] trace all = le_refl _
+facts_known test t (fact ∷ facts) trace all =
+    let one : length (filter test (names (fact_came fact t ∷ trace))) ≤ length (filter test (names trace)) =
+    known_before test fact trace all (is_gone fact || is_in (subject fact) (names trace)) refl in
+    let rest : length (filter test (names (with_facts facts t (fact_came fact t ∷ trace))))
+    ≤ length (filter test (names (fact_came fact t ∷ trace))) =
+    facts_known test t facts (fact_came fact t ∷ trace) (λ x is. still_in x fact trace (all x is)) in
+    omega (arith, one, rest)
+
+blocks_known : (test : ℕ → Bool) (rows : List EntryRow) (trace : List TraceStep) →
+    length (filter test (names (with_blocks rows trace))) ≤ length (filter test (names trace))
+blocks_known test [] trace = le_refl _
+blocks_known test (row ∷ rows) trace = blocks_known test rows (block_made_of row.0 ∷ trace)
+
 blocks_name : (test : ℕ → Bool) (rows : List EntryRow) (trace : List TraceStep) →
     length (filter test (names trace)) ≤ length (filter test (names (with_blocks rows trace)))
 blocks_name test [] trace = le_refl _
@@ -201,6 +247,8 @@ no_fewer test departs later stay (x ∷ xs) none =
 pub record Leaves (capacity : ℕ) (departs : ℕ → Bool) (before now : List TraceStep) : Type 0 where
   pub roles : (ssrc : ℕ) → member capacity before ssrc ≡ true → member capacity now ssrc ≡ not (departs ssrc)
   pub named : (test : ℕ → Bool) → length (filter test (names before)) ≤ length (filter test (names now))
+  pub known : (test : ℕ → Bool) → ((x : ℕ) → test x ≡ true → is_in x (names before) ≡ true) →
+      length (filter test (names now)) ≤ length (filter test (names before))
 
 module _ (capacity : ℕ) where
   pub alike : (departs others : ℕ → Bool) (before now : List TraceStep) → ((ssrc : ℕ) → departs ssrc ≡ others ssrc) →
@@ -208,16 +256,18 @@ module _ (capacity : ℕ) where
   alike departs others before now same h = record {
     roles = λ ssrc is. h.roles ssrc is ∙ ap not (same ssrc);
     named = h.named;
+    known = h.known;
   }
 
   pub by_nothing : (trace : List TraceStep) → Leaves capacity (λ ssrc. false) trace trace
-  by_nothing trace = record { roles = λ ssrc is. is; named = λ test. le_refl _ }
+  by_nothing trace = record { roles = λ ssrc is. is; named = λ test. le_refl _; known = λ test all. le_refl _ }
 
   pub by_facts : (t : ℕ) (facts : List Fact) (trace : List TraceStep) →
       Leaves capacity (λ ssrc. says_bye_among ssrc facts) trace (with_facts facts t trace)
   by_facts t facts trace = record {
     roles = λ ssrc is. facts_member capacity ssrc t facts trace is;
     named = λ test. facts_name test t facts trace;
+    known = λ test. facts_known test t facts trace;
   }
 
   pub by_check : (horizons : Horizons) (trace : List TraceStep) →
@@ -225,6 +275,7 @@ module _ (capacity : ℕ) where
   by_check horizons trace = record {
     roles = λ ssrc is. checked_member capacity ssrc horizons trace is;
     named = λ test. le_refl _;
+    known = λ test all. le_refl _;
   }
 
   pub by_forgetting : (gone : ℕ) (trace : List TraceStep) →
@@ -232,6 +283,7 @@ module _ (capacity : ℕ) where
   by_forgetting gone trace = record {
     roles = λ ssrc is. forgotten_member capacity ssrc gone trace is;
     named = λ test. le_refl _;
+    known = λ test all. le_refl _;
   }
 
   pub with_blocks_too : (departs : ℕ → Bool) (rows : List EntryRow) (before now : List TraceStep) →
@@ -239,6 +291,8 @@ module _ (capacity : ℕ) where
   with_blocks_too departs rows before now h = record {
     roles = λ ssrc is. sym (blocks_member capacity ssrc rows now) ∙ h.roles ssrc is;
     named = λ test. (let one = h.named test in let more = blocks_name test rows now in omega (arith, one, more));
+    known = λ test all.
+        (let one = h.known test all in let more = blocks_known test rows now in omega (arith, one, more));
   }
 
   -- Where there are fewer members than before, one of those departs.
@@ -258,3 +312,83 @@ module _ (capacity : ℕ) where
           let more : length (filter (λ ssrc. member capacity now ssrc) (names before)) ≤ members_at capacity now =
           h.named (λ ssrc. member capacity now ssrc) in
           absurd (omega (arith, fell, kept, more))
+
+-- ---- Who is new
+
+-- Those who pass the second test, and those who pass the first alone, are those who pass the first, and those who pass
+-- the second alone.
+balance : (first second : ℕ → Bool) (xs : List ℕ) →
+    length (filter second xs) + length (filter (λ x. first x && not (second x)) xs)
+    ≡ length (filter first xs) + length (filter (λ x. not (first x) && second x) xs)
+balance first second [] = refl
+balance first second (x ∷ xs) = by (first x) (second x) (balance first second xs)
+  where
+    by : (a b : Bool) →
+        length (filter second xs) + length (filter (λ x. first x && not (second x)) xs)
+        ≡ length (filter first xs) + length (filter (λ x. not (first x) && second x) xs) →
+        length (cond b (x ∷ filter second xs) (filter second xs))
+        + length (cond (a && not b) (x ∷ filter (λ x. first x && not (second x)) xs)
+        (filter (λ x. first x && not (second x)) xs))
+        ≡ length (cond a (x ∷ filter first xs) (filter first xs))
+        + length (cond (not a && b) (x ∷ filter (λ x. not (first x) && second x) xs)
+        (filter (λ x. not (first x) && second x) xs))
+    by true true rest = omega (arith, rest)
+    by true false rest = omega (arith, rest)
+    by false true rest = omega (arith, rest)
+    by false false rest = rest
+
+some_pass : (test : ℕ → Bool) (xs : List ℕ) → list_any test xs ≡ true → 1 ≤ length (filter test xs)
+some_pass test [] any = absurd (let is : false ≡ true = any in cc)
+some_pass test (x ∷ xs) any = by (test x) any (some_pass test xs)
+  where
+    by : (passes : Bool) → (passes || list_any test xs) ≡ true →
+        (list_any test xs ≡ true → 1 ≤ length (filter test xs)) →
+        1 ≤ length (cond passes (x ∷ filter test xs) (filter test xs))
+    by true any rest = omega arith
+    by false any rest = rest any
+
+module _ (capacity : ℕ) (departs : ℕ → Bool) (before now : List TraceStep) (h : Leaves capacity departs before now)
+  where
+    abbrev was : ℕ → Bool
+    was ssrc = member capacity before ssrc
+
+    abbrev stays : ℕ → Bool
+    stays ssrc = member capacity now ssrc
+
+    abbrev went : ℕ → Bool
+    went ssrc = was ssrc && not (stays ssrc)
+
+    was_named : (ssrc : ℕ) → was ssrc ≡ true → is_in ssrc (names before) ≡ true
+    was_named ssrc member_then =
+        let (stay, lasts) = stay_of_member capacity ssrc before member_then in
+        present_were_named_and_fit-named capacity before ssrc (ap is_some lasts.is.found)
+
+    departed_went : (ssrc : ℕ) → (was ssrc && departs ssrc) ≡ went ssrc
+    departed_went ssrc = by (was ssrc) (departs ssrc) (stays ssrc) (h.roles ssrc)
+      where
+        by : (a d b : Bool) → (a ≡ true → b ≡ not d) → (a && d) ≡ (a && not b)
+        by true true b role = ap not (sym (role refl))
+        by true false b role = ap not (sym (role refl))
+        by false d b role = refl
+
+    -- Who is a member now was one, or is new, and those who departed are not among them.
+    pub departures_are_paid : (any : Bool) →
+        list_any (λ ssrc. member capacity before ssrc && departs ssrc) (names before) ≡ any →
+        members_at capacity now + (if any then 1 else 0)
+        ≤ members_at capacity before
+        + length (filter (λ ssrc. not (member capacity before ssrc) && member capacity now ssrc) (names now))
+    departures_are_paid any found =
+        let all : length (filter was (names now)) ≤ members_at capacity before = h.known was was_named in
+        let even = balance was stays (names now) in
+        let gone : (if any then 1 else 0) ≤ length (filter went (names now)) = at_least any found in
+        omega (arith, all, even, gone)
+      where
+        at_least : (any : Bool) → list_any (λ ssrc. was ssrc && departs ssrc) (names before) ≡ any →
+            (if any then 1 else 0) ≤ length (filter went (names now))
+        at_least true found =
+            let some : list_any went (names before) ≡ true =
+            ap (λ (test : ℕ → Bool). list_any test (names before)) (λ i ssrc. sym (departed_went ssrc) i) ∙ found in
+            let one : 1 ≤ length (filter went (names before)) = some_pass went (names before) some in
+            let more : length (filter went (names before)) ≤ length (filter went (names now)) = h.named went in
+            omega (arith, one, more)
+        at_least false found = omega arith

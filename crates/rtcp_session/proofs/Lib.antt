@@ -20,7 +20,8 @@
 -- before.
 --
 -- Departures: `Departing` says of each kind of step of a trace which members it leaves, and counts them. `Departed` goes
--- from there to acts, to falls and to reports, and `TimingOut` to the silence before a time-out.
+-- from there to acts, to falls and to reports, `NewMembers` to the members that departures take, and `TimingOut` to the
+-- silence before a time-out.
 --
 -- `examples` has small sessions. Among them are a turnover, in which at most two wait at a time and each counts two,
 -- and a pair whose reports come 300 milliseconds late. The modules `WrongRows`, `DeliveryWrongs`, `JoinRows`,
@@ -51,4 +52,5 @@ mod Introduced
 mod Falling
 mod Departing
 mod Departed
+mod NewMembers
 mod TimingOut

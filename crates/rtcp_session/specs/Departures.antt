@@ -1,18 +1,20 @@
 -- Who departs (RFC 3550, 6.3.4, 6.3.5, 6.6): a member that a BYE packet names, one that was silent for too long at a
 -- tick, and one that the host says is gone. Lists are newest first; moments and intervals are in microseconds.
-use Rattle.std.specs.Prelude.{ℕ, ◌≡◌, ◌+◌, ◌*◌, ◌<◌, ◌==◌, ◌&&◌, not, Bool, true, false, nat_lt, nat_le, List, [], ◌∷◌, flat_map, length, if◌then◌else◌, Ok}
+use Rattle.std.specs.Prelude.{ℕ, ◌≡◌, ◌+◌, ◌*◌, ◌<◌, ◌==◌, ◌&&◌, not, Bool, true, false, nat_lt, nat_le, List, [], ◌∷◌, filter, flat_map, length, if◌then◌else◌, Ok}
 use Rattle.std.specs.List.{list_any}
 use Rattle.rtcp_wire.specs.Values.{RtcpPacket, sr, rr, sdes, bye, app, other}
 use Rattle.rtcp_members.specs.Traces.{names}
 use Rattle.rtcp_members.specs.Stays.{last_naming}
-use Rattle.rtcp_members.specs.Entries.{entry_at, is_member, is_such}
+use Rattle.rtcp_members.specs.Entries.{entry_at, is_member, is_such, members_at}
 use Rattle.rtcp_engine.specs.answers.Setups.{Setup}
 use Rattle.rtcp_engine.specs.answers.Acts.{Act, arrived, rtcp, ticked, forgotten, moment_of}
 use Rattle.rtcp_engine.specs.answers.Identities.{is_among}
+use Rattle.rtcp_engine.specs.answers.Arrivals.{after}
 use Rattle.rtcp_engine.specs.answers.Outcomes.{Outcome, check_interval, is_initial}
 use Rattle.rtcp_engine.specs.answers.Ticks.{checked}
 use Rattle.rtcp_engine.specs.answers.Leaving.{Life, present, backing_off, finished}
 use Rattle.rtcp_engine.specs.answers.Histories.{History, session_at, session_for}
+use Rattle.rtcp_engine.specs.bounds.Hearing.{with_acts}
 
 -- ---- BYE packets
 
@@ -85,6 +87,33 @@ departures_within setup word from until (act ∷ earlier) =
     let departs = is_departure_after (record { setup = setup; word = word; acts = earlier }) act in
     (if departs && (nat_lt from (moment_of act) && nat_le (moment_of act) until) then 1 else 0)
     + departures_within setup word from until earlier
+
+-- ---- New members
+
+-- how many others are members, as long as the participant takes part
+abbrev pub other_members : Setup → Life → ℕ
+other_members setup (present outcome) = members_at setup.capacity outcome.trace
+other_members setup (backing_off outcome backoff) = 0
+other_members setup (finished outcome) = 0
+
+-- A source becomes a member by an act: it was none before it, and is one after it.
+abbrev pub becomes_member_by : Setup → Act → Outcome → (ssrc : ℕ) → Bool
+becomes_member_by setup act outcome ssrc =
+    not (is_member_of setup outcome ssrc) && is_member_of setup (after setup act outcome) ssrc
+
+-- how many do
+abbrev pub new_members_by : Setup → Act → Life → ℕ
+new_members_by setup act (present outcome) =
+    length (filter (λ ssrc. becomes_member_by setup act outcome ssrc) (names (after setup act outcome).trace))
+new_members_by setup act (backing_off outcome backoff) = 0
+new_members_by setup act (finished outcome) = 0
+
+-- how many become members by acts that follow on a history, each as often as it does
+abbrev pub new_members_since : History → (since : List Act) → ℕ
+new_members_since history [] = 0
+new_members_since history (act ∷ since) =
+    let now = session_for (session_at (with_acts since history)) act in
+    new_members_by now.setup act now.life + new_members_since history since
 
 -- ---- Time-outs
 

@@ -1,7 +1,7 @@
 //! Laws of who departs: where falls in the number of members come from, how long a member was silent that is timed out,
 //! and how far departures put reports off. Each is a function that does nothing, whose postcondition is the law.
 
-ghost use Rattle.std.specs.Prelude.{◌≡◌, ◌<◌, ◌≤◌, ◌+◌, ◌*◌, ℕ, not, true, false, Contains};
+ghost use Rattle.std.specs.Prelude.{◌≡◌, ◌<◌, ◌≤◌, ◌+◌, ◌*◌, ◌++◌, ◌↔◌, ℕ, not, true, false, List, Contains};
 ghost use Rattle.rtcp_members.specs.Stays.{last_naming};
 ghost use Rattle.rtcp_engine.specs.answers.Setups.{Setup};
 ghost use Rattle.rtcp_engine.specs.answers.Acts.{Act, Datagram, arrived, ticked};
@@ -10,8 +10,8 @@ ghost use Rattle.rtcp_engine.specs.answers.Outcomes.{Outcome, check_interval, me
 ghost use Rattle.rtcp_engine.specs.answers.Ticks.{checked};
 ghost use Rattle.rtcp_engine.specs.answers.Leaving.{Life, present};
 ghost use Rattle.rtcp_engine.specs.answers.Lives.{members_in_life};
-ghost use Rattle.rtcp_engine.specs.answers.Histories.{History, life_at, setup_at, with_act};
-ghost use Rattle.rtcp_engine.specs.bounds.Hearing.{names_source};
+ghost use Rattle.rtcp_engine.specs.answers.Histories.{History, last_moment, life_at, setup_at, with_act};
+ghost use Rattle.rtcp_engine.specs.bounds.Hearing.{names_source, with_acts};
 ghost use Rattle.rtcp_engine.specs.bounds.InTime.{is_fall};
 ghost use Rattle.rtcp_engine.specs.bounds.Sent.{reports_in, sent_at};
 ghost use Rattle.rtcp_engine.specs.state.Taken.{IsHistory};
@@ -26,13 +26,15 @@ ghost use Rattle.rtcp_session.specs.Departures.{
   is_member_of,
   least_silence,
   may_be_departure,
+  new_members_since,
+  other_members,
 };
 
 use rtcp_engine::heard_laws::those_heard_stay_members;
 
-/// Who was a member before an act is one after it, unless the source departs by the act, and then it is none (RFC
-/// 3550, 6.3.4, 6.3.5, 6.6). A BYE packet, a tick and the host's word that a source is gone alone end a membership. An
-/// RTP packet, a compound without its BYE, a packet that the host sent and other settings end none.
+/// A member stays one through an act, unless it departs by the act, and then it is none any more (RFC 3550, 6.3.4,
+/// 6.3.5, 6.6). Only a BYE packet that names it, a tick and the host's word end a membership. RTP packets, compounds
+/// without its BYE, packets that the host sent and other settings end none.
 pub fn members_stay_unless_they_depart()
     ensures { (setup : Setup) (act : Act) (outcome : Outcome) (ssrc : ℕ) →
         is_member_of setup outcome ssrc ≡ true →
@@ -49,9 +51,7 @@ pub fn falls_are_departures()
         member_count setup (after setup act outcome) < member_count setup outcome →
         is_departure setup act (present outcome) ≡ true }
     ensures somebody { (setup : Setup) (act : Act) (outcome : Outcome) →
-        is_departure setup act (present outcome) ≡ true → Departs setup act outcome }
-    ensures anybody { (setup : Setup) (act : Act) (outcome : Outcome) → Departs setup act outcome →
-        is_departure setup act (present outcome) ≡ true }
+        (is_departure setup act (present outcome) ≡ true) ↔ Departs setup act outcome }
     ensures kinds { (setup : Setup) (act : Act) (life : Life) → is_departure setup act life ≡ true →
         may_be_departure act ≡ true }
     ensures told { (history : History) (act : Act) (later : Outcome) →
@@ -72,6 +72,23 @@ pub fn few_departures_put_off_few_reports()
         departures_within history.setup history.word from until history.acts ≤ departures →
         from + (departures + 1) * (wait + lag) ≤ until →
         HasReport from until (reports_in (sent_at history)) }
+{}
+
+/// Each departure takes a member away. Among the acts that follow on a history there are no more departures than the
+/// other members that there were, and those that became members since, each as often as it did. So a participant
+/// reports within as many longest waits, with the lag of its ticks, and one more.
+pub fn departures_take_members_away()
+    ensures few { (history : History) (since : List Act) (from until : ℕ) →
+        IsHistory (with_acts since history) → last_moment history.acts ≤ from →
+        departures_within history.setup history.word from until (since ++ history.acts)
+        ≤ other_members (setup_at history) (life_at history) + new_members_since history since }
+    ensures reports { (history : History) (since : List Act) (wait lag from until : ℕ) →
+        IsHistory (with_acts since history) → last_moment history.acts ≤ from →
+        AllWaitAtMost wait from history.setup history.word (since ++ history.acts) →
+        TicksWithin lag from until (since ++ history.acts) →
+        let most = other_members (setup_at history) (life_at history) + new_members_since history since in
+        from + (most + 1) * (wait + lag) ≤ until →
+        HasReport from until (reports_in (sent_at (with_acts since history))) }
 {}
 
 /// Who is timed out was silent for more than five intervals (RFC 3550, 6.3.5): 25 seconds at least, and 12.5 until the

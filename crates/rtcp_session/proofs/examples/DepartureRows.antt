@@ -7,8 +7,10 @@ use Rattle.rtcp_members.specs.Traces.{TraceStep, fact_came}
 use Rattle.rtcp_engine.specs.answers.Setups.{Setup, settings_of}
 use Rattle.rtcp_engine.specs.answers.Acts.{Act, arrived, rtcp, rtp_sent, ticked, left, configured, forgotten}
 use Rattle.rtcp_engine.specs.answers.Outcomes.{Outcome, nothing_yet}
+use Rattle.rtcp_engine.specs.answers.Arrivals.{after}
+use Rattle.rtcp_engine.specs.answers.Ticks.{checked}
 use Rattle.rtcp_engine.specs.answers.Leaving.{present, backing_off, finished}
-use Rattle.rtcp_session.specs.Departures.{departures_within, is_departure, is_departure_after, is_member_of, is_silent, leavers, least_silence, may_be_departure, says_bye}
+use Rattle.rtcp_session.specs.Departures.{becomes_member_by, departures_within, is_departure, is_departure_after, is_member_of, is_silent, leavers, least_silence, may_be_departure, new_members_by, new_members_since, other_members, says_bye}
 use Rattle.rtcp_session.proofs.examples.CrowdRows.{named_came, packet_came, setup_of}
 
 abbrev pub quick : Setup
@@ -62,6 +64,9 @@ heard_is_none = refl
 
 member_leaves : is_departure quick (bye_came 200 (188 ∷ 187 ∷ [])) (present (by named)) ≡ true
 member_leaves = refl
+
+no_member_then : is_member_of quick (after quick (bye_came 200 (188 ∷ 187 ∷ [])) (by named)) 187 ≡ false
+no_member_then = refl
 
 stranger_leaves : is_departure quick (bye_came 200 (188 ∷ [])) (present (by named)) ≡ false
 stranger_leaves = refl
@@ -134,6 +139,13 @@ not_yet_at_first = refl
 too_long_at_first : is_departure quick (ticked 12500101 0 0) (present (by named)) ≡ true
 too_long_at_first = refl
 
+-- The check of the tick drops it then, and not sooner.
+kept : is_member_of quick (checked quick 25000100 (later_by named)) 187 ≡ true
+kept = refl
+
+dropped : is_member_of quick (checked quick 25000101 (later_by named)) 187 ≡ false
+dropped = refl
+
 -- With 16 octets a second for two members, an interval is longer.
 longer_with_less : is_silent (setup_of 170) 25000101 (later_by named) 187 ≡ false
 longer_with_less = refl
@@ -147,7 +159,7 @@ least_later = refl
 -- ---- Counts
 
 -- Who said BYE is no member any more, and so departs once.
-abbrev twice : List Act
+abbrev pub twice : List Act
 twice = bye_came 300 (187 ∷ []) ∷ bye_came 200 (187 ∷ []) ∷ named_came 100 187 ∷ []
 
 departs_once : departures_within quick 0 0 1000 twice ≡ 1
@@ -171,3 +183,41 @@ at_the_last = refl
 
 not_after_it : departures_within quick 0 0 199 twice ≡ 0
 not_after_it = refl
+
+-- ---- New members
+
+one_other : other_members quick (present (by named)) ≡ 1
+one_other = refl
+
+nobody_after_the_leave : other_members quick (finished (by named)) ≡ 0
+nobody_after_the_leave = refl
+
+-- a compound of the source 188 with its CNAME, in which 187 leaves
+abbrev pub changing : Act
+changing = arrived 200 1 0 (rtcp 20 (Ok (rr 188 [] []
+    ∷ sdes (record { id = 188; items = record { kind = 1; text = 97 ∷ [] } ∷ [] } ∷ []) ∷ bye (187 ∷ []) None ∷ [])))
+
+one_is_new : new_members_by quick changing (present (by named)) ≡ 1
+one_is_new = refl
+
+known_is_not_new : new_members_by quick (named_came 200 187) (present (by named)) ≡ 0
+known_is_not_new = refl
+
+-- The second packet in sequence counts, and the first does not.
+first_packet : becomes_member_by quick (packet_came 200 188 9) (by named) 188 ≡ false
+first_packet = refl
+
+second_packet : new_members_since (record { setup = quick; word = 0; acts = [] })
+    (packet_came 300 188 10 ∷ packet_came 200 188 9 ∷ []) ≡ 1
+second_packet = refl
+
+-- a source that the host said was gone, and that comes back
+abbrev pub back_again : List Act
+back_again = named_came 300 187 ∷ forgotten 200 187 ∷ named_came 100 187 ∷ []
+
+new_twice : new_members_since (record { setup = quick; word = 0; acts = [] }) back_again ≡ 2
+new_twice = refl
+
+new_once_since : new_members_since (record { setup = quick; word = 0; acts = named_came 100 187 ∷ [] })
+    (named_came 300 187 ∷ forgotten 200 187 ∷ []) ≡ 1
+new_once_since = refl

@@ -8,10 +8,8 @@ pub returns-clause-counts : goal.returns-clause-counts
 returns-clause-counts c = members_fall_by_departures
 
 pub returns-clause-somebody : goal.returns-clause-somebody
-returns-clause-somebody c = who_departs
-
-pub returns-clause-anybody : goal.returns-clause-anybody
-returns-clause-anybody c = departing_is_departure
+returns-clause-somebody c = λ setup act outcome.
+    (who_departs setup act outcome, departing_is_departure setup act outcome)
 
 pub returns-clause-kinds : goal.returns-clause-kinds
 returns-clause-kinds c = departures_are_of_a_kind
