@@ -20,8 +20,8 @@
 -- before.
 --
 -- Departures: `Departing` says of each kind of step of a trace which members it leaves, and counts them. `Departed` goes
--- from there to acts, to falls and to reports, `NewMembers` to the members that departures take, and `TimingOut` to the
--- silence before a time-out.
+-- from there to acts, to falls and to reports. `NewMembers` adds up the members that departures take away, and
+-- `TimingOut` has the silence before a time-out.
 --
 -- `examples` has small sessions. Among them are a turnover, in which at most two wait at a time and each counts two,
 -- and a pair whose reports come 300 milliseconds late. The modules `WrongRows`, `DeliveryWrongs`, `JoinRows`,
