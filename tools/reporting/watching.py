@@ -45,7 +45,7 @@ class Source:
             return LISTENING
         if now - self.moved > limits.silence:
             return SILENT
-        for name, word, limit in (("interval-loss", LOSSY, limits.minute), ("loss", LOSSY, limits.loss),
+        for name, word, limit in (("interval-loss", LOSSY, limits.minute), ("total-loss", LOSSY, limits.loss),
                                   ("jitter", JITTERY, limits.jitter), ("round-trip", SLOW, limits.trip)):
             if (self.value(name) or 0.0) > limit:
                 return word
@@ -116,7 +116,7 @@ class Watched:
         """The sources with their words, the worst first."""
         found = [(source.word(self.now, self.limits), source) for source in self.sources.values()]
         return sorted(found, key=lambda one: (ORDER.index(one[0]), -(one[1].value("interval-loss") or 0.0),
-                                              -(one[1].value("loss") or 0.0), one[1].ssrc))
+                                              -(one[1].value("total-loss") or 0.0), one[1].ssrc))
 
 
 def clock(seconds: float) -> str:
@@ -127,7 +127,7 @@ def clock(seconds: float) -> str:
 # The table
 
 COLUMNS = (  # title, field, width, and which goes first where there is no room: the one with the greatest number
-    ("", "word", 9, 0), ("SSRC", "ssrc", 8, 1), ("lost", "loss", 7, 0), ("lately", "interval-loss", 7, 2),
+    ("", "word", 9, 0), ("SSRC", "ssrc", 8, 1), ("lost", "total-loss", 7, 0), ("lately", "interval-loss", 7, 2),
     ("jitter", "jitter", 9, 3), ("round trip", "round-trip", 11, 5), ("packets", "packets", 8, 6),
     ("pace", "pace", 8, 4), ("from", "peer", 21, 7))
 

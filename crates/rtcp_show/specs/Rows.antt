@@ -70,7 +70,7 @@ origin_text None None = []
 
 abbrev pub flow_text : StateValue → Flow → List ℕ
 flow_text state flow =
-    tenths_text (codes " loss=") flow.loss (codes "%") ++ interval_text state.last_block
+    tenths_text (codes " total-loss=") flow.loss (codes "%") ++ interval_text state.last_block
     ++ tenths_text (codes " pace=") flow.packet_rate (codes "/s") ++ origin_text flow.rtp_peer flow.rtcp_peer
 
 abbrev pub full_row_text : StateValue → NoteValue → Flow → List ℕ

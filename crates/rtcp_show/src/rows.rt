@@ -90,7 +90,7 @@ fn push_noted_facts(
 }
 
 /// Appends how the packets of a source come, as the row of a watcher has it after the facts of [`push_row`]:
-/// ` loss=1.2% interval-loss=0.0% pace=50.0/s peer=127.0.0.1:5004`. Each is left out where it is not known.
+/// ` total-loss=1.2% interval-loss=0.0% pace=50.0/s peer=127.0.0.1:5004`. Each is left out where it is not known.
 ///
 /// # Errors
 ///
@@ -98,7 +98,7 @@ fn push_noted_facts(
 pub fn push_flow(out: &mut Vec<u8>, state: &SourceState, flow: Flow) -> Result<(), AllocError>
     ensures { OnOk result (out.new.items ≡ out.old.items ++ flow_text (state_value state.now) flow) }
 {
-    push_tenths(out, b" loss=", flow.loss, b"%")?;
+    push_tenths(out, b" total-loss=", flow.loss, b"%")?;
     push_interval(out, state.last_block)?;
     push_tenths(out, b" pace=", flow.packet_rate, b"/s")?;
     push_origin(out, flow.rtp_peer, flow.rtcp_peer)

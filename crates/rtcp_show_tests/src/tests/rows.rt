@@ -124,7 +124,7 @@ fn flows(rt: HostRuntime) -> Result<(), Fail> {
         ..rtcp
     };
     push_flow(&mut text, &state, all)?;
-    let want = b" loss=12.5% interval-loss=0.3% pace=50.0/s peer=10.0.0.1:5004";
+    let want = b" total-loss=12.5% interval-loss=0.3% pace=50.0/s peer=10.0.0.1:5004";
     same(&rt, &text, want, "all is known");
     Ok(())
 }

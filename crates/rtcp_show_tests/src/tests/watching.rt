@@ -113,7 +113,7 @@ source=00000007 sends=no round-trip=500.000ms cname=\"a\" peer=127.0.0.1:5007
 3.120000 began-sending=00000007
 4.000000 members=2 senders=1
 source=00000007 sends=yes packets=2 lost=1 jitter=0.125ms round-trip=500.000ms cname=\"a\" \
-loss=33.3% peer=127.0.0.1:5007
+total-loss=33.3% peer=127.0.0.1:5007
 4.400000 out 127.0.0.1:5007 ok \
 RR(000000aa,[00000007/85/1/4/1/00000000/00000000],0) SDES([000000aa{1=61}])
 4.500000 in 127.0.0.1:5007 ok RR(00000007,[],0) BYE([00000007],-)
@@ -121,7 +121,7 @@ RR(000000aa,[00000007/85/1/4/1/00000000/00000000],0) SDES([000000aa{1=61}])
 4.500000 bye=00000007
 5.000000 members=1 senders=0
 source=00000007 sends=no left=4.500000 packets=2 lost=1 jitter=0.125ms round-trip=500.000ms cname=\"a\" \
-loss=33.3% interval-loss=33.2% pace=0.0/s peer=127.0.0.1:5007
+total-loss=33.3% interval-loss=33.2% pace=0.0/s peer=127.0.0.1:5007
 5.500000 in 127.0.0.1:5007 refused E5 Wire: F1 Short at 0
 6.000000 out 127.0.0.1:5007 ok RR(000000aa,[],0) SDES([000000aa{1=61}]) BYE([000000aa],-)
 6.000000 members=0 senders=0
@@ -199,11 +199,11 @@ const PACED: &str = "\
 0.960000 joined=00000007
 0.960000 began-sending=00000007
 1.000000 members=2 senders=1
-source=00000007 sends=yes packets=2 lost=0 jitter=0.000ms loss=0.0% peer=127.0.0.1:5007
+source=00000007 sends=yes packets=2 lost=0 jitter=0.000ms total-loss=0.0% peer=127.0.0.1:5007
 2.500000 out 127.0.0.1:5007 ok \
 RR(000000aa,[00000007/0/0/6/0/00000000/00000000],0) SDES([000000aa{1=61}])
 2.500000 members=2 senders=1
-source=00000007 sends=yes packets=5 lost=0 jitter=0.000ms loss=0.0% interval-loss=0.0% pace=2.0/s \
+source=00000007 sends=yes packets=5 lost=0 jitter=0.000ms total-loss=0.0% interval-loss=0.0% pace=2.0/s \
 peer=127.0.0.1:5007
 ";
 
