@@ -9,6 +9,7 @@ from participant import SECOND
 ESCAPES = {9: r"\t", 10: r"\n", 13: r"\r", 34: r"\"", 39: r"\'", 92: r"\\"}
 CNAME = 1
 BLOCK = 24  # octets
+PATIENCE = 5 * SECOND  # without a datagram
 
 
 def moment_text(moment):
@@ -112,6 +113,7 @@ class Shown:
         self.rtp_peers, self.rtcp_peers = {}, {}  # and where their datagrams came from
         self.counted, self.before, self.looked, self.elapsed = {}, {}, 0, 1
         self.second, self.last, self.roles = 0, None, {}
+        self.waits = True  # for a first datagram
         self.lines = []
 
     def header(self, rtp, rtcp):
@@ -144,6 +146,9 @@ class Shown:
             self.second = moment // SECOND
             self.elapsed, self.looked = max(1, moment - self.looked), moment
             self.show_sources(now)
+        if self.waits and kind not in (b"rtcp", b"rtp") and moment >= PATIENCE:
+            self.lines.append(f"{now} nothing heard yet")
+        self.waits = self.waits and kind not in (b"rtcp", b"rtp") and moment < PATIENCE
 
     def tell_answer(self, now, answer):
         if changed := re.search(r" ssrc=[0-9a-f]{8}$", answer):
@@ -179,7 +184,7 @@ class Shown:
         if source.integers:
             received, lost = source.reception()[:2]
             lost = max(0, lost)
-            text += f" loss={tenths(lost * 1000 // max(1, received + lost))}%"
+            text += f" total-loss={tenths(lost * 1000 // max(1, received + lost))}%"
         if source.last_block:
             text += f" interval-loss={tenths(source.last_block[0] * 1000 // 256)}%"
         if source.integers and ssrc in self.before and self.before[ssrc] <= received:

@@ -9,4 +9,5 @@ pub mod Notes
 pub mod Flows
 pub mod Rows
 pub mod Watchers
+pub mod Silences
 pub mod Observations

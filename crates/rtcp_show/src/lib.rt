@@ -1,6 +1,6 @@
 //! A session, shown while it runs: a [`Watcher`] observes one, and its [`Printer`] writes a line for each RTCP datagram
 //! that comes in and each compound that goes out. Once a second it writes who is there and how their packets come, as
-//! `rtcp listen --show` does.
+//! `rtcp listen --show` does. A [`SilenceWatcher`] says once that nothing was heard.
 //!
 //! ```
 //! let mut text = Vec::new(alloc);
@@ -23,6 +23,7 @@ mod numbers;
 mod page;
 mod printer;
 mod rows;
+mod silence;
 mod watcher;
 mod wording;
 
@@ -33,5 +34,6 @@ pub use lines::push_lines;
 pub use notes::Note;
 pub use printer::Printer;
 pub use rows::{push_flow, push_row};
+pub use silence::SilenceWatcher;
 pub use watcher::Watcher;
 pub use wording::Wording;

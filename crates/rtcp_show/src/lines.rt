@@ -1,11 +1,13 @@
 //! The lines of an event and its answer.
 
-ghost use Rattle.std.specs.Prelude.{◌≡◌, ◌++◌, [], List, ℕ, IfSome, OnOk, option_map, unwrap_or};
+ghost use Rattle.std.specs.Prelude.{◌≡◌, ◌++◌, ◌∷◌, [], List, ℕ, IfSome, OnOk, if◌then◌else◌, option_map, unwrap_or};
 ghost use Rattle.rtcp_wire.specs.Grammar.{IsAccepted};
 ghost use Rattle.rtcp_wire.specs.Values.{RtcpPacket};
 ghost use Rattle.rtcp_engine.specs.state.Views.{event_value, out_value, step_value};
 ghost use Rattle.rtcp_guarded.specs.Views.{guarded_value};
 ghost use Rattle.rtcp_text.specs.Check.{IsAnswerBy};
+ghost use Rattle.rtcp_show.specs.Numbers.{moment_text};
+ghost use Rattle.rtcp_show.specs.Silences.{silence_text};
 ghost use Rattle.rtcp_show.specs.Wordings.{shown_in};
 ghost use Rattle.rtcp_show.specs.Lines.{ArePackets, HasPackets, ReadsAs, ShowsAnswer, ShowsBoth, ShowsBothBy, ShowsEvent, ShowsOut, ShowsRtcp, changed_text, moment_of_event as moment_in, passing_text, rtp_text, told_text, unsent_text};
 
@@ -269,6 +271,27 @@ pub(crate) fn push_unsent(out: &mut Vec<u8>, now: u64, to: u64) -> Result<(), Al
     push_moment(out, now)?;
     out.extend_from_slice(b" unsent ")?;
     push_peer(out, to)?;
+    out.push(b'\n')?;
+    Ok(())
+}
+
+/// Appends the line that nothing was heard so far, if that is said.
+pub(crate) fn push_silence(out: &mut Vec<u8>, says: bool, now: u64) -> Result<(), AllocError>
+    ensures { OnOk result (out.new.items ≡ out.old.items ++ (if says then silence_text now else [])) }
+{
+    if says {
+        push_words(out, now, b" nothing heard yet")
+    } else {
+        Ok(())
+    }
+}
+
+/// Appends a line with a moment and these words.
+fn push_words(out: &mut Vec<u8>, now: u64, words: &[u8]) -> Result<(), AllocError>
+    ensures { OnOk result (out.new.items ≡ out.old.items ++ (moment_text now ++ words.now ++ 10 ∷ [])) }
+{
+    push_moment(out, now)?;
+    out.extend_from_slice(words)?;
     out.push(b'\n')?;
     Ok(())
 }

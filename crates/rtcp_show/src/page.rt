@@ -1,6 +1,6 @@
 //! Where a watcher writes its lines.
 
-ghost use Rattle.std.specs.Prelude.{◌≡◌, List, ℕ, IfErr, IfSome, OnOk};
+ghost use Rattle.std.specs.Prelude.{◌≡◌, List, [], ℕ, IfErr, IfSome, OnOk, if◌then◌else◌};
 ghost use Rattle.std.specs.Io.KnownBytes.{Appends};
 ghost use Rattle.rtcp_engine.specs.answers.Histories.{History};
 ghost use Rattle.rtcp_engine.specs.state.States.{StandsAt};
@@ -8,11 +8,12 @@ ghost use Rattle.rtcp_engine.specs.state.Views.{event_value};
 ghost use Rattle.rtcp_guarded.specs.Views.{guarded_value};
 ghost use Rattle.rtcp_show.specs.Changes.{KeepsListing, ShowsChanges, lists_anew, shows_others};
 ghost use Rattle.rtcp_show.specs.Lines.{ReadsAs, ShowsBothBy, moment_of_event, unsent_text};
+ghost use Rattle.rtcp_show.specs.Silences.{silence_text};
 ghost use Rattle.rtcp_show.specs.Wordings.{shown_in};
 
 use crate::board::Board;
 use crate::changes::{Roles, lists_anew, shows_others};
-use crate::lines::{moment_of, push_read_lines, push_unsent};
+use crate::lines::{moment_of, push_read_lines, push_silence, push_unsent};
 use crate::wording::Wording;
 use rtcp_engine::{Event, Participant};
 use rtcp_guarded::GuardedAnswer;
@@ -127,6 +128,19 @@ impl<W: Write> Page<W> {
     {
         self.text.clear();
         match push_unsent(&mut self.text, moment, to) {
+            Ok(()) => self.write(),
+            Err(AllocError) => Err(TextFault::Memory),
+        }
+    }
+
+    /// Writes that nothing was heard so far, if that is said.
+    pub(crate) fn show_silence(&mut self, says: bool, moment: u64) -> Result<(), TextFault>
+        ensures written { OnOk result (Appends (held_on W.contents self.old) (held_on W.contents self.new)
+            (if says then silence_text moment else [])) }
+        ensures fault { IfErr result IsOutFault }
+    {
+        self.text.clear();
+        match push_silence(&mut self.text, says, moment) {
             Ok(()) => self.write(),
             Err(AllocError) => Err(TextFault::Memory),
         }

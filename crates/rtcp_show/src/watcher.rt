@@ -97,7 +97,10 @@ impl<W: Write> Observer for Watcher<W> {
 }
 
 /// The first fault, after another result.
-fn first_fault(fault: Option<TextFault>, shown: Result<(), TextFault>) -> Option<TextFault>
+pub(crate) fn first_fault(
+    fault: Option<TextFault>,
+    shown: Result<(), TextFault>,
+) -> Option<TextFault>
     ensures lasting { (found : Fault) → fault ≡ Some found → result ≡ Some found }
     ensures whole { result ≡ None → IsOk shown }
 {

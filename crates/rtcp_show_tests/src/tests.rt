@@ -10,6 +10,7 @@ mod example;
 mod header;
 mod lines;
 mod rows;
+mod silence;
 mod watching;
 
 /// Asserts that octets are as they should be. A function that compares slices more than once takes several times
