@@ -1,7 +1,7 @@
 -- Since when all sources were named.
-use Rattle.std.proofs.Common.{◌≡◌, ◌≤◌, ◌++◌, ℕ, min, nat_le, true, cond, List, [], ◌∷◌, arith, refl, sym, ap, subst, ◌∙◌}
+use Rattle.std.proofs.Common.{◌≡◌, ◌≤◌, ◌++◌, ℕ, min, nat_le, true, cond, Some, List, [], ◌∷◌, arith, refl, sym, ap, subst, ◌∙◌}
 use Rattle.std.proofs.lemmas.Bool.Decides.{nat_tests}
-use Rattle.rtcp_guard.specs.Claims.{Claim, put, after_lapse}
+use Rattle.rtcp_guard.specs.Claims.{Claim, put, after_lapse, with_goodbye}
 use Rattle.rtcp_guard.specs.Tables.{AreSince}
 use Rattle.rtcp_guard.proofs.Orders.{before, same, behind, order, put_before, put_same, put_behind}
 
@@ -42,3 +42,9 @@ pub since_push : (moment : ℕ) (claims : List Claim) (claim : Claim) → AreSin
     AreSince moment (claims ++ claim ∷ [])
 since_push moment [] claim since its = (its, tt)
 since_push moment (first ∷ rest) claim since its = (since.0, since_push moment rest claim since.1 its)
+
+-- A goodbye leaves all as late.
+pub since_leaving : (moment ssrc : ℕ) (claims : List Claim) → AreSince moment claims →
+    AreSince moment (with_goodbye (Some ssrc) claims)
+since_leaving moment ssrc [] since = tt
+since_leaving moment ssrc (first ∷ rest) since = (since.0, since_leaving moment ssrc rest since.1)

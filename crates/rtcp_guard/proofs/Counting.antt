@@ -4,7 +4,7 @@ use Rattle.std.proofs.lemmas.Bool.{eqb-true}
 use Rattle.std.proofs.lemmas.Bool.Decides.{nat_tests}
 use Rattle.std.proofs.lemmas.List.{append-nil, append_assoc}
 use Rattle.std.proofs.lemmas.List.Folds.{list_any-append}
-use Rattle.rtcp_guard.specs.Claims.{Claim, claim_by, found, owner_in, with_names, is_by, held, is_named, is_of_another, is_strange, before_stranger, is_too_many}
+use Rattle.rtcp_guard.specs.Claims.{Claim, claim_after, found, owner_in, with_names, is_by, held, is_named, is_of_another, is_strange, before_stranger, is_too_many}
 use Rattle.rtcp_guard.specs.Guarding.{judged}
 use Rattle.rtcp_guard.specs.declared.verdict.Verdict.TheVariants.{Pass, Stranger, Crowd}
 use Rattle.rtcp_guard.specs.Tables.{AreRising}
@@ -56,12 +56,12 @@ module _ (origin moment : ℕ) (claims : List Claim) (seen : List ℕ) (fresh n 
   then = with_names origin moment seen claims
 
   more_then : (test : Claim → Bool) → tally test (with_names origin moment (seen ++ n ∷ []) claims)
-      + weight test (found n then) ≡ tally test then + one_if (test (claim_by origin moment n))
+      + weight test (found n then) ≡ tally test then + one_if (test (claim_after origin moment n (found n then)))
   more_then test =
       ap (λ cs. tally test cs + weight test (found n then)) (names_append origin moment seen (n ∷ []) claims)
-      ∙ tally_put test (claim_by origin moment n) then (rising_names origin moment seen claims rising)
+      ∙ tally_put test (claim_after origin moment n (found n then)) then (rising_names origin moment seen claims rising)
 
-  its_own : one_if (is_by origin (claim_by origin moment n)) ≡ 1
+  its_own : one_if (is_by origin (claim_after origin moment n (found n then))) ≡ 1
   its_own = ap one_if (is_itself origin)
 
   -- where the source is the origin's already, there are as many as before
@@ -92,7 +92,7 @@ module _ (origin moment : ℕ) (claims : List Claim) (seen : List ℕ) (fresh n 
   its_owner : owner_in n claims ≡ Some origin → owner_in n then ≡ Some origin
   its_owner own = ap (option_map (λ (claim : Claim). claim.origin)) (found_names origin moment n seen claims)
       ∙ elim (is_named n seen) as (λ b. option_map (λ (claim : Claim). claim.origin)
-      (cond b (Some (claim_by origin moment n)) (found n claims)) ≡ Some origin) [
+      (cond b (Some (claim_after origin moment n (found n claims))) (found n claims)) ≡ Some origin) [
         | true ↦ refl
         | false ↦ own
       ]
@@ -116,7 +116,7 @@ module _ (origin moment : ℕ) (claims : List Claim) (seen : List ℕ) (fresh n 
     where
       owner : owner_in n then ≡ Some origin
       owner = ap (option_map (λ (claim : Claim). claim.origin)) (found_names origin moment n seen claims
-          ∙ ap (λ b. cond b (Some (claim_by origin moment n)) (found n claims)) named)
+          ∙ ap (λ b. cond b (Some (claim_after origin moment n (found n claims))) (found n claims)) named)
 
   no_owner : (o : Option Claim) → option_map (λ (claim : Claim). claim.origin) o ≡ None → o ≡ None
   no_owner None e = refl
@@ -124,7 +124,7 @@ module _ (origin moment : ℕ) (claims : List Claim) (seen : List ℕ) (fresh n 
 
   missing_then : owner_in n claims ≡ None → is_named n seen ≡ false → found n then ≡ None
   missing_then none apart = found_names origin moment n seen claims
-      ∙ ap (λ b. cond b (Some (claim_by origin moment n)) (found n claims)) apart
+      ∙ ap (λ b. cond b (Some (claim_after origin moment n (found n claims))) (found n claims)) apart
       ∙ no_owner (found n claims) none
 
   pub counted_new : owner_in n claims ≡ None → is_named n seen ≡ false →

@@ -1,7 +1,7 @@
 -- Whether an origin may have a source that is expected of it.
 use Rattle.std.proofs.Common.{◌≡◌, ◌<◌, ◌≤◌, ◌+◌, ◌==◌, ◌||◌, ℕ, nat_lt, not, Bool, true, false, List, length, Option, Some, None, option_map, arith, refl, ap, ◌∙◌}
 use Rattle.std.proofs.lemmas.Bool.Decides.{nat_tests}
-use Rattle.rtcp_guard.specs.Claims.{Claim, claim_by, found, owner_in, put, is_by, held, is_too_many}
+use Rattle.rtcp_guard.specs.Claims.{Claim, claim_after, found, owner_in, with_name, is_by, held, is_too_many}
 use Rattle.rtcp_guard.specs.Tables.{AreRising}
 use Rattle.rtcp_guard.proofs.Putting.{tally_put, tally_all, is_any, one_if, weight}
 use Rattle.rtcp_guard.proofs.Counting.{is_itself}
@@ -69,17 +69,17 @@ by_either limit room h l before one many =
 
 module _ (limit room origin moment ssrc : ℕ) (claims : List Claim) (rising : AreRising claims) where
   abbrev then : List Claim
-  then = put (claim_by origin moment ssrc) claims
+  then = with_name origin moment ssrc claims
 
   held_then : held origin then + weight (is_by origin) (found ssrc claims) ≡ held origin claims + 1
   held_then =
-      let so = tally_put (is_by origin) (claim_by origin moment ssrc) claims rising in
+      let so = tally_put (is_by origin) (claim_after origin moment ssrc (found ssrc claims)) claims rising in
       let one = ap one_if (is_itself origin) in
       omega (arith, so, one)
 
   long_then : length then + weight is_any (found ssrc claims) ≡ length claims + 1
   long_then =
-      let so = tally_put is_any (claim_by origin moment ssrc) claims rising in
+      let so = tally_put is_any (claim_after origin moment ssrc (found ssrc claims)) claims rising in
       let all = tally_all claims in
       let more = tally_all then in
       omega (arith, so, all, more)

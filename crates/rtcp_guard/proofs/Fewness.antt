@@ -3,8 +3,8 @@ use Rattle.std.proofs.Common.{◌≡◌, ◌≤◌, ◌+◌, ◌==◌, ◌&&◌,
 use Rattle.std.proofs.lemmas.Bool.{eqb-true}
 use Rattle.std.proofs.lemmas.Bool.Decides.{nat_tests}
 use Rattle.rtcp_guard.specs.declared.settings.Settings.{Settings}
-use Rattle.rtcp_guard.specs.Claims.{Claim, claim_by, found, owner_in, with_names, is_by, held, is_named, is_of_another}
-use Rattle.rtcp_guard.specs.Guarding.{GuardStep, datagram_came, check_made, source_expected, origin_trusted, GuardValue, before_which, is_trusted, limit_of, may_have, room_of}
+use Rattle.rtcp_guard.specs.Claims.{Claim, claim_after, claim_leaving, found, goodbye_among, owner_in, with_names, is_by, held, is_named, is_of_another}
+use Rattle.rtcp_guard.specs.Guarding.{GuardStep, datagram_came, check_made, source_expected, origin_trusted, GuardValue, before_which, has_left_enough, is_trusted, limit_of, may_have, room_of}
 use Rattle.rtcp_guard.specs.Histories.{guard_after, is_pass, is_passed, unless_lapsed, claim_of, owner_of, are_among, NamesOnly}
 use Rattle.rtcp_guard.specs.Tables.{AreRising}
 use Rattle.rtcp_guard.proofs.Orders.{before, same, behind, order, found_first, found_before, found_behind, missing_above}
@@ -136,14 +136,15 @@ module _ (settings : Settings) (origin : ℕ) (few : List ℕ) where
   its_few : (history : List GuardStep) (ssrc : ℕ) → NamesOnly origin few history →
       owner_of settings ssrc history ≡ Some origin → is_named ssrc few ≡ true
   its_few [] ssrc only owns = absurd cc
-  its_few (datagram_came other moment names ∷ earlier) ssrc only owns =
-      elim (is_named ssrc names && is_passed settings other moment names earlier) as (λ b.
-      is_named ssrc names && is_passed settings other moment names earlier ≡ b →
+  its_few (datagram_came other moment names goodbye ∷ earlier) ssrc only owns =
+      elim (is_named ssrc names && is_passed settings other moment names goodbye earlier) as (λ b.
+      is_named ssrc names && is_passed settings other moment names goodbye earlier ≡ b →
       option_map (λ (claim : Claim). claim.origin)
-      (cond b (Some (claim_by other moment ssrc)) (claim_of settings ssrc earlier))
+      (cond b (Some (claim_leaving goodbye (claim_after other moment ssrc (claim_of settings ssrc earlier))))
+      (claim_of settings ssrc earlier))
       ≡ Some origin → is_named ssrc few ≡ true) [
         | true ↦ λ e is.
-            let parts = both (is_named ssrc names) (is_passed settings other moment names earlier) e in
+            let parts = both (is_named ssrc names) (is_passed settings other moment names goodbye earlier) e in
             each_among few names ssrc (only.0 (same_some other origin is)) parts.0
         | false ↦ λ e is. its_few earlier ssrc only.1 is
       ] refl owns
@@ -154,7 +155,7 @@ module _ (settings : Settings) (origin : ℕ) (few : List ℕ) where
       elim (it == ssrc && may_have it other moment (guard_after settings earlier)) as (λ b.
       it == ssrc && may_have it other moment (guard_after settings earlier) ≡ b →
       option_map (λ (claim : Claim). claim.origin)
-      (cond b (Some (claim_by other moment ssrc)) (claim_of settings ssrc earlier))
+      (cond b (Some (claim_after other moment ssrc (claim_of settings ssrc earlier))) (claim_of settings ssrc earlier))
       ≡ Some origin → is_named ssrc few ≡ true) [
         | true ↦ λ e is.
             let parts = both (it == ssrc) (may_have it other moment (guard_after settings earlier)) e in
@@ -163,12 +164,13 @@ module _ (settings : Settings) (origin : ℕ) (few : List ℕ) where
       ] refl owns
   its_few (origin_trusted other ∷ earlier) ssrc only owns = its_few earlier ssrc only owns
 
-  pub always_pass : (history : List GuardStep) (moment : ℕ) (names : List ℕ) → NamesOnly origin few history →
-      are_among few names ≡ true → length few ≤ settings.names → length names ≤ 512 →
+  pub always_pass : (history : List GuardStep) (moment : ℕ) (names : List ℕ) (goodbye : Option ℕ) →
+      has_left_enough origin (goodbye_among names goodbye) (guard_after settings history) ≡ false →
+      NamesOnly origin few history → are_among few names ≡ true → length few ≤ settings.names → length names ≤ 512 →
       ((ssrc : ℕ) → is_named ssrc names ≡ true → is_of_another origin (owner_of settings ssrc history) ≡ false) →
       length (with_names origin moment names (guard_after settings history).claims) ≤ room_of settings →
-      is_passed settings origin moment names history ≡ true
-  always_pass history moment names only among small short own room =
+      is_passed settings origin moment names goodbye history ≡ true
+  always_pass history moment names goodbye left only among small short own room =
       let guard : GuardValue = guard_after settings history in
       let then : List Claim = with_names origin moment names guard.claims in
       let rising = rising_after settings history in
@@ -176,7 +178,7 @@ module _ (settings : Settings) (origin : ℕ) (few : List ℕ) where
       let count = few_held origin then few (rising_names origin moment names guard.claims rising)
       (λ ssrc owns. elim (is_named ssrc names) as (λ b. is_named ssrc names ≡ b →
       option_map (λ (claim : Claim). claim.origin)
-      (cond b (Some (claim_by origin moment ssrc)) (found ssrc guard.claims))
+      (cond b (Some (claim_after origin moment ssrc (found ssrc guard.claims))) (found ssrc guard.claims))
       ≡ Some origin → is_named ssrc few ≡ true) [
         | true ↦ λ e is. each_among few names ssrc among e
         | false ↦ λ e is. its_few history ssrc only (sym (owner_after settings history ssrc) ∙ is)
@@ -189,7 +191,7 @@ module _ (settings : Settings) (origin : ℕ) (few : List ℕ) where
         | true ↦ omega arith
         | false ↦ omega arith
       ] in
-      ap is_pass (few_pass guard origin moment names short
+      ap is_pass (few_pass guard origin moment names goodbye left short
       (λ ssrc named. ap (is_of_another origin) (owner_after settings history ssrc) ∙ own ssrc named)
       (subst (λ s. held origin then ≤ limit_of origin s guard.trusted) (sym same) (omega (arith, count, small, least)))
       (subst (λ s. length then ≤ room_of s) (sym same) room))

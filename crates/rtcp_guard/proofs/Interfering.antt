@@ -1,13 +1,13 @@
 -- One origin speaks for a source, and the others do not interfere.
-use Rattle.std.proofs.Common.{◌≡◌, ◌≤◌, ◌==◌, ◌&&◌, ◌||◌, ◌++◌, ℕ, nat_lt, nat_le, not, Bool, true, false, cond, List, [], ◌∷◌, length, Option, Some, None, option_map, is_some, arith, refl, sym, ap, ◌∙◌}
+use Rattle.std.proofs.Common.{◌≡◌, ◌<◌, ◌≤◌, ◌==◌, ◌&&◌, ◌||◌, ◌++◌, ℕ, nat_lt, nat_le, not, Bool, true, false, cond, List, [], ◌∷◌, length, Option, Some, None, option_map, is_some, arith, refl, sym, ap, ◌∙◌}
 use Rattle.std.proofs.lemmas.Bool.{eqb-true, or_parts}
 use Rattle.std.proofs.lemmas.Bool.Decides.{nat_tests}
 use Rattle.std.proofs.lemmas.List.{append-nil}
 use Rattle.rtcp_guard.specs.declared.settings.Settings.{Settings}
 use Rattle.rtcp_guard.specs.declared.verdict.Verdict.{Verdict}
 use Rattle.rtcp_guard.specs.declared.verdict.Verdict.TheVariants.{Pass, Stranger, Crowd}
-use Rattle.rtcp_guard.specs.Claims.{Claim, claim_by, owner_in, put, with_names, is_named, held, is_of_another, is_strange, before_stranger, is_too_many}
-use Rattle.rtcp_guard.specs.Guarding.{GuardStep, datagram_came, check_made, source_expected, origin_trusted, GuardValue, nothing_held_back, after, after_names, before_which, may_have, limit_of, room_of, verdict_on}
+use Rattle.rtcp_guard.specs.Claims.{Claim, claim_after, claim_leaving, goodbye_among, goodbyes_of, owner_in, with_name, with_names, is_named, held, is_of_another, is_strange, before_stranger, is_too_many}
+use Rattle.rtcp_guard.specs.Guarding.{GuardStep, datagram_came, check_made, source_expected, origin_trusted, GuardValue, nothing_held_back, after, after_names, before_which, has_left_enough, may_have, limit_of, room_of, verdict_on}
 use Rattle.rtcp_guard.specs.Histories.{guard_after, is_pass, is_passed, unless_lapsed, claim_of, owner_of, Keeps, AreOf, is_others, without, if_passed, passed_about}
 use Rattle.rtcp_guard.proofs.Counting.{before_more, strange_more}
 use Rattle.rtcp_guard.proofs.Bounding.{when_passed}
@@ -16,12 +16,13 @@ use Rattle.rtcp_guard.proofs.Owning.{passed_whole, owner_after}
 
 -- ---- Few own sources
 
-pub few_pass : (guard : GuardValue) (origin moment : ℕ) (names : List ℕ) → length names ≤ 512 →
+pub few_pass : (guard : GuardValue) (origin moment : ℕ) (names : List ℕ) (goodbye : Option ℕ) →
+    has_left_enough origin (goodbye_among names goodbye) guard ≡ false → length names ≤ 512 →
     ((ssrc : ℕ) → is_named ssrc names ≡ true → is_of_another origin (owner_in ssrc guard.claims) ≡ false) →
     held origin (with_names origin moment names guard.claims) ≤ limit_of origin guard.settings guard.trusted →
     length (with_names origin moment names guard.claims) ≤ room_of guard.settings →
-    verdict_on origin moment names guard ≡ Pass
-few_pass guard origin moment names short own few within =
+    verdict_on origin moment names goodbye guard ≡ Pass
+few_pass guard origin moment names goodbye left short own few within =
     let claims : List Claim = guard.claims in
     let limit : ℕ = limit_of origin guard.settings guard.trusted in
     let room : ℕ = room_of guard.settings in
@@ -36,11 +37,18 @@ few_pass guard origin moment names short own few within =
     let enough : is_too_many limit room origin (with_names origin moment (before_stranger origin names claims) claims)
     ≡ false
     = ap (λ ns. is_too_many limit room origin (with_names origin moment ns claims)) all ∙ (λ i. one i || other i) in
-    decided_whole origin moment names guard short ∙ (λ i. cond (enough i) Crowd (cond (none i) Stranger Pass))
+    decided_whole origin moment names goodbye guard short left
+    ∙ (λ i. cond (enough i) Crowd (cond (none i) Stranger Pass))
+
+pub left_enough_of : (origin : ℕ) (goodbye : Option ℕ) (guard : GuardValue) →
+    goodbyes_of origin guard.claims < limit_of origin guard.settings guard.trusted →
+    has_left_enough origin goodbye guard ≡ false
+left_enough_of origin None guard left = refl
+left_enough_of origin (Some ssrc) guard left = grind (arith, nat_tests, left)
 
 -- ---- What passes is of the owner
 
-each_own : (origin ssrc : ℕ) (names : List ℕ) (claims : List Claim) → is_strange origin names claims ≡ false →
+pub each_own : (origin ssrc : ℕ) (names : List ℕ) (claims : List Claim) → is_strange origin names claims ≡ false →
     is_named ssrc names ≡ true → is_of_another origin (owner_in ssrc claims) ≡ false
 each_own origin ssrc [] claims none named = absurd cc
 each_own origin ssrc (name ∷ rest) claims none named =
@@ -56,14 +64,16 @@ when_pass Pass e = refl
 when_pass Stranger e = absurd cc
 when_pass Crowd e = absurd cc
 
-pub passed_is_own : (settings : Settings) (origin moment : ℕ) (names : List ℕ) (earlier : List GuardStep)
-    (ssrc owner : ℕ) → owner_of settings ssrc earlier ≡ Some owner → is_named ssrc names ≡ true →
-    is_passed settings origin moment names earlier ≡ true → origin ≡ owner
-passed_is_own settings origin moment names earlier ssrc owner owns named passes =
+pub passed_is_own : (settings : Settings) (origin moment : ℕ) (names : List ℕ) (goodbye : Option ℕ)
+    (earlier : List GuardStep) (ssrc owner : ℕ) → owner_of settings ssrc earlier ≡ Some owner →
+    is_named ssrc names ≡ true →
+    is_passed settings origin moment names goodbye earlier ≡ true → origin ≡ owner
+passed_is_own settings origin moment names goodbye earlier ssrc owner owns named passes =
     let guard : GuardValue = guard_after settings earlier in
-    let pass : verdict_on origin moment names guard ≡ Pass = when_pass (verdict_on origin moment names guard) passes in
+    let pass : verdict_on origin moment names goodbye guard ≡ Pass =
+    when_pass (verdict_on origin moment names goodbye guard) passes in
     let own = (when_passed (limit_of origin guard.settings guard.trusted) (room_of guard.settings) origin moment names
-    guard.claims (passed_whole origin moment names guard pass).1).own in
+    guard.claims (passed_whole origin moment names goodbye guard pass).1).own in
     let is : is_of_another origin (owner_in ssrc guard.claims) ≡ false = each_own origin ssrc names guard.claims own
     named in
     let its : owner_in ssrc guard.claims ≡ Some owner = owner_after settings earlier ssrc ∙ owns in
@@ -79,7 +89,7 @@ module _ (settings : Settings) (ssrc owner : ℕ) where
   pub keeps_before : (step : GuardStep) (newer older : List GuardStep) →
       Keeps settings ssrc owner (step ∷ newer) older →
       Keeps settings ssrc owner newer older
-  keeps_before (datagram_came origin moment names) newer older keeps =
+  keeps_before (datagram_came origin moment names goodbye) newer older keeps =
       record { owns = keeps.owns; claimed = keeps.claimed.1; unmoved = keeps.unmoved }
   keeps_before (check_made moment silent) newer older keeps =
       record { owns = keeps.owns; claimed = keeps.claimed.1; unmoved = keeps.unmoved }
@@ -107,16 +117,19 @@ module _ (settings : Settings) (ssrc owner : ℕ) where
   pub owner_stays : (newer older : List GuardStep) → Keeps settings ssrc owner newer older →
       owner_of settings ssrc (newer ++ older) ≡ Some owner
   owner_stays [] older keeps = keeps.owns
-  owner_stays (datagram_came origin moment names ∷ newer) older keeps =
-      let before = owner_stays newer older (keeps_before (datagram_came origin moment names) newer older keeps) in
-      elim (is_named ssrc names && is_passed settings origin moment names (newer ++ older)) as (λ b.
-      is_named ssrc names && is_passed settings origin moment names (newer ++ older) ≡ b →
+  owner_stays (datagram_came origin moment names goodbye ∷ newer) older keeps =
+      let before = owner_stays newer older
+      (keeps_before (datagram_came origin moment names goodbye) newer older keeps) in
+      elim (is_named ssrc names && is_passed settings origin moment names goodbye (newer ++ older)) as (λ b.
+      is_named ssrc names && is_passed settings origin moment names goodbye (newer ++ older) ≡ b →
       option_map (λ (claim : Claim). claim.origin)
-      (cond b (Some (claim_by origin moment ssrc)) (claim_of settings ssrc (newer ++ older))) ≡ Some owner) [
+      (cond b (Some (claim_leaving goodbye (claim_after origin moment ssrc (claim_of settings ssrc (newer ++ older)))))
+      (claim_of settings ssrc (newer ++ older))) ≡ Some owner) [
         | true ↦ λ e.
-            let parts = both (is_named ssrc names) (is_passed settings origin moment names (newer ++ older)) e in
+            let parts = both (is_named ssrc names) (is_passed settings origin moment names goodbye (newer ++ older))
+            e in
             ap (λ (o : ℕ). Some o)
-            (passed_is_own settings origin moment names (newer ++ older) ssrc owner before parts.0 parts.1)
+            (passed_is_own settings origin moment names goodbye (newer ++ older) ssrc owner before parts.0 parts.1)
         | false ↦ λ e. before
       ] refl
   owner_stays (check_made moment silent ∷ newer) older keeps =
@@ -124,7 +137,8 @@ module _ (settings : Settings) (ssrc owner : ℕ) where
       (owner_stays newer older (keeps_before (check_made moment silent) newer older keeps))
   owner_stays (source_expected other origin moment ∷ newer) older keeps =
       ap (λ b. option_map (λ (claim : Claim). claim.origin) (cond (b && may_have other origin moment
-      (guard_after settings (newer ++ older))) (Some (claim_by origin moment ssrc))
+      (guard_after settings (newer ++ older)))
+      (Some (claim_after origin moment ssrc (claim_of settings ssrc (newer ++ older))))
       (claim_of settings ssrc (newer ++ older))))
       keeps.unmoved.0
       ∙ owner_stays newer older (keeps_before (source_expected other origin moment) newer older keeps)
@@ -134,9 +148,9 @@ module _ (settings : Settings) (ssrc owner : ℕ) where
   pub all_of_one : (newer older : List GuardStep) → Keeps settings ssrc owner newer older →
       AreOf settings ssrc owner newer older
   all_of_one [] older keeps = tt
-  all_of_one (datagram_came origin moment names ∷ newer) older keeps =
-      let before = keeps_before (datagram_came origin moment names) newer older keeps in (
-        passed_is_own settings origin moment names (newer ++ older) ssrc owner (owner_stays newer older before),
+  all_of_one (datagram_came origin moment names goodbye ∷ newer) older keeps =
+      let before = keeps_before (datagram_came origin moment names goodbye) newer older keeps in (
+        passed_is_own settings origin moment names goodbye (newer ++ older) ssrc owner (owner_stays newer older before),
         all_of_one newer older before,
       )
   all_of_one (check_made moment silent ∷ newer) older keeps =
@@ -153,15 +167,13 @@ module _ (settings : Settings) (ssrc owner : ℕ) where
   core guard = record guard { held_back = nothing_held_back }
 
   core_after : (step : GuardStep) (guard : GuardValue) → core (after step guard) ≡ core (after step (core guard))
-  core_after (datagram_came origin moment names) guard = refl
+  core_after (datagram_came origin moment names goodbye) guard = refl
   core_after (check_made moment silent) guard = refl
   core_after (source_expected other origin moment) guard =
       elim (may_have other origin moment guard) as (λ b. core (cond b (record guard {
-        claims = put (claim_by origin moment
-            other) guard.claims;
+        claims = with_name origin moment other guard.claims;
       }) guard) ≡ core (cond b (record (core guard) {
-        claims = put (claim_by origin moment other)
-            guard.claims;
+        claims = with_name origin moment other guard.claims;
       }) (core guard))) [
         | true ↦ refl
         | false ↦ refl
@@ -169,15 +181,17 @@ module _ (settings : Settings) (ssrc owner : ℕ) where
   core_after (origin_trusted origin) guard = refl
 
   -- what others say of the source is not passed on
-  held_back : (origin moment : ℕ) (names : List ℕ) (earlier : List GuardStep) →
+  held_back : (origin moment : ℕ) (names : List ℕ) (goodbye : Option ℕ) (earlier : List GuardStep) →
       owner_of settings ssrc earlier ≡ Some owner → not (origin == owner) && is_named ssrc names ≡ true →
-      is_passed settings origin moment names earlier ≡ false
-  held_back origin moment names earlier owns others =
+      is_passed settings origin moment names goodbye earlier ≡ false
+  held_back origin moment names goodbye earlier owns others =
       let parts = both (not (origin == owner)) (is_named ssrc names) others in
-      elim (is_passed settings origin moment names earlier) as (λ b. is_passed settings origin moment names earlier
+      elim (is_passed settings origin moment names goodbye earlier) as (λ b. is_passed settings origin moment names
+      goodbye earlier
       ≡ b → b ≡ false) [
         | true ↦ λ passes.
-            let same : origin ≡ owner = passed_is_own settings origin moment names earlier ssrc owner owns parts.1
+            let same : origin ≡ owner = passed_is_own settings origin moment names goodbye earlier ssrc owner owns
+            parts.1
             passes in
             let is : origin == owner ≡ true = grind (arith, nat_tests, same) in
             absurd (never (sym (ap not is) ∙ parts.0))
@@ -187,24 +201,25 @@ module _ (settings : Settings) (ssrc owner : ℕ) where
       never : false ≡ true → ⊥
       never e = cc
 
-  names_held : (origin moment : ℕ) (names : List ℕ) (v : Verdict) (claims : List Claim) → is_pass v ≡ false →
-      after_names origin moment names v claims ≡ claims
-  names_held origin moment names Pass claims e = absurd cc
-  names_held origin moment names Stranger claims e = refl
-  names_held origin moment names Crowd claims e = refl
+  names_held : (origin moment : ℕ) (names : List ℕ) (goodbye : Option ℕ) (v : Verdict) (claims : List Claim) →
+      is_pass v ≡ false →
+      after_names origin moment names goodbye v claims ≡ claims
+  names_held origin moment names goodbye Pass claims e = absurd cc
+  names_held origin moment names goodbye Stranger claims e = refl
+  names_held origin moment names goodbye Crowd claims e = refl
 
   -- so it changes nothing that verdicts go by
   others_change_nothing : (step : GuardStep) (earlier : List GuardStep) → owner_of settings ssrc earlier ≡ Some owner →
       is_others ssrc owner step ≡ true →
       core (after step (guard_after settings earlier)) ≡ core (guard_after settings earlier)
-  others_change_nothing (datagram_came origin moment names) earlier owns others =
+  others_change_nothing (datagram_came origin moment names goodbye) earlier owns others =
       ap (λ (claims : List Claim). record (guard_after settings earlier) {
         claims = claims;
         held_back =
             nothing_held_back;
       })
-      (names_held origin moment names (verdict_on origin moment names (guard_after settings earlier))
-      (guard_after settings earlier).claims (held_back origin moment names earlier owns others))
+      (names_held origin moment names goodbye (verdict_on origin moment names goodbye (guard_after settings earlier))
+      (guard_after settings earlier).claims (held_back origin moment names goodbye earlier owns others))
   others_change_nothing (check_made moment silent) earlier owns others = absurd cc
   others_change_nothing (source_expected other origin moment) earlier owns others = absurd cc
   others_change_nothing (origin_trusted origin) earlier owns others = absurd cc
@@ -226,12 +241,12 @@ module _ (settings : Settings) (ssrc owner : ℕ) where
 
   not_passed : (step : GuardStep) (earlier passed : List GuardStep) → owner_of settings ssrc earlier ≡ Some owner →
       is_others ssrc owner step ≡ true → if_passed settings ssrc step earlier passed ≡ passed
-  not_passed (datagram_came origin moment names) earlier passed owns others =
-      ap (λ b. cond (is_named ssrc names && b) (datagram_came origin moment names ∷ passed) passed)
-      (held_back origin moment names earlier owns others)
+  not_passed (datagram_came origin moment names goodbye) earlier passed owns others =
+      ap (λ b. cond (is_named ssrc names && b) (datagram_came origin moment names goodbye ∷ passed) passed)
+      (held_back origin moment names goodbye earlier owns others)
       ∙ neither (is_named ssrc names)
     where
-      neither : (b : Bool) → cond (b && false) (datagram_came origin moment names ∷ passed) passed ≡ passed
+      neither : (b : Bool) → cond (b && false) (datagram_came origin moment names goodbye ∷ passed) passed ≡ passed
       neither true = refl
       neither false = refl
   not_passed (check_made moment silent) earlier passed owns others = refl
@@ -241,9 +256,9 @@ module _ (settings : Settings) (ssrc owner : ℕ) where
   same_passed : (step : GuardStep) (earlier other passed : List GuardStep) →
       core (guard_after settings earlier) ≡ core (guard_after settings other) →
       if_passed settings ssrc step earlier passed ≡ if_passed settings ssrc step other passed
-  same_passed (datagram_came origin moment names) earlier other passed same =
-      ap (λ guard. cond (is_named ssrc names && is_pass (verdict_on origin moment names guard))
-      (datagram_came origin moment names ∷ passed) passed) same
+  same_passed (datagram_came origin moment names goodbye) earlier other passed same =
+      ap (λ guard. cond (is_named ssrc names && is_pass (verdict_on origin moment names goodbye guard))
+      (datagram_came origin moment names goodbye ∷ passed) passed) same
   same_passed (check_made moment silent) earlier other passed same = refl
   same_passed (source_expected it origin moment) earlier other passed same = refl
   same_passed (origin_trusted origin) earlier other passed same = refl

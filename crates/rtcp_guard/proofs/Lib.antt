@@ -14,7 +14,7 @@ pub mod Rows
 pub mod Counting
 -- The new sources among a datagram's names, each once.
 pub mod Gathering
--- How many sources belong to an origin, once counted.
+-- How many sources and goodbyes an origin has, once counted.
 pub mod Tallying
 -- The verdict by the first names of a datagram.
 pub mod Deciding
@@ -26,11 +26,15 @@ pub mod Expecting
 pub mod Runs
 -- Compounds that are about one source.
 pub mod Soles
+-- The source of which a BYE in a compound speaks first.
+pub mod Leavers
 -- Who owns a source by the history.
 pub mod Owning
 -- One origin speaks for a source, and the others do not interfere.
 pub mod Interfering
 -- An origin that names only the same few sources.
 pub mod Fewness
+-- How many goodbyes of an origin are passed on within a hold.
+pub mod Parting
 -- Rows of histories, and what would be wrong of them.
 mod examples

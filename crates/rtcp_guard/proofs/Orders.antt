@@ -1,10 +1,10 @@
 -- Claims by rising SSRC.
-use Rattle.std.proofs.Common.{◌≡◌, ◌<◌, ◌≤◌, ◌+◌, ◌==◌, ℕ, zero, suc, nat_lt, Bool, true, false, cond, List, [], ◌∷◌, filter, length, set, slice_index_or, Some, None, arith, refl, sym, ap, subst, ◌∙◌, inl, inr}
+use Rattle.std.proofs.Common.{◌≡◌, ◌<◌, ◌≤◌, ◌+◌, ◌==◌, ℕ, zero, suc, nat_lt, Bool, true, false, cond, List, [], ◌∷◌, filter, length, set, slice_index_or, Some, None, option_map, arith, refl, sym, ap, subst, ◌∙◌, inl, inr}
 use Rattle.std.specs.List.{insert}
-use Rattle.std.proofs.lemmas.Bool.{cases_lt}
+use Rattle.std.proofs.lemmas.Bool.{cases_lt, eqb-true}
 use Rattle.std.proofs.lemmas.List.Edits.{length-insert}
 use Rattle.std.proofs.lemmas.Bool.Decides.{nat_tests}
-use Rattle.rtcp_guard.specs.Claims.{Claim, found, put}
+use Rattle.rtcp_guard.specs.Claims.{Claim, claim_leaving, found, put, with_goodbye}
 use Rattle.rtcp_guard.specs.Tables.{AreAbove, AreRising, IsGap}
 
 -- ---- One number before another
@@ -192,3 +192,74 @@ pub gap_longer : (claim : Claim) (claims : List Claim) (gap : ℕ) → IsGap cla
     length (put claim claims) ≡ length claims + 1
 gap_longer claim claims gap is =
     ap length (gap_put claim claims gap is) ∙ length-insert claims gap claim (gap_within claim.ssrc claims gap is)
+
+-- ---- Goodbyes
+
+-- A BYE of another source leaves a claim as it is.
+pub other_leaves : (ssrc : ℕ) (claim : Claim) → claim.ssrc == ssrc ≡ false → claim_leaving (Some ssrc) claim ≡ claim
+other_leaves ssrc claim other =
+    ap (λ b. record claim { goodbyes = cond b (claim.goodbyes + 1) claim.goodbyes }) other
+
+others_leave : (ssrc low : ℕ) (claims : List Claim) → ssrc ≤ low → AreAbove low claims →
+    with_goodbye (Some ssrc) claims ≡ claims
+others_leave ssrc low [] order above = refl
+others_leave ssrc low (first ∷ rest) order above =
+    let less = above.0 in
+    let other : first.ssrc == ssrc ≡ false = grind (arith, nat_tests, less, order) in
+    (λ i. other_leaves ssrc first other i ∷ others_leave ssrc low rest order above.1 i)
+
+pub rank_leaves : (ssrc : ℕ) (claims : List Claim) (rank : ℕ) (d : Claim) → AreRising claims → rank < length claims →
+    (slice_index_or claims rank d).ssrc ≡ ssrc →
+    set claims rank (claim_leaving (Some ssrc) (slice_index_or claims rank d)) ≡ with_goodbye (Some ssrc) claims
+rank_leaves ssrc [] rank d rising within is = absurd (omega arith)
+rank_leaves ssrc (first ∷ rest) zero d rising within is =
+    ap (λ claims. claim_leaving (Some ssrc) first ∷ claims)
+    (sym (others_leave ssrc first.ssrc rest (omega (arith, is)) rising.0))
+rank_leaves ssrc (first ∷ rest) (suc rank) d rising within is =
+    let less = above_at first.ssrc rest rank d rising.0 (omega arith) in
+    let other : first.ssrc == ssrc ≡ false = grind (arith, nat_tests, less, is) in
+    (λ i. sym (other_leaves ssrc first other) i ∷ rank_leaves ssrc rest rank d rising.1 (omega arith) is i)
+
+pub gap_leaves : (ssrc : ℕ) (claims : List Claim) (gap : ℕ) → AreRising claims → IsGap ssrc claims gap →
+    with_goodbye (Some ssrc) claims ≡ claims
+gap_leaves ssrc [] gap rising is = refl
+gap_leaves ssrc (first ∷ rest) zero rising is =
+    let other : first.ssrc == ssrc ≡ false = grind (arith, nat_tests, is) in
+    (λ i. other_leaves ssrc first other i ∷ others_leave ssrc first.ssrc rest (omega (arith, is)) rising.0 i)
+gap_leaves ssrc (first ∷ rest) (suc gap) rising is =
+    let less = is.0 in
+    let other : first.ssrc == ssrc ≡ false = grind (arith, nat_tests, less) in
+    (λ i. other_leaves ssrc first other i ∷ gap_leaves ssrc rest gap rising.1 is.1 i)
+
+pub above_leaving : (low ssrc : ℕ) (claims : List Claim) → AreAbove low claims →
+    AreAbove low (with_goodbye (Some ssrc) claims)
+above_leaving low ssrc [] above = tt
+above_leaving low ssrc (first ∷ rest) above = (above.0, above_leaving low ssrc rest above.1)
+
+pub rising_leaving : (ssrc : ℕ) (claims : List Claim) → AreRising claims →
+    AreRising (with_goodbye (Some ssrc) claims)
+rising_leaving ssrc [] rising = tt
+rising_leaving ssrc (first ∷ rest) rising =
+    (above_leaving first.ssrc ssrc rest rising.0, rising_leaving ssrc rest rising.1)
+
+pub found_leaving : (ssrc other : ℕ) (claims : List Claim) →
+    found other (with_goodbye (Some ssrc) claims) ≡ option_map (claim_leaving (Some ssrc)) (found other claims)
+found_leaving ssrc other [] = refl
+found_leaving ssrc other (first ∷ rest) =
+    elim (first.ssrc == other) as (λ b. cond b (Some (claim_leaving (Some ssrc) first))
+    (found other (with_goodbye (Some ssrc) rest))
+    ≡ option_map (claim_leaving (Some ssrc)) (cond b (Some first) (found other rest))) [
+      | true ↦ refl
+      | false ↦ found_leaving ssrc other rest
+    ]
+
+pub found_ssrc : (ssrc : ℕ) (claims : List Claim) (claim : Claim) → found ssrc claims ≡ Some claim → claim.ssrc ≡ ssrc
+found_ssrc ssrc [] claim is = absurd cc
+found_ssrc ssrc (first ∷ rest) claim is =
+    elim (first.ssrc == ssrc) as (λ b. first.ssrc == ssrc ≡ b → cond b (Some first) (found ssrc rest) ≡ Some claim →
+    claim.ssrc ≡ ssrc) [
+      | true ↦ λ e is.
+          let same : first ≡ claim = cc in
+          ap (λ (c : Claim). c.ssrc) (sym same) ∙ eqb-true first.ssrc ssrc e
+      | false ↦ λ e is. found_ssrc ssrc rest claim is
+    ] refl is

@@ -3,15 +3,16 @@ use Rattle.std.proofs.Common.{◌≡◌, ◌<◌, ◌≤◌, ◌+◌, ◌==◌, 
 use Rattle.std.specs.List.{insert}
 use Rattle.std.specs.List.Sorted.{IsNonDecreasingBy, IsPartitionPoint}
 use Rattle.std.proofs.lemmas.Bool.Decides.{nat_tests}
-use Rattle.std.proofs.lemmas.List.{append-nil, drop_all, drop-append-le, get_or-map, length-append, length-drop, length-map, length_push, map-append, map-set, take_all, take_at, take-append-le, take_more}
+use Rattle.std.proofs.lemmas.List.{append-nil, drop_all, drop-append-le, get_or-map, length-append, length-drop, length-map, length_push, map-append, map-set, take_all, take_at, take-append-drop, take-append-le, take_more}
 use Rattle.std.proofs.Math.Seq.{drop-append_seam}
 use borrow.Rule.Slice.PartMut.{mid_of, put_mid}
 use Rattle.std.proofs.lemmas.List.Elements.{filter-append}
+use Rattle.std.proofs.lemmas.List.Sums.{sum_by-append, sum_by_push}
 use Rattle.rtcp_guard.specs.declared.cells.Cell.{Cell}
-use Rattle.rtcp_guard.specs.Claims.{Claim, owner_in, put, is_by, held}
+use Rattle.rtcp_guard.specs.Claims.{Claim, claim_leaving, goodbyes_for, goodbyes_of, owner_in, put, is_by, held, with_goodbye}
 use Rattle.rtcp_guard.specs.Tables.{claim_in, claims_in, no_cell, AreRising, IsRankOf, IsGap}
 use Rattle.rtcp_guard.proofs.Putting.{one_if, tally_first}
-use Rattle.rtcp_guard.proofs.Orders.{rising_at, rank_found, rank_put, gap_found, gap_put, gap_at}
+use Rattle.rtcp_guard.proofs.Orders.{rising_at, rank_found, rank_leaves, rank_put, gap_found, gap_put, gap_at}
 
 pub claim_at : (cells : List Cell) (k : ℕ) (d : Cell) (e : Claim) → k < length cells →
     slice_index_or (claims_in cells) k e ≡ claim_in (slice_index_or cells k d)
@@ -168,3 +169,38 @@ held_more origin cells k d within =
     ∙ length-append (filter (is_by origin) (claims_in (take k cells))) (filter (is_by origin) (claim_in cell ∷ [])) in
     let more = ap (held origin) (claims_more cells k d within) in
     omega (arith, first, both, more)
+
+-- ---- Goodbyes
+
+pub goodbyes_more : (origin : ℕ) (cells : List Cell) (k : ℕ) (d : Cell) → k < length cells →
+    goodbyes_of origin (claims_in (take (k + 1) cells))
+    ≡ goodbyes_of origin (claims_in (take k cells))
+    + cond ((slice_index_or cells k d).origin == origin) (slice_index_or cells k d).goodbyes 0
+goodbyes_more origin cells k d within =
+    ap (goodbyes_of origin) (claims_more cells k d within)
+    ∙ sum_by_push (goodbyes_for origin) (claims_in (take k cells)) (claim_in (slice_index_or cells k d))
+
+-- A part of the claims has no more.
+pub goodbyes_part : (origin : ℕ) (cells : List Cell) (k : ℕ) →
+    goodbyes_of origin (claims_in (take k cells)) ≤ goodbyes_of origin (claims_in cells)
+goodbyes_part origin cells k =
+    let all : claims_in (take k cells) ++ claims_in (drop k cells) ≡ claims_in cells =
+    sym (map-append claim_in (take k cells) (drop k cells)) ∙ ap claims_in (take-append-drop k cells) in
+    let sums = sum_by-append (goodbyes_for origin) (claims_in (take k cells)) (claims_in (drop k cells)) in
+    let whole = ap (goodbyes_of origin) all in
+    omega (arith, sums, whole)
+
+-- A goodbye is written at the rank of its source.
+pub goodbye_written : (ssrc : ℕ) (cells : List Cell) (at : ℕ) (old cell : Cell) → AreRising (claims_in cells) →
+    IsRankOf ssrc (claims_in cells) at → old ≡ slice_index_or cells at old →
+    claim_in cell ≡ claim_leaving (Some old.ssrc) (claim_in old) →
+    claims_in (set cells at cell) ≡ with_goodbye (Some ssrc) (claims_in cells)
+goodbye_written ssrc cells at old cell rising rank read is =
+    let it = rank.within in
+    let within : at < length cells = omega (arith, it, as_many cells) in
+    let there : slice_index_or (claims_in cells) at (claim_in old) ≡ claim_in old =
+    claim_at cells at old (claim_in old) within ∙ ap claim_in (sym read) in
+    let same : old.ssrc ≡ ssrc = ap (λ (claim : Claim). claim.ssrc) (sym there) ∙ rank.its_ssrc (claim_in old) in
+    cell_written cells at cell
+    ∙ ap (set (claims_in cells) at) (is ∙ (λ i. claim_leaving (Some (same i)) (sym there i)))
+    ∙ rank_leaves ssrc (claims_in cells) at (claim_in old) rising rank.within (rank.its_ssrc (claim_in old))

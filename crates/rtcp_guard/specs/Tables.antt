@@ -1,21 +1,22 @@
 -- Claims in cells side by side, by rising SSRC.
-use Rattle.std.specs.Prelude.{ℕ, zero, suc, ◌≡◌, ◌<◌, ◌≤◌, ◌-◌, min, List, [], ◌∷◌, length, map, slice_index_or, Result, Ok, Err}
+use Rattle.std.specs.Prelude.{ℕ, zero, suc, ◌≡◌, ◌<◌, ◌≤◌, ◌-◌, ◌^◌, min, List, [], ◌∷◌, length, map, slice_index_or, Result, Ok, Err}
 use Rattle.std.specs.List.{AllByRecursion}
-use Rattle.rtcp_guard.specs.Claims.{Claim, held}
+use Rattle.rtcp_guard.specs.Claims.{Claim, held, goodbyes_of}
 use Rattle.rtcp_guard.specs.Guarding.{limit_of, room_of}
 use Rattle.rtcp_guard.specs.declared.cells.Cell.{Cell}
 use Rattle.rtcp_guard.specs.declared.settings.Settings.{Settings}
 use Rattle.rtcp_guard.specs.declared.tallies.Tally.{Tally}
 
 abbrev pub claim_in : Cell → Claim
-claim_in cell = record { ssrc = cell.ssrc; origin = cell.origin; last = cell.last }
+claim_in cell =
+    record { ssrc = cell.ssrc; origin = cell.origin; last = cell.last; goodbyes = cell.goodbyes }
 
 abbrev pub claims_in : List Cell → List Claim
 claims_in cells = map claim_in cells
 
 -- what is read where there is none
 abbrev pub no_cell : Cell
-no_cell = record { ssrc = 0; hints = []; origin = 0; last = 0 }
+no_cell = record { ssrc = 0; hint = 0; goodbyes = 0; origin = 0; last = 0 }
 
 -- The claims, and how many there is room for.
 pub record TableValue : Type 0 where
@@ -56,9 +57,18 @@ Locates ssrc claims (Err gap) = IsGap ssrc claims gap
 
 -- ---- Counts
 
--- As many sources belong to each of these origins as its tally says.
+-- what is counted of the claims of an origin: its sources, and its goodbyes
+pub record IsTally (claims : List Claim) (tally : Tally) : Type 0 where
+  pub count : tally.count ≡ held tally.origin claims
+  pub goodbyes : tally.goodbyes ≡ goodbyes_of tally.origin claims
+
+-- Each of these origins has as many sources and goodbyes as its tally says.
 abbrev pub AreTallies : List Claim → List Tally → Type 0
-AreTallies claims tallies = AllByRecursion (λ (tally : Tally). tally.count ≡ held tally.origin claims) tallies
+AreTallies claims tallies = AllByRecursion (IsTally claims) tallies
+
+-- The goodbyes of no origin pass 16 bits.
+abbrev pub AreFewGoodbyes : List Claim → Type 0
+AreFewGoodbyes claims = (origin : ℕ) → goodbyes_of origin claims < 2 ^ 16
 
 -- So many sources more an origin may have that has no more than it may.
 pub record IsSpare (limit room origin : ℕ) (claims : List Claim) (spare : ℕ) : Type 0 where
@@ -73,11 +83,14 @@ pub record IsTable (claims : List Claim) (room oldest : ℕ) (tallies : List Tal
   pub since : AreSince oldest claims
   pub counted : AreTallies claims tallies
   pub within : length claims ≤ room
+  pub small : room < 2 ^ 32
+  pub leaving : AreFewGoodbyes claims
 
--- No origin has more sources than it may, nor have all together.
+-- No origin has more sources than it may, nor more goodbyes, nor have all together more sources.
 pub record IsBounded (settings : Settings) (trusted : List ℕ) (claims : List Claim) : Type 0 where
   pub rising : AreRising claims
   pub few : (origin : ℕ) → held origin claims ≤ limit_of origin settings trusted
+  pub leaving : (origin : ℕ) → goodbyes_of origin claims ≤ limit_of origin settings trusted
   pub within : length claims ≤ room_of settings
 
 pub record IsGuard (settings : Settings) (trusted : List ℕ) (claims : List Claim) (room : ℕ) : Type 0 where

@@ -1,23 +1,24 @@
-//! Cells with a claim and two hints each, the hints, and the search.
+//! Cells with a claim and a hint each, the hints, and the search.
 
-ghost use Rattle.std.specs.Prelude.{◌≡◌, ◌<◌, ◌≤◌, ◌++◌, ◌∷◌, [], List, if◌then◌else◌, length, nat_le};
+ghost use Rattle.std.specs.Prelude.{◌≡◌, ◌==◌, ◌<◌, ◌≤◌, ◌-◌, ◌^◌, ◌++◌, ◌∷◌, [], List, Some, if◌then◌else◌, length, nat_le, not};
 ghost use Rattle.std.specs.List.{insert};
-ghost use Rattle.rtcp_guard.specs.Claims.{claim_by, held};
-ghost use Rattle.rtcp_guard.specs.Tables.{AreRising, AreSince, Locates, claim_in, claims_in};
+ghost use Rattle.rtcp_guard.specs.Claims.{claim_after, claim_by, claim_leaving, goodbyes_of, held};
+ghost use Rattle.rtcp_guard.specs.Tables.{AreFewGoodbyes, AreRising, AreSince, IsTally, Locates, claim_in, claims_in};
 ghost use Rattle.rtcp_guard.specs.declared.cells.Cell.{Cell as CellValue};
 
-/// How many hints a cell has.
-const HINTS: usize = 2;
+use crate::tallies::Tally;
 
 /// An odd number, by which SSRCs spread over the cells, those that lie close together too.
 const SPREAD: u32 = 0x85eb_ca6b;
 
-/// The claim of an origin to a source. The hints take what would be left free between the fields. Those of all cells
-/// are one table, which says where sources were found last. No answer depends on it, only how soon a source is found.
+/// The claim of an origin to a source. The hint takes what would be left free between the fields. The hints of all
+/// cells are one table, which says where sources were found last. No answer depends on it, only how soon a source is
+/// found.
 #[derive(Drop)]
 pub(crate) struct Cell {
     pub(crate) ssrc: u32,
-    pub(crate) hints: [u16; HINTS],
+    pub(crate) hint: u16,
+    pub(crate) goodbyes: u16,
     pub(crate) origin: u64,
     pub(crate) last: u64,
 }
@@ -29,10 +30,34 @@ impl Cell {
     {
         Cell {
             ssrc,
-            hints: [0; HINTS],
+            hint: 0,
+            goodbyes: 0,
             origin,
             last,
         }
+    }
+
+    /// An origin names the source at a moment. Returns whether it is another than before, which has no goodbyes yet.
+    #[inline(always)]
+    pub(crate) fn renew(&mut self, origin: u64, t: u64) -> bool
+        ensures claim { claim_in self.new ≡ claim_after origin t self.old.ssrc (Some (claim_in self.old)) }
+        ensures moved { result ≡ not (self.old.origin == origin) }
+    {
+        self.last = t;
+        if self.origin == origin {
+            return false;
+        }
+        self.origin = origin;
+        self.goodbyes = 0;
+        true
+    }
+
+    /// A BYE speaks of the source.
+    pub(crate) fn leave(&mut self)
+        requires { self.old.goodbyes < 2 ^ 16 - 1 }
+        ensures { claim_in self.new ≡ claim_leaving (Some self.old.ssrc) (claim_in self.old) }
+    {
+        self.goodbyes += 1;
     }
 
     /// Whether the source was last named at a moment or later.
@@ -47,10 +72,9 @@ impl Cell {
 /// The rank at which a source, or another one with the same hint, was found last.
 #[inline(always)]
 pub(crate) fn hinted(cells: &[Cell], ssrc: u32) -> usize {
-    let place = place_of(cells.len(), ssrc);
-    let at = place / HINTS;
+    let at = place_of(cells.len(), ssrc);
     if at < cells.len() {
-        return usize::from(cells[at].hints[place % HINTS]);
+        return usize::from(cells[at].hint);
     }
     usize::MAX
 }
@@ -60,20 +84,19 @@ pub(crate) fn hinted(cells: &[Cell], ssrc: u32) -> usize {
 pub(crate) fn note(cells: &mut [Cell], ssrc: u32, rank: usize)
     ensures { claims_in cells.new ≡ claims_in cells.old }
 {
-    let place = place_of(cells.len(), ssrc);
-    let at = place / HINTS;
+    let at = place_of(cells.len(), ssrc);
     if at < cells.len() {
         let cell = &mut cells[at];
-        cell.hints[place % HINTS] = (rank & 0xffff) as u16;
+        cell.hint = (rank & 0xffff) as u16;
     }
 }
 
-/// Where the hint at a source lies, by the product of its spread SSRC and the number of hints: that is below the
+/// Where the hint at a source lies, by the product of its spread SSRC and the number of cells: that is below the
 /// number.
 #[inline(always)]
 fn place_of(count: usize, ssrc: u32) -> usize {
     let spread = u64::from(ssrc.wrapping_mul(SPREAD));
-    (spread.wrapping_mul(count as u64) >> 31) as usize
+    (spread.wrapping_mul(count as u64) >> 32) as usize
 }
 
 /// Moves the last cell, that of a source, to a rank, and those from that rank on by one. The rank is noted.
@@ -99,23 +122,40 @@ pub(crate) fn search(cells: &[Cell], ssrc: u32) -> Result<usize, usize>
     Err(rank)
 }
 
-/// How many sources belong to an origin.
-// A sum without a branch: which cells are the origin's cannot be foretold.
-pub(crate) fn count(cells: &[Cell], origin: u64) -> usize
-    ensures { result ≡ held origin (claims_in cells.now) }
+/// How many sources and goodbyes an origin has.
+// Sums without a branch: which cells are the origin's cannot be foretold.
+pub(crate) fn count(cells: &[Cell], origin: u64) -> Tally
+    requires small { length cells.now < 2 ^ 32 }
+    requires leaving { AreFewGoodbyes (claims_in cells.now) }
+    ensures origin { result.origin ≡ origin }
+    ensures tally { IsTally (claims_in cells.now) result }
 {
     let mut count = 0;
+    let mut goodbyes = 0;
     'cells: for cell in cells {
-        count += one_if(cell.origin == origin);
+        let is_own = cell.origin == origin;
+        count += one_if(is_own);
+        goodbyes += if_own(is_own, cell.goodbyes);
     }
-    count
+    Tally {
+        origin,
+        count,
+        goodbyes,
+    }
 }
 
 #[inline(always)]
-fn one_if(is: bool) -> usize
+fn one_if(is: bool) -> u32
     ensures { result ≡ (if is then 1 else 0) }
 {
     if is { 1 } else { 0 }
+}
+
+#[inline(always)]
+fn if_own(is_own: bool, goodbyes: u16) -> u16
+    ensures { result ≡ (if is_own then goodbyes else 0) }
+{
+    if is_own { goodbyes } else { 0 }
 }
 
 /// The earliest moment at which one of the sources was last named, or the latest moment of all where there is none.

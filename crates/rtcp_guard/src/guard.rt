@@ -1,13 +1,13 @@
 //! The guard.
 
-ghost use Rattle.std.specs.Prelude.{◌≡◌, ◌≤◌, ◌*◌, ℕ, [], ◌∷◌, IfOk, length, not};
-ghost use Rattle.rtcp_guard.specs.Claims.{claim_by, held, is_too_many, put, with_names};
+ghost use Rattle.std.specs.Prelude.{◌≡◌, ◌≤◌, ◌*◌, ◌<◌, ◌^◌, ℕ, [], ◌∷◌, IfOk, None, Some, length, not, take, true};
+ghost use Rattle.rtcp_guard.specs.Claims.{goodbyes_of, held, is_named, is_too_many, with_name, with_names};
 ghost use Rattle.rtcp_guard.specs.Guarding.{after, after_verdict, check_made, counted, datagram_came, limit_of, may_have, may_trust, new_guard, origin_trusted, source_expected, unless_more, verdict_by, verdict_on};
 ghost use Rattle.rtcp_guard.specs.Tables.{AreRising};
-ghost use Rattle.rtcp_guard.specs.Naming.{but, names_of_compound, names_of_packet};
+ghost use Rattle.rtcp_guard.specs.Naming.{but, goodbye_of_compound, names_of_compound, names_of_packet};
 
 use crate::judging::{judge_rest, own_first};
-use crate::naming::{FewNames, MAX_NAMES, Names, of_compound, of_packet};
+use crate::naming::{FewNames, Gathered, MAX_NAMES, Names, of_compound, of_packet};
 use crate::settings::Settings;
 use crate::table::ClaimTable;
 use crate::verdict::{HeldBack, Verdict};
@@ -56,7 +56,7 @@ impl Guard {
     pub fn new(alloc: Global, settings: Settings) -> Result<Guard, AllocError>
         ensures { IfOk result (λ guard. guard ≡ new_guard settings) }
     {
-        let claims = ClaimTable::with_room(alloc, usize::from(settings.sources) * 2)?;
+        let claims = ClaimTable::with_room(alloc, u32::from(settings.sources) * 2)?;
         Ok(Guard {
             settings,
             claims,
@@ -65,13 +65,13 @@ impl Guard {
         })
     }
 
-    /// A datagram of an origin comes that names these sources. Returns what becomes of it. Where it is passed on, each
-    /// of the sources belongs to the origin, and was last named now; else nothing changes but what was held back. Of
-    /// more names than [`MAX_NAMES`] only so many are looked at, and it is not passed on.
+    /// A datagram of an origin comes that names these sources, and says BYE of none. Returns what becomes of it. Where
+    /// it is passed on, each of the sources belongs to the origin, and was last named now; else nothing changes but
+    /// what was held back. Of more names than [`MAX_NAMES`] only so many are looked at, and it is not passed on.
     #[inline]
     pub fn arrive(&mut self, names: &[u32], origin: u64, t: u64) -> Verdict
-        ensures verdict { result ≡ verdict_on origin t names.now self.old }
-        ensures content { self.new ≡ after (datagram_came origin t names.now) self.old }
+        ensures verdict { result ≡ verdict_on origin t names.now None self.old }
+        ensures content { self.new ≡ after (datagram_came origin t names.now None) self.old }
     {
         if names.len() > MAX_NAMES {
             return self.decide(&names[..MAX_NAMES], true, origin, t);
@@ -79,25 +79,41 @@ impl Guard {
         self.decide(names, false, origin, t)
     }
 
+    /// A datagram of an origin comes that names these sources, and says BYE, of the source `goodbye` first
+    /// (RFC 3550, 6.6). Else as [`Guard::arrive`]; but it is held back as a crowd too where its origin has as many
+    /// goodbyes already as it may have sources. Where it is passed on, the origin has one goodbye more, for as long as
+    /// it has this source. A BYE of a source that is not named does not count, and is not held back for that.
+    pub fn arrive_leaving(&mut self, names: &[u32], goodbye: u32, origin: u64, t: u64) -> Verdict
+        ensures verdict { result ≡ verdict_on origin t names.now (Some goodbye) self.old }
+        ensures content { self.new ≡ after (datagram_came origin t names.now (Some goodbye)) self.old }
+    {
+        if names.len() > MAX_NAMES {
+            return self.decide(&names[..MAX_NAMES], true, origin, t);
+        }
+        self.decide_leaving(names, goodbye, origin, t)
+    }
+
     /// A compound of an origin comes, to the participant `own`. It names the sources that its facts speak of
-    /// (RFC 3550, 6.1), but the participant's own SSRC, which the guard does not look at. Else as [`Guard::arrive`].
+    /// (RFC 3550, 6.1), but the participant's own SSRC, which the guard does not look at. Else as [`Guard::arrive`], or
+    /// as [`Guard::arrive_leaving`] where it says BYE of one of them.
     // Of a compound about one source no fact is read. Few names are gathered where a call has room for them at once;
     // more are not before the first ones pass.
     pub fn arrive_rtcp(&mut self, compound: &Compound<'_>, origin: u64, t: u64, own: u32) -> Verdict
-        ensures verdict { result ≡ verdict_on origin t (names_of_compound own compound.now) self.old }
-        ensures content { self.new ≡ after (datagram_came origin t (names_of_compound own compound.now)) self.old }
+        ensures verdict { result ≡ verdict_on origin t (names_of_compound own compound.now)
+            (goodbye_of_compound own compound.now) self.old }
+        ensures content { self.new ≡ after (datagram_came origin t (names_of_compound own compound.now)
+            (goodbye_of_compound own compound.now)) self.old }
     {
         if let Some(source) = compound.sole() {
             return self.arrive_sole(source.ssrc, origin, t, own);
         }
         let mut names = FewNames::new();
-        if of_compound(compound, own, &mut names) {
-            return self.arrive(names.as_slice(), origin, t);
-        }
-        match self.judge(names.as_slice(), origin) {
-            Verdict::Pass => self.arrive_many(compound, origin, t, own),
-            Verdict::Stranger => self.hold_back(Verdict::Stranger, origin),
-            Verdict::Crowd => self.hold_back(Verdict::Crowd, origin),
+        match of_compound(compound, own, &mut names) {
+            Gathered::Whole(None) => self.arrive(names.as_slice(), origin, t),
+            Gathered::Whole(Some(goodbye)) => {
+                self.arrive_leaving(names.as_slice(), goodbye, origin, t)
+            }
+            Gathered::Part => self.arrive_crowded(compound, names.as_slice(), origin, t, own),
         }
     }
 
@@ -105,8 +121,8 @@ impl Guard {
     /// alike (RFC 3550, 8.2), but the participant's own SSRC. Else as [`Guard::arrive`].
     #[inline]
     pub fn arrive_rtp(&mut self, head: &RtpHead<'_>, origin: u64, t: u64, own: u32) -> Verdict
-        ensures verdict { result ≡ verdict_on origin t (names_of_packet own head.now) self.old }
-        ensures content { self.new ≡ after (datagram_came origin t (names_of_packet own head.now)) self.old }
+        ensures verdict { result ≡ verdict_on origin t (names_of_packet own head.now) None self.old }
+        ensures content { self.new ≡ after (datagram_came origin t (names_of_packet own head.now) None) self.old }
     {
         let mut names = FewNames::new();
         of_packet(head, own, &mut names);
@@ -163,8 +179,8 @@ impl Guard {
     /// A datagram that names one source.
     #[inline(always)]
     fn arrive_sole(&mut self, ssrc: u32, origin: u64, t: u64, own: u32) -> Verdict
-        ensures verdict { result ≡ verdict_on origin t (but own (ssrc ∷ [])) self.old }
-        ensures content { self.new ≡ after (datagram_came origin t (but own (ssrc ∷ []))) self.old }
+        ensures verdict { result ≡ verdict_on origin t (but own (ssrc ∷ [])) None self.old }
+        ensures content { self.new ≡ after (datagram_came origin t (but own (ssrc ∷ [])) None) self.old }
     {
         if ssrc == own {
             return self.arrive(&[], origin, t);
@@ -172,15 +188,79 @@ impl Guard {
         self.arrive(&[ssrc], origin, t)
     }
 
+    /// The same as [`Guard::arrive_rtcp`], where these are the first names, and there are more.
+    fn arrive_crowded(
+        &mut self,
+        compound: &Compound<'_>,
+        first: &[u32],
+        origin: u64,
+        t: u64,
+        own: u32,
+    ) -> Verdict
+        requires { first.now ≡ take 16 (names_of_compound own compound.now) }
+        ensures verdict { result ≡ verdict_on origin t (names_of_compound own compound.now)
+            (goodbye_of_compound own compound.now) self.old }
+        ensures content { self.new ≡ after (datagram_came origin t (names_of_compound own compound.now)
+            (goodbye_of_compound own compound.now)) self.old }
+    {
+        match self.judge(first, origin) {
+            Verdict::Pass => self.arrive_many(compound, origin, t, own),
+            Verdict::Stranger => self.hold_back(Verdict::Stranger, origin),
+            Verdict::Crowd => self.hold_back(Verdict::Crowd, origin),
+        }
+    }
+
     /// The same as [`Guard::arrive_rtcp`], with room for many names.
     #[inline(never)]
     fn arrive_many(&mut self, compound: &Compound<'_>, origin: u64, t: u64, own: u32) -> Verdict
-        ensures verdict { result ≡ verdict_on origin t (names_of_compound own compound.now) self.old }
-        ensures content { self.new ≡ after (datagram_came origin t (names_of_compound own compound.now)) self.old }
+        ensures verdict { result ≡ verdict_on origin t (names_of_compound own compound.now)
+            (goodbye_of_compound own compound.now) self.old }
+        ensures content { self.new ≡ after (datagram_came origin t (names_of_compound own compound.now)
+            (goodbye_of_compound own compound.now)) self.old }
     {
         let mut names = Names::new();
-        let is_all = of_compound(compound, own, &mut names);
-        self.decide(names.as_slice(), !is_all, origin, t)
+        match of_compound(compound, own, &mut names) {
+            Gathered::Whole(None) => self.decide(names.as_slice(), false, origin, t),
+            Gathered::Whole(Some(goodbye)) => {
+                self.decide_leaving(names.as_slice(), goodbye, origin, t)
+            }
+            Gathered::Part => self.decide(names.as_slice(), true, origin, t),
+        }
+    }
+
+    /// What becomes of a datagram with these names that says BYE, of the source `goodbye` first. It is noted.
+    #[inline(never)]
+    fn decide_leaving(&mut self, names: &[u32], goodbye: u32, origin: u64, t: u64) -> Verdict
+        requires { length names.now ≤ 512 }
+        ensures verdict { result ≡ verdict_on origin t names.now (Some goodbye) self.old }
+        ensures content { self.new ≡ after (datagram_came origin t names.now (Some goodbye)) self.old }
+    {
+        if !names.contains(&goodbye) {
+            return self.decide(names, false, origin, t);
+        }
+        if self.claims.goodbyes(origin) >= self.limit_of(origin) {
+            return self.decide(names, true, origin, t);
+        }
+        self.decide_counting(names, goodbye, origin, t)
+    }
+
+    /// The same, where the source is named and its origin has goodbyes left.
+    fn decide_counting(&mut self, names: &[u32], goodbye: u32, origin: u64, t: u64) -> Verdict
+        requires short { length names.now ≤ 512 }
+        requires named { is_named goodbye names.now ≡ true }
+        requires rising { AreRising self.old.claims }
+        requires left { goodbyes_of origin self.old.claims < limit_of origin self.old.settings self.old.trusted }
+        ensures verdict { result ≡ verdict_on origin t names.now (Some goodbye) self.old }
+        ensures content { self.new ≡ after (datagram_came origin t names.now (Some goodbye)) self.old }
+    {
+        match self.decide(names, false, origin, t) {
+            Verdict::Pass => {
+                self.claims.leave(goodbye);
+                Verdict::Pass
+            }
+            Verdict::Stranger => Verdict::Stranger,
+            Verdict::Crowd => Verdict::Crowd,
+        }
     }
 
     /// What becomes of a datagram with these names, and with more where `more` says so. It is noted.
@@ -188,7 +268,7 @@ impl Guard {
     fn decide(&mut self, names: &[u32], more: bool, origin: u64, t: u64) -> Verdict
         requires { length names.now ≤ 512 }
         ensures verdict { result ≡ unless_more more (verdict_by origin t names.now self.old) }
-        ensures content { self.new ≡ after_verdict origin t names.now result self.old }
+        ensures content { self.new ≡ after_verdict origin t names.now None result self.old }
     {
         let verdict = self.judge(names, origin).unless_more(more);
         match verdict {
@@ -228,7 +308,8 @@ impl Guard {
     /// How many sources an origin may have.
     #[inline(always)]
     fn limit_of(&self, origin: u64) -> usize
-        ensures { result ≡ limit_of origin self.now.settings self.now.trusted }
+        ensures limit { result ≡ limit_of origin self.now.settings self.now.trusted }
+        ensures fits { result < 2 ^ 16 }
     {
         let names = usize::from(self.settings.names);
         if self.trusted.contains(&origin) {
@@ -252,7 +333,7 @@ fn may_put(claims: &mut ClaimTable, limit: usize, room: usize, ssrc: u32, origin
     requires few { held origin claims.old.items ≤ limit }
     requires within { length claims.old.items ≤ room }
     ensures result { (moment : ℕ) → result ≡ not (is_too_many limit room origin
-        (put (claim_by origin moment ssrc) claims.old.items)) }
+        (with_name origin moment ssrc claims.old.items)) }
     ensures kept { claims.new ≡ claims.old }
 {
     match claims.owner(ssrc) {

@@ -6,8 +6,8 @@ pub struct Settings {
     /// How many sources the participant's table holds. The guard has room for twice as many claims, since a source
     /// that left counts for a while.
     pub sources: u16,
-    /// How many sources an origin may have, those included that left within the hold. An origin that may have more
-    /// than two for each second of the hold can keep a participant from reporting.
+    /// How many sources an origin may have, those included that left within the hold, and how many goodbyes. An origin
+    /// that may have more than two for each second of the hold can keep a participant from reporting.
     pub names: u16,
     /// How many sources a trusted origin may have, where that is more: a relay, a mixer or a network address
     /// translator.

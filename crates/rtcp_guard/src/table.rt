@@ -1,12 +1,12 @@
 //! The table of claims.
 
-ghost use Rattle.std.specs.Prelude.{◌≡◌, ◌≤◌, ◌<◌, [], length, IfOk, IfSome, set};
+ghost use Rattle.std.specs.Prelude.{◌≡◌, ◌≤◌, ◌<◌, ◌^◌, [], length, IfOk, IfSome, Some, set};
 ghost use Rattle.std.specs.List.{insert};
-ghost use Rattle.rtcp_guard.specs.Claims.{after_lapse, claim_by, held, owner_in, put};
-ghost use Rattle.rtcp_guard.specs.Tables.{IsGap, IsRankOf, Locates};
+ghost use Rattle.rtcp_guard.specs.Claims.{after_lapse, goodbyes_of, held, owner_in, with_goodbye, with_name};
+ghost use Rattle.rtcp_guard.specs.Tables.{AreFewGoodbyes, IsGap, IsRankOf, IsTally, Locates};
 
 use crate::cells::{Cell, count, hinted, note, oldest, search, settle_last};
-use crate::tallies::Tallies;
+use crate::tallies::{Tallies, Tally};
 use std::alloc::{AllocError, Global};
 use std::marker::Model;
 
@@ -37,10 +37,10 @@ impl ClaimTable {
     /// # Errors
     ///
     /// There is no memory.
-    pub(crate) fn with_room(alloc: Global, room: usize) -> Result<ClaimTable, AllocError>
+    pub(crate) fn with_room(alloc: Global, room: u32) -> Result<ClaimTable, AllocError>
         ensures { IfOk result (λ table. table ≡ record { items = []; room = room }) }
     {
-        let cells = Vec::with_capacity(alloc, room)?;
+        let cells = Vec::with_capacity(alloc, room as usize)?;
         Ok(ClaimTable {
             cells,
             oldest: u64::MAX,
@@ -78,29 +78,44 @@ impl ClaimTable {
         }
     }
 
-    /// How many sources belong to an origin. All claims are read where that is not known from the last time.
+    /// How many sources belong to an origin.
     pub(crate) fn count(&mut self, origin: u64) -> usize
         ensures count { result ≡ held origin self.old.items }
         ensures kept { self.new ≡ self.old }
     {
-        if let Some(count) = self.tallies.of(origin) {
-            return count;
-        }
-        let count = count(&self.cells, origin);
-        self.tallies.keep(origin, count);
-        count
+        self.tally(origin).count as usize
+    }
+
+    /// How many goodbyes an origin has.
+    pub(crate) fn goodbyes(&mut self, origin: u64) -> usize
+        ensures goodbyes { result ≡ goodbyes_of origin self.old.items }
+        ensures kept { self.new ≡ self.old }
+    {
+        usize::from(self.tally(origin).goodbyes)
     }
 
     /// A source is claimed at a moment, whether it was claimed before or not.
     #[inline(always)]
     pub(crate) fn put(&mut self, ssrc: u32, origin: u64, t: u64)
-        requires { length (put (claim_by origin t ssrc) self.old.items) ≤ self.old.room }
-        ensures items { self.new.items ≡ put (claim_by origin t ssrc) self.old.items }
+        requires { length (with_name origin t ssrc self.old.items) ≤ self.old.room }
+        ensures items { self.new.items ≡ with_name origin t ssrc self.old.items }
         ensures room { self.new.room ≡ self.old.room }
     {
         match self.find(ssrc) {
             Ok(at) => self.write(at, ssrc, origin, t),
             Err(gap) => self.insert(gap, ssrc, origin, t),
+        }
+    }
+
+    /// A BYE that is passed on speaks of a source, which has one goodbye more if it is claimed.
+    pub(crate) fn leave(&mut self, ssrc: u32)
+        requires { AreFewGoodbyes (with_goodbye (Some ssrc) self.old.items) }
+        ensures items { self.new.items ≡ with_goodbye (Some ssrc) self.old.items }
+        ensures room { self.new.room ≡ self.old.room }
+    {
+        if let Ok(at) = search(&self.cells, ssrc) {
+            self.cells[at].leave();
+            self.tallies.forget();
         }
     }
 
@@ -114,6 +129,20 @@ impl ClaimTable {
             self.oldest = oldest(&self.cells);
             self.tallies.forget();
         }
+    }
+
+    /// How many sources and goodbyes an origin has. All claims are read where that is not known from the last time.
+    fn tally(&mut self, origin: u64) -> Tally
+        ensures origin { result.origin ≡ origin }
+        ensures tally { IsTally self.old.items result }
+        ensures kept { self.new ≡ self.old }
+    {
+        if let Some(tally) = self.tallies.of(origin) {
+            return tally;
+        }
+        let tally = count(&self.cells, origin);
+        self.tallies.keep(tally);
+        tally
     }
 
     /// The rank of a source, or else the gap where its claim would stand.
@@ -157,13 +186,10 @@ impl ClaimTable {
     #[inline(always)]
     fn write(&mut self, at: usize, ssrc: u32, origin: u64, t: u64)
         requires { IsRankOf ssrc self.old.items at }
-        ensures items { self.new.items ≡ put (claim_by origin t ssrc) self.old.items }
+        ensures items { self.new.items ≡ with_name origin t ssrc self.old.items }
         ensures room { self.new.room ≡ self.old.room }
     {
-        let cell = &mut self.cells[at];
-        let is_moved = cell.origin != origin;
-        cell.origin = origin;
-        cell.last = t;
+        let is_moved = self.cells[at].renew(origin, t);
         self.oldest = self.oldest.min(t);
         self.tallies.forget_if(is_moved);
     }
@@ -173,7 +199,7 @@ impl ClaimTable {
     fn insert(&mut self, gap: usize, ssrc: u32, origin: u64, t: u64)
         requires gap { IsGap ssrc self.old.items gap }
         requires room { length self.old.items < self.old.room }
-        ensures items { self.new.items ≡ put (claim_by origin t ssrc) self.old.items }
+        ensures items { self.new.items ≡ with_name origin t ssrc self.old.items }
         ensures room { self.new.room ≡ self.old.room }
     {
         let end = self.cells.len();

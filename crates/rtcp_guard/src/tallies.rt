@@ -1,19 +1,20 @@
-//! How many sources belong to the origins that were asked for last.
+//! How many sources and goodbyes the origins have that were asked for last.
 
 ghost use Rattle.std.specs.Prelude.{◌≡◌, List, [], IfSome, false};
-ghost use Rattle.rtcp_guard.specs.Claims.{Claim, held};
-ghost use Rattle.rtcp_guard.specs.Tables.{AreTallies};
+ghost use Rattle.rtcp_guard.specs.Claims.{Claim};
+ghost use Rattle.rtcp_guard.specs.Tables.{AreTallies, IsTally};
 
 use arrayvec::ArrayVec;
 
 /// How many tallies are kept.
 const TALLIES: usize = 16;
 
-/// How many sources belong to an origin.
+/// How many sources and goodbyes an origin has.
 #[derive(Clone, Copy, Default)]
 pub(crate) struct Tally {
     pub(crate) origin: u64,
-    pub(crate) count: usize,
+    pub(crate) count: u32,
+    pub(crate) goodbyes: u16,
 }
 
 /// Tallies of the claims as they are. An origin that has as many sources as it may is so not counted anew at each of
@@ -33,28 +34,29 @@ impl Tallies {
         }
     }
 
-    /// How many sources belong to an origin, if that is kept.
-    pub(crate) fn of(&self, origin: u64) -> Option<usize>
-        ensures { (claims : List Claim) → AreTallies claims self.now.kept.items →
-            IfSome result (λ count. count ≡ held origin claims) }
+    /// The tally of an origin, if that is kept.
+    pub(crate) fn of(&self, origin: u64) -> Option<Tally>
+        ensures origin { IfSome result (λ tally. tally.origin ≡ origin) }
+        ensures tally { (claims : List Claim) → AreTallies claims self.now.kept.items →
+            IfSome result (λ tally. IsTally claims tally) }
     {
         'tallies: for tally in self.kept.as_slice() {
             if tally.origin == origin {
-                return Some(tally.count);
+                return Some(*tally);
             }
         }
         None
     }
 
-    /// Keeps how many sources belong to an origin, in the place of what is kept where there is no room.
-    pub(crate) fn keep(&mut self, origin: u64, count: usize)
-        ensures { (claims : List Claim) → AreTallies claims self.old.kept.items → count ≡ held origin claims →
+    /// Keeps a tally, in the place of what is kept where there is no room.
+    pub(crate) fn keep(&mut self, tally: Tally)
+        ensures { (claims : List Claim) → AreTallies claims self.old.kept.items → IsTally claims tally →
             AreTallies claims self.new.kept.items }
     {
         if self.kept.is_full() {
             self.forget();
         }
-        self.kept.push(Tally { origin, count });
+        self.kept.push(tally);
     }
 
     /// Keeps none any more, as the claims are others.

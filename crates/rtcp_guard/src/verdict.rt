@@ -10,12 +10,13 @@ pub enum Verdict {
     Pass,
     /// It is held back: it names a source that belongs to another origin (RFC 3550, 8.2).
     Stranger,
-    /// It is held back: its origin would have more sources than it may, or all origins together would.
+    /// It is held back: its origin would have more sources than it may, or all origins together would; or it says BYE,
+    /// and its origin has as many goodbyes as it may have sources.
     Crowd,
 }
 
 impl Verdict {
-    /// What passes is a crowd, where there are more names than were looked at.
+    /// What passes is a crowd, where there is more than may be.
     #[inline(always)]
     pub(crate) fn unless_more(self, more: bool) -> Verdict
         ensures { result ≡ unless_more more self }
@@ -32,11 +33,11 @@ impl Verdict {
 pub struct HeldBack {
     /// How many datagrams named a source of another origin.
     pub strangers: u64,
-    /// How many datagrams named too many sources.
+    /// How many datagrams named too many sources, or said BYE too often.
     pub crowds: u64,
     /// Where the last datagram came from that named a source of another origin.
     pub last_stranger: Option<u64>,
-    /// Where the last datagram came from that named too many sources.
+    /// Where the last datagram came from that named too many sources, or said BYE too often.
     pub last_crowd: Option<u64>,
 }
 

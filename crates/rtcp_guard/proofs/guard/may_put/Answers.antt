@@ -20,7 +20,8 @@ returns-else-owner-origin-clause-result c = λ moment.
 
 pub returns-then-count-limit-clause-result : goal.returns-then-count-limit-clause-result
 returns-then-count-limit-clause-result c = λ moment.
-    ap (λ n. nat_lt n c.args.room) (c.len.ensures ∙ ap (λ (t : TableValue). length t.items) c.count-in-None.ensures.kept)
+    ap (λ n. nat_lt n c.args.room)
+    (c.len.ensures ∙ ap (λ (t : TableValue). length t.items) c.count-in-None.ensures.kept)
     ∙ sym (may_join c.args.limit c.args.room c.args.origin moment c.args.ssrc c.args.claims.now.items
     c.requires.rising (sym c.in-None.ensures) (omega (arith, c.if-count-limit.true, c.count-in-None.ensures.count)))
 

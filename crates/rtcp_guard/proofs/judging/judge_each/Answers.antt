@@ -62,7 +62,8 @@ names-preserved g c =
                 (sym (more_seen own names at c.names-test.true))
                 (subst (AreNew origin claims ((own ++ take at names) ++ n ∷ [])) (sym same)
                 (new_again origin claims (own ++ take at names) fresh n c.requires.rising
-                (c.names.invariant.new own its) (sym w.in-None.ensures) (sym (ap (is_named n) w.deref.ensures.0) ∙ sym w.if-contains.ensures.value)));
+                (c.names.invariant.new own its) (sym w.in-None.ensures) (sym (ap (is_named n) w.deref.ensures.0)
+                ∙ sym w.if-contains.ensures.value)));
             fits = omega (arith, long, fits);
             few = omega (arith, long, few);
           }
@@ -76,7 +77,8 @@ names-preserved g c =
                 (subst (AreNew origin claims ((own ++ take at names) ++ n ∷ []))
                 (sym same)
                 (new_more origin claims (own ++ take at names) fresh n c.requires.rising
-                (c.names.invariant.new own its) (sym w.in-None.ensures) (sym (ap (is_named n) w.deref.ensures.0) ∙ sym w.if-contains.ensures.value)));
+                (c.names.invariant.new own its) (sym w.in-None.ensures) (sym (ap (is_named n) w.deref.ensures.0)
+                ∙ sym w.if-contains.ensures.value)));
             fits = omega (arith, long, longer, w.len.ensures.value, w.if-len-spare.false);
             few = omega (arith, long, longer, few);
           }

@@ -1,7 +1,7 @@
 -- A source that the origin may have keeps the bounds.
 use Rattle.std.proofs.Common.{sym, ap, subst, ◌∙◌}
 use Rattle.rtcp_guard.specs.Guarding.{GuardValue, limit_of, room_of}
-use Rattle.rtcp_guard.specs.Claims.{claim_by, put}
+use Rattle.rtcp_guard.specs.Claims.{with_name}
 use Rattle.rtcp_guard.specs.Tables.{IsBounded, TableValue}
 use Rattle.rtcp_guard.proofs.Bounding.{bounded_expected}
 use Rattle.rtcp_guard.proofs.guard.Guard.expect.Goals as goal
@@ -18,10 +18,10 @@ invariant_of-self-2 c =
     } in
     record {
       bounded = subst (IsBounded settings trusted) (sym (c.put.ensures.items
-          ∙ ap (λ (t : TableValue). put (claim_by c.args.origin c.args.t c.args.ssrc) t.items) c.may_put.ensures.kept))
+          ∙ ap (λ (t : TableValue). with_name c.args.origin c.args.t c.args.ssrc t.items) c.may_put.ensures.kept))
           (bounded_expected guard c.limit_of-limit.result c.room-room.result c.args.origin c.args.t c.args.ssrc
           c.self.invariant.bounded
-          (c.limit_of-limit.ensures ∙ ap (λ (g : GuardValue). limit_of c.args.origin g.settings g.trusted)
+          (c.limit_of-limit.ensures.limit ∙ ap (λ (g : GuardValue). limit_of c.args.origin g.settings g.trusted)
           (sym c.self.view_is))
           (c.room-room.ensures ∙ ap (λ (g : GuardValue). room_of g.settings) (sym c.self.view_is))
           (c.if-not-may_put.ensures.result c.args.t));

@@ -2,10 +2,11 @@
 use Rattle.std.proofs.Common.{◌≡◌, ◌<◌, ◌≤◌, ◌+◌, [], ◌∷◌, arith, length, min, cond, take, drop, ◌++◌, sym, ap, subst, ◌∙◌}
 use Rattle.std.specs.List.{insert}
 use Rattle.std.proofs.lemmas.List.Edits.{insert_end}
-use Rattle.rtcp_guard.specs.Claims.{claim_by, put}
-use Rattle.rtcp_guard.specs.Tables.{AreRising, AreSince, AreTallies, IsGap, TableValue, claims_in}
+use Rattle.rtcp_guard.specs.Claims.{claim_after, claim_by, found, put, with_name}
+use Rattle.rtcp_guard.specs.Tables.{AreFewGoodbyes, AreRising, AreSince, AreTallies, IsGap, TableValue, claims_in}
 use Rattle.rtcp_guard.proofs.Ages.{since_named}
-use Rattle.rtcp_guard.proofs.Orders.{gap_within, rising_put}
+use Rattle.rtcp_guard.proofs.Claiming.{goodbyes_name, rising_name}
+use Rattle.rtcp_guard.proofs.Orders.{gap_found, gap_within}
 use Rattle.rtcp_guard.proofs.Rows.{as_many, over_whole, put_in_gap}
 use Rattle.rtcp_guard.proofs.table.ClaimTable.insert.Goals as goal
 use Rattle.rtcp_guard.proofs.table.ClaimTable.insert.Goals.{After-forget}
@@ -52,7 +53,7 @@ its_length c = omega (arith, c.insert-inserted.new.self.ok.0, c.settle_last.auto
 
 then_claims : (c : After-forget) → claims_in (take c.insert-inserted.new.self.len (c.settle_last.new.cells
     ++ drop (length c.settle_last.new.cells) c.insert-inserted.new.self.items))
-    ≡ put (claim_by c.args.origin c.args.t c.args.ssrc) (claims_in c.self.inside.cells.items)
+    ≡ with_name c.args.origin c.args.t c.args.ssrc (claims_in c.self.inside.cells.items)
 then_claims c =
     ap claims_in (over_whole c.insert-inserted.new.self.len c.settle_last.new.cells c.insert-inserted.new.self.items
     (its_length c))
@@ -60,28 +61,38 @@ then_claims c =
     (c.deref_mut.ensures.value ∙ its_items c)
     ∙ put_in_gap c.self.inside.cells.items c.args.gap c.of.result
     (claim_by c.args.origin c.args.t c.args.ssrc) (its_gap c) c.of.ensures
+    ∙ ap (λ o. put (claim_after c.args.origin c.args.t c.args.ssrc o) (claims_in c.self.inside.cells.items))
+    (sym (gap_found c.args.ssrc (claims_in c.self.inside.cells.items) c.args.gap c.self.invariant.rising (its_gap c)))
 
 pub invariant_of-self : goal.invariant_of-self
 invariant_of-self c =
     let cells = take c.insert-inserted.new.self.len (c.settle_last.new.cells
     ++ drop (length c.settle_last.new.cells) c.insert-inserted.new.self.items) in
-    let long = ap length (over_whole c.insert-inserted.new.self.len c.settle_last.new.cells c.insert-inserted.new.self.items
+    let long = ap length (over_whole c.insert-inserted.new.self.len c.settle_last.new.cells
+    c.insert-inserted.new.self.items
     (its_length c)) in
     let more : c.insert-inserted.new.self.len ≡ c.self.inside.cells.len + 1 = c.insert-inserted.ensures.len
     ∙ ap (λ b. cond b (c.self.inside.cells.len + 1) c.self.inside.cells.len)
     (c.insert-inserted.ensures.succeeds (has_room c)) in
     let room = has_room c in
     record {
-      rising = subst AreRising (sym (then_claims c)) (rising_put (claim_by c.args.origin c.args.t c.args.ssrc)
+      rising = subst AreRising (sym (then_claims c)) (rising_name c.args.origin c.args.t c.args.ssrc
           (claims_in c.self.inside.cells.items) c.self.invariant.rising);
       since = subst (λ m. AreSince m (claims_in cells)) (sym c.min-self-inside.ensures)
           (subst (AreSince (min c.self.inside.oldest c.args.t)) (sym (then_claims c))
-          (since_named c.self.inside.oldest (claim_by c.args.origin c.args.t c.args.ssrc)
+          (since_named c.self.inside.oldest (claim_after c.args.origin c.args.t c.args.ssrc
+          (found c.args.ssrc (claims_in c.self.inside.cells.items)))
           (claims_in c.self.inside.cells.items) c.self.invariant.since));
       counted = subst (AreTallies (claims_in cells)) (sym c.forget.ensures) tt;
       within = omega (arith, as_many cells, long, its_length c, more, room, c.insert-inserted.ensures.capacity);
+      small = let same = (c.insert-inserted.ensures.in_place room).1.0 in omega (arith, c.self.invariant.small, same);
+      leaving = subst AreFewGoodbyes (sym (then_claims c)) (λ origin.
+          let few = c.self.invariant.leaving origin in
+          let no_more = goodbyes_name c.args.origin c.args.t origin c.args.ssrc
+          (claims_in c.self.inside.cells.items) c.self.invariant.rising in
+          omega (arith, few, no_more));
     }
 
 pub returns-clause-items : goal.returns-clause-items
 returns-clause-items c = then_claims c
-    ∙ ap (λ (t : TableValue). put (claim_by c.args.origin c.args.t c.args.ssrc) t.items) c.self.view_is
+    ∙ ap (λ (t : TableValue). with_name c.args.origin c.args.t c.args.ssrc t.items) c.self.view_is

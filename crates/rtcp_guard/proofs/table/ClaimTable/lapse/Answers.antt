@@ -2,11 +2,11 @@
 use Rattle.std.proofs.Common.{◌≡◌, rules, arith, length, nat_le, sym, ap, subst, ◌∙◌}
 use Rattle.std.proofs.lemmas.Fn.{filter_same}
 use Rattle.rtcp_guard.specs.declared.cells.Cell.{Cell}
-use Rattle.rtcp_guard.specs.Claims.{Claim, after_lapse}
-use Rattle.rtcp_guard.specs.Tables.{AreRising, AreSince, AreTallies, TableValue, claims_in}
+use Rattle.rtcp_guard.specs.Claims.{Claim, after_lapse, goodbyes_for}
+use Rattle.rtcp_guard.specs.Tables.{AreFewGoodbyes, AreRising, AreSince, AreTallies, TableValue, claims_in}
 use Rattle.rtcp_guard.proofs.Ages.{all_stay}
 use Rattle.rtcp_guard.proofs.Orders.{rising_filter}
-use Rattle.rtcp_guard.proofs.Putting.{length_filter}
+use Rattle.rtcp_guard.proofs.Putting.{length_filter, total_filter}
 use Rattle.rtcp_guard.proofs.Rows.{claims_filtered}
 use Rattle.rtcp_guard.proofs.table.ClaimTable.lapse.Goals as goal
 
@@ -30,6 +30,12 @@ invariant_of-self c =
           c.oldest-self-inside.ensures;
       counted = subst (AreTallies (claims_in c.retain.new.self.items)) (sym c.forget.ensures) tt;
       within = omega (arith, less, long, c.self.invariant.within, c.retain.ensures.capacity);
+      small = omega (arith, c.self.invariant.small, c.retain.ensures.capacity);
+      leaving = subst AreFewGoodbyes (sym (left c)) (λ origin.
+          let few = c.self.invariant.leaving origin in
+          let no_more = total_filter (goodbyes_for origin)
+          (λ (claim : Claim). nat_le c.args.before claim.last) (claims_in cells) in
+          omega (arith, few, no_more));
     }
 
 pub returns-then-before-self-clause-items : goal.returns-then-before-self-clause-items

@@ -1,0 +1,26 @@
+-- All names are looked at, or the first 512.
+use Rattle.std.proofs.Common.{Some, arith, take, refl, sym}
+use Rattle.std.proofs.lemmas.List.{length-take-le}
+use Rattle.rtcp_guard.proofs.Deciding.{Decided, by_first}
+use Rattle.rtcp_guard.proofs.guard.Guard.arrive_leaving.Goals as goal
+
+pub slice_bounds-decide-end : goal.slice_bounds-decide-end
+slice_bounds-decide-end c = sym (length-take-le 512 c.args.names.now (omega (arith, c.if-names-gt-MAX_NAMES.true)))
+
+pub decide-requires : goal.decide-requires
+decide-requires c = omega (
+  arith,
+  length-take-le 512 c.args.names.now (omega (arith, c.if-names-gt-MAX_NAMES.true)),
+)
+
+its_first : (c : goal.After-decide) → Decided c.args.origin c.args.t c.args.names.now (Some c.args.goodbye)
+    c.args.self.now c.decide.result c.decide.new.self
+its_first c = by_first c.args.origin c.args.t c.args.names.now c.args.self.now c.decide.result c.decide.new.self
+    (Some c.args.goodbye) (take 512 c.args.names.now) c.if-names-gt-MAX_NAMES.true refl c.decide.ensures.verdict
+    c.decide.ensures.content
+
+pub returns-then-names-gt-MAX_NAMES-clause-verdict : goal.returns-then-names-gt-MAX_NAMES-clause-verdict
+returns-then-names-gt-MAX_NAMES-clause-verdict c = (its_first c).its
+
+pub returns-then-names-gt-MAX_NAMES-clause-content : goal.returns-then-names-gt-MAX_NAMES-clause-content
+returns-then-names-gt-MAX_NAMES-clause-content c = (its_first c).content
