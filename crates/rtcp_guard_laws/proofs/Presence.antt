@@ -7,7 +7,7 @@ use Rattle.rtcp_wire.specs.Facts.{subject, is_gone}
 use Rattle.rtcp_members.specs.Traces.{Horizons, TraceStep, fact_came, check_made, block_made_of, source_forgotten, is_naming, names, with_facts}
 use Rattle.rtcp_members.specs.Stays.{mark_at, mark_of, before_mark, step_moment, last_naming, last_sighting, is_before, ends_stay, present_among, stay_with, stay_of}
 use Rattle.rtcp_guard.specs.declared.settings.Settings.{Settings}
-use Rattle.rtcp_guard.specs.Claims.{Claim, is_named, claim_by}
+use Rattle.rtcp_guard.specs.Claims.{Claim, claim_after, claim_leaving, is_named}
 use Rattle.rtcp_guard.specs.Guarding.{before_which, may_have}
 use Rattle.rtcp_guard.specs.Histories.{guard_after, is_passed, unless_lapsed, claim_of}
 use Rattle.rtcp_guard_laws.specs.Together.{JointStep, arrived, checked, reported, forgotten, expected, trusted, trace_of, steps_of, latest, AreNamed, IsInOrder}
@@ -149,6 +149,11 @@ module _ (capacity ssrc : ℕ) where
 
   -- ---- All steps
 
+  -- the claim of an origin that names the source at a moment, with so many goodbyes
+  abbrev claim_at : (origin moment goodbyes : ℕ) → Claim
+  claim_at origin moment goodbyes =
+      record { ssrc = ssrc; origin = origin; last = moment; goodbyes = goodbyes }
+
   abbrev Goes : (now : ℕ) → Option Claim → Option (List TraceStep) → Type 0
   Goes now None o = o ≡ None
   Goes now (Some claim) o = (claim.last ≤ now) × Sees claim.last o
@@ -159,13 +164,13 @@ module _ (capacity ssrc : ℕ) where
   weaker now later (Some claim) o past goes stay is =
       let seen = goes.1 stay is in let by = goes.0 in omega arith
 
-  goes_told : (origin moment now : ℕ) (named : List ℕ) (facts : List Fact) (trace : List TraceStep)
+  goes_told : (origin moment goodbyes now : ℕ) (named : List ℕ) (facts : List Fact) (trace : List TraceStep)
       (claim : Option Claim) → now ≤ moment → AreNamed named facts → Goes now claim (stay_of capacity trace ssrc) →
-      Goes moment (cond (is_named ssrc named && true) (Some (claim_by origin moment ssrc)) claim)
+      Goes moment (cond (is_named ssrc named && true) (Some (claim_at origin moment goodbyes)) claim)
       (stay_of capacity (with_facts facts moment trace) ssrc)
-  goes_told origin moment now named facts trace claim past all goes =
+  goes_told origin moment goodbyes now named facts trace claim past all goes =
       elim (is_named ssrc named) as (λ n. is_named ssrc named ≡ n →
-      Goes moment (cond (n && true) (Some (claim_by origin moment ssrc)) claim)
+      Goes moment (cond (n && true) (Some (claim_at origin moment goodbyes)) claim)
       (stay_of capacity (with_facts facts moment trace) ssrc)) [
         | true ↦ λ e. (
           omega arith,
@@ -182,11 +187,11 @@ module _ (capacity ssrc : ℕ) where
           (let by = goes.0 in omega arith, sees_others claim.last moment facts trace other goes.1)
 
   -- what is not passed on changes nothing
-  goes_held : (origin moment now : ℕ) (named : List ℕ) (claim : Option Claim) (o : Option (List TraceStep)) →
+  goes_held : (origin moment goodbyes now : ℕ) (named : List ℕ) (claim : Option Claim) (o : Option (List TraceStep)) →
       now ≤ moment → Goes now claim o →
-      Goes moment (cond (is_named ssrc named && false) (Some (claim_by origin moment ssrc)) claim) o
-  goes_held origin moment now named claim o past goes =
-      elim (is_named ssrc named) as (λ n. Goes moment (cond (n && false) (Some (claim_by origin moment ssrc)) claim)
+      Goes moment (cond (is_named ssrc named && false) (Some (claim_at origin moment goodbyes)) claim) o
+  goes_held origin moment goodbyes now named claim o past goes =
+      elim (is_named ssrc named) as (λ n. Goes moment (cond (n && false) (Some (claim_at origin moment goodbyes)) claim)
       o) [
         | true ↦ later now moment claim o past goes
         | false ↦ later now moment claim o past goes
@@ -197,20 +202,21 @@ module _ (capacity ssrc : ℕ) where
       later now moment None o past goes = goes
       later now moment (Some claim) o past goes = (let by = goes.0 in omega (arith, by, past), goes.1)
 
-  goes_arrived : (passes : Bool) (origin moment now : ℕ) (named : List ℕ) (facts : List Fact) (trace : List TraceStep)
+  goes_arrived : (passes : Bool) (origin moment goodbyes now : ℕ) (named : List ℕ) (facts : List Fact)
+      (trace : List TraceStep)
       (claim : Option Claim) → now ≤ moment → AreNamed named facts → Goes now claim (stay_of capacity trace ssrc) →
-      Goes moment (cond (is_named ssrc named && passes) (Some (claim_by origin moment ssrc)) claim)
+      Goes moment (cond (is_named ssrc named && passes) (Some (claim_at origin moment goodbyes)) claim)
       (stay_of capacity (cond passes (with_facts facts moment trace) trace) ssrc)
-  goes_arrived true origin moment now named facts trace claim past all goes =
-      goes_told origin moment now named facts trace claim past all goes
-  goes_arrived false origin moment now named facts trace claim past all goes =
-      goes_held origin moment now named claim (stay_of capacity trace ssrc) past goes
+  goes_arrived true origin moment goodbyes now named facts trace claim past all goes =
+      goes_told origin moment goodbyes now named facts trace claim past all goes
+  goes_arrived false origin moment goodbyes now named facts trace claim past all goes =
+      goes_held origin moment goodbyes now named claim (stay_of capacity trace ssrc) past goes
 
-  goes_expected : (is : Bool) (origin moment now : ℕ) (claim : Option Claim) (o : Option (List TraceStep)) →
-      now ≤ moment → Goes now claim o → Goes moment (cond is (Some (claim_by origin moment ssrc)) claim) o
-  goes_expected true origin moment now claim o past goes = (omega arith, weaker now moment claim o past goes)
-  goes_expected false origin moment now None o past goes = goes
-  goes_expected false origin moment now (Some claim) o past goes =
+  goes_expected : (is : Bool) (origin moment goodbyes now : ℕ) (claim : Option Claim) (o : Option (List TraceStep)) →
+      now ≤ moment → Goes now claim o → Goes moment (cond is (Some (claim_at origin moment goodbyes)) claim) o
+  goes_expected true origin moment goodbyes now claim o past goes = (omega arith, weaker now moment claim o past goes)
+  goes_expected false origin moment goodbyes now None o past goes = goes
+  goes_expected false origin moment goodbyes now (Some claim) o past goes =
       (let by = goes.0 in omega (arith, by, past), goes.1)
 
   quiet_check : (horizons : Horizons) (b : ℕ) → is_naming ssrc (check_made horizons) ≡ true →
@@ -250,9 +256,11 @@ module _ (capacity ssrc : ℕ) where
   goes_on : (settings : Settings) (joint : List JointStep) → IsInOrder joint →
       Goes (latest joint) (claim_of settings ssrc (steps_of joint)) (stay_of capacity (trace_of settings joint) ssrc)
   goes_on settings [] order = refl
-  goes_on settings (arrived origin moment named facts ∷ earlier) order =
-      goes_arrived (is_passed settings origin moment named (steps_of earlier)) origin moment (latest earlier) named
-      facts
+  goes_on settings (arrived origin moment named goodbye facts ∷ earlier) order =
+      let next : Claim = claim_leaving goodbye
+      (claim_after origin moment ssrc (claim_of settings ssrc (steps_of earlier))) in
+      goes_arrived (is_passed settings origin moment named goodbye (steps_of earlier)) origin moment next.goodbyes
+      (latest earlier) named facts
       (trace_of settings earlier) (claim_of settings ssrc (steps_of earlier)) order.0 order.1.0
       (goes_on settings earlier order.1.1)
   goes_on settings (checked horizons moment silent ∷ earlier) order =
@@ -267,7 +275,7 @@ module _ (capacity ssrc : ℕ) where
       (claim_of settings ssrc (steps_of earlier)) refl (goes_on settings earlier order)
   goes_on settings (expected other origin moment ∷ earlier) order =
       goes_expected (other == ssrc && may_have other origin moment (guard_after settings (steps_of earlier))) origin
-      moment
+      moment (claim_after origin moment ssrc (claim_of settings ssrc (steps_of earlier))).goodbyes
       (latest earlier) (claim_of settings ssrc (steps_of earlier)) (stay_of capacity (trace_of settings earlier) ssrc)
       order.0 (goes_on settings earlier order.1)
   goes_on settings (trusted origin ∷ earlier) order = goes_on settings earlier order
