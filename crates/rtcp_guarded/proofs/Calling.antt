@@ -21,7 +21,7 @@ use Rattle.rtcp_engine.specs.state.Views.{LeavesRest, reply_value as participant
 use Rattle.rtcp_engine.proofs.LawLemmas.{one_reading-once, one_reading-rtp_once}
 use Rattle.rtcp_guarded.specs.declared.untaken.Reason.{Reason}
 use Rattle.rtcp_guarded.specs.declared.untaken.Untaken.TheVariants.{HeldBack, Refused}
-use Rattle.rtcp_guarded.specs.Guarded.{Course, GuardedAnswer, GuardedHistory, names_in, origin_of, passed_at, reason_for, steps_with, verdict_in}
+use Rattle.rtcp_guarded.specs.Guarded.{Course, GuardedAnswer, GuardedHistory, goodbye_in, names_in, origin_of, passed_at, reason_for, steps_with, verdict_in}
 use Rattle.rtcp_guarded.specs.Promises.{Replies, Takes}
 use Rattle.rtcp_guarded.specs.Views.{GuardedValue, StandsAt, as_refused, reply_value}
 use Rattle.rtcp_guarded.proofs.Courses.{GuardGoes, GuardLearns, Judges, err_refused, held, passes, passes_by, refused, unheld}
@@ -67,33 +67,36 @@ TakenUnder old act ssrc = (h : History) → IsAtHistory old.participant h → Ok
 
 judges : {old : GuardedValue} (moment peer word ssrc origin : ℕ) (datagram : Datagram) (verdict : Verdict) →
     TakenUnder old (arrived moment peer word datagram) ssrc → origin ≡ origin_of peer →
-    verdict ≡ verdict_on origin moment (names_in ssrc datagram) old.guard →
+    verdict ≡ verdict_on origin moment (names_in ssrc datagram) (goodbye_in ssrc datagram) old.guard →
     Judges old (arrived moment peer word datagram) verdict
 judges moment peer word ssrc origin datagram verdict under is judged h stands =
     let act = arrived moment peer word datagram in
     let taken = ok_foretold (refusal_after (passed_at h) act) (ssrc_for h act) ssrc
     (under (passed_at h) stands.participant) in (
       taken.0,
-      judged ∙ (λ i. verdict_on (is i) moment (names_in (taken.1 i) datagram) (stands.guard i)),
+      judged ∙ (λ i. verdict_on (is i) moment (names_in (taken.1 i) datagram) (goodbye_in (taken.1 i) datagram)
+          (stands.guard i)),
     )
 
 learns : {old : GuardedValue} (new : GuardedValue) (moment peer word ssrc origin : ℕ) (datagram : Datagram) →
     TakenUnder old (arrived moment peer word datagram) ssrc → origin ≡ origin_of peer →
-    new.guard ≡ after (datagram_came origin moment (names_in ssrc datagram)) old.guard →
+    new.guard ≡ after (datagram_came origin moment (names_in ssrc datagram) (goodbye_in ssrc datagram)) old.guard →
     GuardLearns old new (arrived moment peer word datagram)
 learns new moment peer word ssrc origin datagram under is content h stands =
     let act = arrived moment peer word datagram in
     let taken = ok_foretold (refusal_after (passed_at h) act) (ssrc_for h act) ssrc
     (under (passed_at h) stands.participant) in
-    content ∙ (λ i. after (datagram_came (is i) moment (names_in (taken.1 i) datagram)) (stands.guard i))
+    content ∙ (λ i. after (datagram_came (is i) moment (names_in (taken.1 i) datagram)
+    (goodbye_in (taken.1 i) datagram)) (stands.guard i))
 
 -- what the guard did with it
 pub record Judged
     (old new : GuardedValue) (moment peer ssrc : ℕ) (datagram : Datagram) (verdict : Verdict) : Type 0 where
   pub origin : ℕ
   pub its : origin ≡ origin_of peer
-  pub verdict_is : verdict ≡ verdict_on origin moment (names_in ssrc datagram) old.guard
-  pub content : new.guard ≡ after (datagram_came origin moment (names_in ssrc datagram)) old.guard
+  pub verdict_is : verdict ≡ verdict_on origin moment (names_in ssrc datagram) (goodbye_in ssrc datagram) old.guard
+  pub content : new.guard ≡ after (datagram_came origin moment (names_in ssrc datagram) (goodbye_in ssrc datagram))
+      old.guard
 
 held_act : {old new : GuardedValue} (moment peer word ssrc : ℕ) (datagram : Datagram) (verdict : Verdict)
     (reason : Reason) → TakenUnder old (arrived moment peer word datagram) ssrc →

@@ -1,7 +1,7 @@
 -- What is held back changes nothing but what the guard counts.
 use Rattle.std.proofs.Common.{◌≡◌, ℕ, true, false, List, [], ◌∷◌, if◌then◌else◌, Option, Some, None, refl, sym, ap, ◌∙◌, subst}
 use Rattle.rtcp_guard.specs.Guarding.{GuardStep, datagram_came, check_made, source_expected, origin_trusted, GuardValue, after, after_verdict, may_have, nothing_held_back, verdict_on}
-use Rattle.rtcp_guard.specs.Claims.{claim_by, put}
+use Rattle.rtcp_guard.specs.Claims.{with_name}
 use Rattle.rtcp_guard.specs.Histories.{guard_after}
 use Rattle.rtcp_guard.specs.declared.settings.Settings.{Settings}
 use Rattle.rtcp_guard.specs.declared.verdict.Verdict.{Verdict}
@@ -12,7 +12,7 @@ use Rattle.rtcp_engine.specs.answers.Answers.{step_by}
 use Rattle.rtcp_engine.specs.answers.Histories.{History}
 use Rattle.rtcp_engine.specs.answers.Refusals.{refusal_after}
 use Rattle.rtcp_guarded.specs.Claimed.{IsHeldBack, followed}
-use Rattle.rtcp_guarded.specs.Guarded.{Course, GuardedAct, GuardedHistory, told, expected, trusted, course_after, course_at, course_unless, course_with, guarded_answer, guarded_unless, names_for, origin_of, passed_at, passed_on, steps_with, verdict_in, with_told}
+use Rattle.rtcp_guarded.specs.Guarded.{Course, GuardedAct, GuardedHistory, told, expected, trusted, course_after, course_at, course_unless, course_with, goodbye_for, guarded_answer, guarded_unless, names_for, origin_of, passed_at, passed_on, steps_with, verdict_in, with_told}
 
 -- ---- Guards that differ only in what they counted
 
@@ -20,11 +20,11 @@ abbrev bare : GuardValue → GuardValue
 bare guard = record guard { held_back = nothing_held_back }
 
 bare_after : (step : GuardStep) (guard : GuardValue) → bare (after step guard) ≡ bare (after step (bare guard))
-bare_after (datagram_came origin moment names) guard = refl
+bare_after (datagram_came origin moment names goodbye) guard = refl
 bare_after (check_made moment silent) guard = refl
 bare_after (source_expected ssrc origin moment) guard = elim (may_have ssrc origin moment guard) as (λ m.
-    bare (if m then record guard { claims = put (claim_by origin moment ssrc) guard.claims } else guard) ≡ bare
-    (if m then record (bare guard) { claims = put (claim_by origin moment ssrc) guard.claims } else bare guard)) [
+    bare (if m then record guard { claims = with_name origin moment ssrc guard.claims } else guard) ≡ bare
+    (if m then record (bare guard) { claims = with_name origin moment ssrc guard.claims } else bare guard)) [
       | true ↦ refl
       | false ↦ refl
     ]
@@ -39,10 +39,11 @@ module _ (settings : Settings) where
       ∙ ap (λ (guard : GuardValue). bare (after step guard)) same
       ∙ sym (bare_after step (guard_after settings other))
 
-  same_verdict : (origin moment : ℕ) (names : List ℕ) (one other : List GuardStep) → Same one other →
-      verdict_on origin moment names (guard_after settings one) ≡ verdict_on origin moment names
+  same_verdict : (origin moment : ℕ) (names : List ℕ) (goodbye : Option ℕ) (one other : List GuardStep) →
+      Same one other →
+      verdict_on origin moment names goodbye (guard_after settings one) ≡ verdict_on origin moment names goodbye
       (guard_after settings other)
-  same_verdict origin moment names one other same = ap (verdict_on origin moment names) same
+  same_verdict origin moment names goodbye one other same = ap (verdict_on origin moment names goodbye) same
 
   -- ---- Courses
 
@@ -56,7 +57,8 @@ module _ (settings : Settings) where
   verdicts : (act : Act) (passed : History) (one other : List GuardStep) → Same one other →
       verdict_in settings (of_steps one passed) act ≡ verdict_in settings (of_steps other passed) act
   verdicts (arrived moment peer word datagram) passed one other same = same_verdict (origin_of peer) moment
-      (names_for passed (arrived moment peer word datagram) datagram) one other same
+      (names_for passed (arrived moment peer word datagram) datagram)
+      (goodbye_for passed (arrived moment peer word datagram) datagram) one other same
   verdicts (rtp_sent moment timestamp octets) passed one other same = refl
   verdicts (ticked moment first second) passed one other same = refl
   verdicts (left moment word) passed one other same = refl
@@ -66,7 +68,8 @@ module _ (settings : Settings) where
   steps_similar : (act : Act) (passed : History) (one other : List GuardStep) → Same one other →
       Same (steps_with (of_steps one passed) act) (steps_with (of_steps other passed) act)
   steps_similar (arrived moment peer word datagram) passed one other same = same_after
-      (datagram_came (origin_of peer) moment (names_for passed (arrived moment peer word datagram) datagram)) one other
+      (datagram_came (origin_of peer) moment (names_for passed (arrived moment peer word datagram) datagram)
+      (goodbye_for passed (arrived moment peer word datagram) datagram)) one other
       same
   steps_similar (ticked moment first second) passed one other same = same_after (check_made moment _) one other same
   steps_similar (rtp_sent moment timestamp octets) passed one other same = same
@@ -109,14 +112,15 @@ module _ (settings : Settings) where
 
   -- ---- What is held back
 
-  stopped : (verdict : Verdict) (origin moment : ℕ) (names : List ℕ) (guard : GuardValue) → (verdict ≡ Pass → ⊥) →
-      verdict_on origin moment names guard ≡ verdict →
-      bare (after (datagram_came origin moment names) guard) ≡ bare guard
-  stopped Pass origin moment names guard stops is = absurd (stops refl)
-  stopped Stranger origin moment names guard stops is =
-      ap (λ (v : Verdict). bare (after_verdict origin moment names v guard)) is
-  stopped Crowd origin moment names guard stops is =
-      ap (λ (v : Verdict). bare (after_verdict origin moment names v guard)) is
+  stopped : (verdict : Verdict) (origin moment : ℕ) (names : List ℕ) (goodbye : Option ℕ) (guard : GuardValue) →
+      (verdict ≡ Pass → ⊥) →
+      verdict_on origin moment names goodbye guard ≡ verdict →
+      bare (after (datagram_came origin moment names goodbye) guard) ≡ bare guard
+  stopped Pass origin moment names goodbye guard stops is = absurd (stops refl)
+  stopped Stranger origin moment names goodbye guard stops is =
+      ap (λ (v : Verdict). bare (after_verdict origin moment names goodbye v guard)) is
+  stopped Crowd origin moment names goodbye guard stops is =
+      ap (λ (v : Verdict). bare (after_verdict origin moment names goodbye v guard)) is
 
   history_stopped : (verdict : Verdict) (history : History) (act : Act) → (verdict ≡ Pass → ⊥) →
       passed_on verdict history act ≡ history
@@ -130,7 +134,8 @@ module _ (settings : Settings) where
     passed = history_stopped (verdict_in settings course (arrived moment peer word datagram)) course.passed
         (arrived moment peer word datagram) stops;
     steps = stopped (verdict_in settings course (arrived moment peer word datagram)) (origin_of peer) moment
-        (names_for course.passed (arrived moment peer word datagram) datagram) (guard_after settings course.steps)
+        (names_for course.passed (arrived moment peer word datagram) datagram)
+        (goodbye_for course.passed (arrived moment peer word datagram) datagram) (guard_after settings course.steps)
         stops refl;
   }
   with_similar (rtp_sent moment timestamp octets) course stops = absurd (stops refl)

@@ -31,7 +31,7 @@ use Rattle.rtcp_engine.specs.answers.Ticks.{checked, has_come, has_passed, horiz
 use Rattle.rtcp_engine.specs.state.Taken.{IsHistory, NamesFew}
 use Rattle.rtcp_engine.proofs.LawLemmas.{new_identifiers_are_free-free}
 use Rattle.rtcp_guarded.specs.Claimed.{AllNameFew, AreInOrder, IsForward, is_present, newest_moment}
-use Rattle.rtcp_guarded.specs.Guarded.{Course, GuardedAct, GuardedHistory, told, expected, trusted, course_at, course_of, course_unless, course_with, names_for, names_in, origin_of, passed_at, passed_on, steps_with, verdict_in}
+use Rattle.rtcp_guarded.specs.Guarded.{Course, GuardedAct, GuardedHistory, told, expected, trusted, course_at, course_of, course_unless, course_with, goodbye_for, goodbye_in, names_for, names_in, origin_of, passed_at, passed_on, steps_with, verdict_in}
 use Rattle.rtcp_guarded.proofs.Naming.{facts_are_named, packet_is_named}
 
 -- ---- Joint steps
@@ -45,28 +45,30 @@ record Joined (settings : Settings) (steps : List GuardStep) (trace : List Trace
   newest : latest joint ≡ newest_moment steps
 
 module _ (settings : Settings) where
-  joined_told : (origin moment : ℕ) (names : List ℕ) (facts : List Fact) {steps : List GuardStep}
+  joined_told : (origin moment : ℕ) (names : List ℕ) (goodbye : Option ℕ) (facts : List Fact) {steps : List GuardStep}
       {trace : List TraceStep} → Joined settings steps trace → newest_moment steps ≤ moment → AreNamed names facts →
-      is_passed settings origin moment names steps ≡ true →
-      Joined settings (datagram_came origin moment names ∷ steps) (with_facts facts moment trace)
-  joined_told origin moment names facts {steps} {trace} j past named passes = record {
-    joint = datagram_arrived origin moment names facts ∷ j.joint;
-    its_steps = ap (λ (s : List GuardStep). datagram_came origin moment names ∷ s) j.its_steps;
-    its_trace = (λ i. if is_passed settings origin moment names (j.its_steps i) then with_facts facts moment
+      is_passed settings origin moment names goodbye steps ≡ true →
+      Joined settings (datagram_came origin moment names goodbye ∷ steps) (with_facts facts moment trace)
+  joined_told origin moment names goodbye facts {steps} {trace} j past named passes = record {
+    joint = datagram_arrived origin moment names goodbye facts ∷ j.joint;
+    its_steps = ap (λ (s : List GuardStep). datagram_came origin moment names goodbye ∷ s) j.its_steps;
+    its_trace = (λ i. if is_passed settings origin moment names goodbye (j.its_steps i) then with_facts facts moment
         (j.its_trace i) else j.its_trace i)
         ∙ ap (λ (p : Bool). if p then with_facts facts moment trace else trace) passes;
     order = (subst (λ (n : ℕ). n ≤ moment) (sym j.newest) past, (named, j.order));
     newest = refl;
   }
 
-  joined_held : (origin moment : ℕ) (names : List ℕ) {steps : List GuardStep} {trace : List TraceStep} →
+  joined_held : (origin moment : ℕ) (names : List ℕ) (goodbye : Option ℕ) {steps : List GuardStep}
+      {trace : List TraceStep} →
       Joined settings steps trace → newest_moment steps ≤ moment →
-      is_passed settings origin moment names steps ≡ false →
-      Joined settings (datagram_came origin moment names ∷ steps) trace
-  joined_held origin moment names {steps} {trace} j past stops = record {
-    joint = datagram_arrived origin moment names [] ∷ j.joint;
-    its_steps = ap (λ (s : List GuardStep). datagram_came origin moment names ∷ s) j.its_steps;
-    its_trace = (λ i. if is_passed settings origin moment names (j.its_steps i) then j.its_trace i else j.its_trace i)
+      is_passed settings origin moment names goodbye steps ≡ false →
+      Joined settings (datagram_came origin moment names goodbye ∷ steps) trace
+  joined_held origin moment names goodbye {steps} {trace} j past stops = record {
+    joint = datagram_arrived origin moment names goodbye [] ∷ j.joint;
+    its_steps = ap (λ (s : List GuardStep). datagram_came origin moment names goodbye ∷ s) j.its_steps;
+    its_trace = (λ i. if is_passed settings origin moment names goodbye (j.its_steps i) then j.its_trace i else
+        j.its_trace i)
         ∙ ap (λ (p : Bool). if p then trace else trace) stops;
     order = (subst (λ (n : ℕ). n ≤ moment) (sym j.newest) past, (tt, j.order));
     newest = refl;
@@ -144,31 +146,35 @@ module _ (settings : Settings) where
   changed_joins None session steps j = j
   changed_joins (Some new) session steps j = new_ssrc_joins session.setup session.life steps j
 
-  held_joins : (origin moment : ℕ) (names : List ℕ) (life : Life) (steps : List GuardStep) → Joins steps life →
-      newest_moment steps ≤ moment → is_passed settings origin moment names steps ≡ false →
-      Joins (datagram_came origin moment names ∷ steps) life
-  held_joins origin moment names (present outcome) steps j past stops = joined_held origin moment names j past stops
-  held_joins origin moment names (backing_off outcome backoff) steps j past stops = tt
-  held_joins origin moment names (finished outcome) steps j past stops = tt
+  held_joins : (origin moment : ℕ) (names : List ℕ) (goodbye : Option ℕ) (life : Life) (steps : List GuardStep) →
+      Joins steps life →
+      newest_moment steps ≤ moment → is_passed settings origin moment names goodbye steps ≡ false →
+      Joins (datagram_came origin moment names goodbye ∷ steps) life
+  held_joins origin moment names goodbye (present outcome) steps j past stops =
+      joined_held origin moment names goodbye j past stops
+  held_joins origin moment names goodbye (backing_off outcome backoff) steps j past stops = tt
+  held_joins origin moment names goodbye (finished outcome) steps j past stops = tt
 
   arrived_joins : (setup : Setup) (origin moment peer word : ℕ) (datagram : Datagram) (life : Life)
       (steps : List GuardStep) → Joins steps life → newest_moment steps ≤ moment →
       is_about setup.ssrc datagram ≡ false →
-      is_passed settings origin moment (names_in setup.ssrc datagram) steps ≡ true →
-      Joins (datagram_came origin moment (names_in setup.ssrc datagram) ∷ steps)
+      is_passed settings origin moment (names_in setup.ssrc datagram) (goodbye_in setup.ssrc datagram) steps ≡ true →
+      Joins (datagram_came origin moment (names_in setup.ssrc datagram) (goodbye_in setup.ssrc datagram) ∷ steps)
       (lived setup (arrived moment peer word datagram) life)
   arrived_joins setup origin moment peer word (rtcp size (Ok packets)) (present outcome) steps j past other passes =
-      joined_told origin moment (names_in setup.ssrc (rtcp size (Ok packets))) (facts_of packets) j past
+      joined_told origin moment (names_in setup.ssrc (rtcp size (Ok packets)))
+      (goodbye_in setup.ssrc (rtcp size (Ok packets))) (facts_of packets) j past
       (facts_are_named setup.ssrc (facts_of packets) other) passes
   arrived_joins setup origin moment peer word (rtcp size (Err fault)) (present outcome) steps j past other passes =
-      joined_told origin moment [] [] j past tt passes
+      joined_told origin moment [] None [] j past tt passes
   arrived_joins setup origin moment peer word (rtp (Ok head)) (present outcome) steps j past other passes =
       let rate = rate_of setup head in
       let is_counted = counted_at setup.capacity outcome.trace (media_fact rate head) in
-      joined_told origin moment (names_in setup.ssrc (rtp (Ok head))) (facts_of_media setup.ssrc rate head is_counted)
+      joined_told origin moment (names_in setup.ssrc (rtp (Ok head))) None
+      (facts_of_media setup.ssrc rate head is_counted)
       j past (packet_is_named setup.ssrc head.ssrc head.csrcs (media_fact rate head) is_counted refl other) passes
   arrived_joins setup origin moment peer word (rtp (Err fault)) (present outcome) steps j past other passes =
-      joined_told origin moment [] [] j past tt passes
+      joined_told origin moment [] None [] j past tt passes
   arrived_joins setup origin moment peer word (rtcp size reading) (backing_off outcome backoff) steps j past other
       passes = tt
   arrived_joins setup origin moment peer word (rtp reading) (backing_off outcome backoff) steps j past other passes = tt
@@ -311,11 +317,15 @@ came settings course moment peer word datagram few so_far Pass passes is order =
     (own_unnamed course.passed moment peer word datagram earlier is.taken.1 few) (ap is_pass passes)
 came settings course moment peer word datagram few so_far Stranger stops is order =
     held_joins settings (origin_of peer) moment
-    (names_for course.passed (arrived moment peer word datagram) datagram) (session_at course.passed).life course.steps
+    (names_for course.passed (arrived moment peer word datagram) datagram)
+    (goodbye_for course.passed (arrived moment peer word datagram) datagram) (session_at course.passed).life
+    course.steps
     (so_far is order.1) order.0 (ap is_pass stops)
 came settings course moment peer word datagram few so_far Crowd stops is order =
     held_joins settings (origin_of peer) moment
-    (names_for course.passed (arrived moment peer word datagram) datagram) (session_at course.passed).life course.steps
+    (names_for course.passed (arrived moment peer word datagram) datagram)
+    (goodbye_for course.passed (arrived moment peer word datagram) datagram) (session_at course.passed).life
+    course.steps
     (so_far is order.1) order.0 (ap is_pass stops)
 
 taken : (settings : Settings) (course : Course) (act : Act) → AllNameFew (told act ∷ []) → SoFar settings course →

@@ -11,7 +11,7 @@ use Rattle.rtcp_engine.specs.answers.Histories.{History}
 use Rattle.rtcp_engine.specs.answers.Refusals.{refusal_after}
 use Rattle.rtcp_engine.specs.state.Taken.{IsHistory}
 use Rattle.rtcp_guarded.specs.Claimed.{AllFrom, AllNameFew, AreInOrder, IsForward, IsNotMoved, IsPresentThroughout, IsTaken, followed, owner_at}
-use Rattle.rtcp_guarded.specs.Guarded.{Course, GuardedAct, GuardedHistory, told, expected, trusted, course_after, course_at, course_unless, course_with, names_for, origin_of, passed_at, passed_on, steps_with, verdict_in}
+use Rattle.rtcp_guarded.specs.Guarded.{Course, GuardedAct, GuardedHistory, told, expected, trusted, course_after, course_at, course_unless, course_with, goodbye_for, names_for, origin_of, passed_at, passed_on, steps_with, verdict_in}
 use Rattle.rtcp_guarded.proofs.Joining.{before, claimed, few_of}
 
 -- ---- Earlier histories
@@ -89,7 +89,8 @@ module _
       Owns settings ssrc owner (steps_with course act)
   with_act_owns settings ssrc owner course (arrived moment peer word datagram) owns is =
       owner_stays settings ssrc owner (datagram_came (origin_of peer) moment
-      (names_for course.passed (arrived moment peer word datagram) datagram) ∷ []) course.steps
+      (names_for course.passed (arrived moment peer word datagram) datagram)
+      (goodbye_for course.passed (arrived moment peer word datagram) datagram) ∷ []) course.steps
       (record { owns = owns; claimed = (is, tt); unmoved = tt })
   with_act_owns settings ssrc owner course (ticked moment first second) owns is =
       owner_stays settings ssrc owner (check_made moment _ ∷ []) course.steps
@@ -150,7 +151,8 @@ module _
       let goes : course_unless (refusal_after course.passed act) before.settings course act
       ≡ course_with before.settings course act =
       ap (λ (r : Option Refusal). course_unless r before.settings course act) taken.unrefused in
-      (all_of_one before.settings ssrc owner (datagram_came (origin_of peer) moment names ∷ []) course.steps (record {
+      (all_of_one before.settings ssrc owner (datagram_came (origin_of peer) moment names
+      (goodbye_for course.passed act datagram) ∷ []) course.steps (record {
         owns = owns;
         claimed = (subst (λ (c : Course). IsClaimed before.settings ssrc c.steps) goes is, tt);
         unmoved = tt;

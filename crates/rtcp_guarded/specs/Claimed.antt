@@ -24,7 +24,7 @@ owner_at ssrc history = owner_of history.settings ssrc (course_at history).steps
 -- the moment of the newest datagram that the guard judged, or of what the host expected since
 abbrev pub newest_moment : List GuardStep → ℕ
 newest_moment [] = 0
-newest_moment (datagram_came origin moment names ∷ earlier) = moment
+newest_moment (datagram_came origin moment names goodbye ∷ earlier) = moment
 newest_moment (check_made moment silent ∷ earlier) = newest_moment earlier
 newest_moment (source_expected ssrc origin moment ∷ earlier) = moment
 newest_moment (origin_trusted origin ∷ earlier) = newest_moment earlier
@@ -33,7 +33,8 @@ newest_moment (origin_trusted origin ∷ earlier) = newest_moment earlier
 -- what the participant takes.)
 abbrev pub AreInOrder : List GuardStep → Type 0
 AreInOrder [] = Unit {0}
-AreInOrder (datagram_came origin moment names ∷ earlier) = (newest_moment earlier ≤ moment) × AreInOrder earlier
+AreInOrder (datagram_came origin moment names goodbye ∷ earlier) =
+    (newest_moment earlier ≤ moment) × AreInOrder earlier
 AreInOrder (check_made moment silent ∷ earlier) = AreInOrder earlier
 AreInOrder (source_expected ssrc origin moment ∷ earlier) = (newest_moment earlier ≤ moment) × AreInOrder earlier
 AreInOrder (origin_trusted origin ∷ earlier) = AreInOrder earlier

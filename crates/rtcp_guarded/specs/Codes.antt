@@ -17,8 +17,9 @@ settings_code =
 
 abbrev pub claim_code : Coded Claim
 claim_code =
-    code_by (ℕ × (ℕ × ℕ)) (coded× coded_ℕ (coded× coded_ℕ coded_ℕ)) (λ c. (c.ssrc, (c.origin, c.last)))
-    (λ p. record { ssrc = p.0; origin = p.1.0; last = p.1.1 }) (λ _. refl)
+    code_by (ℕ × (ℕ × (ℕ × ℕ))) (coded× coded_ℕ (coded× coded_ℕ (coded× coded_ℕ coded_ℕ)))
+    (λ c. (c.ssrc, (c.origin, (c.last, c.goodbyes))))
+    (λ p. record { ssrc = p.0; origin = p.1.0; last = p.1.1.0; goodbyes = p.1.1.1 }) (λ _. refl)
 
 abbrev pub held_back_code : Coded HeldBack
 held_back_code =

@@ -3,7 +3,7 @@
 use Rattle.std.specs.Prelude.{ℕ, ◌/◌, ◌^◌, List, [], ◌∷◌, Option, Some, None, Result, Ok, Err}
 use Rattle.rtcp_guard.specs.Guarding.{GuardStep, datagram_came, check_made, source_expected, origin_trusted, GuardValue, verdict_on}
 use Rattle.rtcp_guard.specs.Histories.{guard_after}
-use Rattle.rtcp_guard.specs.Naming.{names_of_compound, names_of_packet}
+use Rattle.rtcp_guard.specs.Naming.{goodbye_of_compound, names_of_compound, names_of_packet}
 use Rattle.rtcp_guard.specs.declared.settings.Settings.{Settings}
 use Rattle.rtcp_guard.specs.declared.verdict.Verdict.{Verdict}
 use Rattle.rtcp_guard.specs.declared.verdict.Verdict.TheVariants.{Pass, Stranger, Crowd}
@@ -61,9 +61,18 @@ names_in own (rtcp size (Err fault)) = []
 names_in own (rtp (Ok head)) = names_of_packet own head
 names_in own (rtp (Err fault)) = []
 
--- the same under the SSRC under which an act is taken
+-- the source of which a datagram says BYE first, but the participant's own SSRC
+abbrev pub goodbye_in : (own : ℕ) → Datagram → Option ℕ
+goodbye_in own (rtcp size (Ok packets)) = goodbye_of_compound own packets
+goodbye_in own (rtcp size (Err fault)) = None
+goodbye_in own (rtp reading) = None
+
+-- both under the SSRC under which an act is taken
 abbrev pub names_for : History → Act → Datagram → List ℕ
 names_for history act datagram = names_in (session_for (session_at history) act).setup.ssrc datagram
+
+abbrev pub goodbye_for : History → Act → Datagram → Option ℕ
+goodbye_for history act datagram = goodbye_in (session_for (session_at history) act).setup.ssrc datagram
 
 -- ---- What came of a history
 
@@ -77,7 +86,7 @@ pub record Course : Type 0 where
 abbrev pub verdict_in : Settings → Course → Act → Verdict
 verdict_in settings course (arrived moment peer word datagram) =
     verdict_on (origin_of peer) moment (names_for course.passed (arrived moment peer word datagram) datagram)
-    (guard_after settings course.steps)
+    (goodbye_for course.passed (arrived moment peer word datagram) datagram) (guard_after settings course.steps)
 verdict_in settings course act = Pass
 
 -- The guard is told of datagrams, and makes a check with each tick, by the horizon of that: no source is dropped from
@@ -85,6 +94,7 @@ verdict_in settings course act = Pass
 abbrev pub steps_with : Course → Act → List GuardStep
 steps_with course (arrived moment peer word datagram) =
     datagram_came (origin_of peer) moment (names_for course.passed (arrived moment peer word datagram) datagram)
+    (goodbye_for course.passed (arrived moment peer word datagram) datagram)
     ∷ course.steps
 steps_with course (ticked moment first_word second_word) =
     check_made moment (silent_in_life (setup_at course.passed) moment (life_at course.passed)) ∷ course.steps

@@ -43,7 +43,8 @@ abbrev pub HoldsBack : ParticipantValue → (old : GuardValue) → EventValue �
 HoldsBack participant old event untaken new =
     (octets : List ℕ) → Replies (both participant old) event octets octets (Err untaken) (both participant new)
 
--- A guard is told of a datagram before its participant, which is to take it: whatever that replies is the reply of both.
+-- A guard is told of a datagram before its participant, which is to take it: whatever that replies is the reply of
+-- both.
 abbrev pub PassesOn : ParticipantValue → (old : GuardValue) → EventValue → (new : GuardValue) → Type 0
 PassesOn participant old event new =
     (before after : List ℕ) (reply : Result WrittenStep Refusal) (later : ParticipantValue) →

@@ -90,6 +90,11 @@ third_source : guarded_answer (after (told (packet 5 (peer 1 5004) 8) ∷ one_ca
     ≡ Err (HeldBack Crowd)
 third_source = refl
 
+-- and so is a third goodbye, whether the source came back or not
+third_goodbye : guarded_answer (after (told (goodbye 7 (peer 1 5004) 7) ∷ told (packet 6 (peer 1 5004) 7)
+    ∷ told (goodbye 6 (peer 1 5004) 7) ∷ one_came.acts)) (goodbye 8 (peer 1 5004) 7) ≡ Err (HeldBack Crowd)
+third_goodbye = refl
+
 -- what is held back is no call: an earlier moment may follow
 no_call : length (passed_at (after (told (packet 6 (peer 1 5004) 7) ∷ told (goodbye 9 (peer 2 5004) 7)
     ∷ one_came.acts))).acts ≡ 2
