@@ -28,7 +28,7 @@ next_fit : (next : Option ℕ) → IsMomentInRange next → IsFitTo 0 (optional_
 next_fit None small = record { shallow = omega arith; fit = tt }
 next_fit (Some next) small = record { shallow = omega arith; fit = decimal_fit next small }
 
-pub start_fit : (next : Option ℕ) → IsMomentInRange next → IsFitTo 128 (start_json next)
+pub start_fit : (next : Option ℕ) → IsMomentInRange next → IsFitTo 8 (start_json next)
 start_fit next small =
     let inner = next_fit next small in
     let shallow = inner.shallow in
@@ -56,7 +56,7 @@ changed_fit : (changed : Option ℕ) → IsFitTo 0 (optional_json word_json chan
 changed_fit None = record { shallow = omega arith; fit = tt }
 changed_fit (Some ssrc) = record { shallow = omega arith; fit = hex_utf8 _ }
 
-pub step_fit : (step : StepValue) → IsStepInRange step → IsFitTo 128 (step_json step)
+pub step_fit : (step : StepValue) → IsStepInRange step → IsFitTo 8 (step_json step)
 step_fit step small =
     let next = next_fit step.next small.next in
     let out = out_fit step.out in
@@ -85,11 +85,11 @@ step_fit step small =
 
 -- ---- Refusals
 
-rule_fit : (rule : List ℕ) → are_ascii rule ≡ true → IsFitTo 128 (refused_json rule [])
+rule_fit : (rule : List ℕ) → are_ascii rule ≡ true → IsFitTo 8 (refused_json rule [])
 rule_fit rule ascii = record { shallow = omega arith; fit = (refl, IsUtf8-are_ascii rule ascii, tt) }
 
 caused_fit : (rule fault : List ℕ) → are_ascii rule ≡ true → are_ascii fault ≡ true →
-    IsFitTo 128 (caused_json rule fault)
+    IsFitTo 8 (caused_json rule fault)
 caused_fit rule fault ascii ascii_too = record {
   shallow = omega arith;
   fit = (refl, IsUtf8-are_ascii rule ascii, (refl, IsUtf8-are_ascii fault ascii_too, tt));
@@ -110,7 +110,7 @@ config_ascii Bandwidth = refl
 config_ascii Rate = refl
 config_ascii Item = refl
 
-pub refusal_fit : (refusal : Refusal) → IsRefusalInRange refusal → IsFitTo 128 (refusal_json refusal)
+pub refusal_fit : (refusal : Refusal) → IsRefusalInRange refusal → IsFitTo 8 (refusal_json refusal)
 refusal_fit Left small = rule_fit (codes "E1 Left") refl
 refusal_fit Backwards small = rule_fit (codes "E2 Backwards") refl
 refusal_fit TooFar small = rule_fit (codes "E3 TooFar") refl
@@ -139,5 +139,5 @@ guard_ascii : (reason : Reason) → are_ascii (guard_reason_text reason) ≡ tru
 guard_ascii Stranger = refl
 guard_ascii Crowd = refl
 
-pub held_back_fit : (reason : Reason) → IsFitTo 128 (held_back_json reason)
+pub held_back_fit : (reason : Reason) → IsFitTo 8 (held_back_json reason)
 held_back_fit reason = rule_fit (guard_reason_text reason) (guard_ascii reason)

@@ -2,6 +2,7 @@
 use Rattle.std.proofs.Common.{◌≡◌, ℕ, ◌⊎◌, inl, inr, List, Option, Result, Ok, Err, IsErr, refl, sym, ◌∙◌, ap, subst}
 use Rattle.hex.specs.Hex.{decode_of}
 use Rattle.hex.specs.declared.error.FromHexError.{FromHexError}
+use Rattle.json.specs.Json.{Json}
 use Rattle.rtcp_wire.proofs.LawLemmas.{accepted_or_faulty-always_one, accepted_or_faulty-never_both, one_fault, one_reading}
 use Rattle.rtcp_text.specs.declared.fault.LineFault.{LineFault}
 use Rattle.rtcp_text.specs.declared.fault.LineFault.TheVariants.{Hex}
@@ -13,7 +14,7 @@ use Rattle.rtcp_text.proofs.TextLemmas.{IsTotal, IsUnique, text_exists, text_con
 use Rattle.rtcp_text.proofs.ClauseLemmas.{Continues, RunLeaves-weaker, Writes-weaker}
 use Rattle.rtcp_json.specs.CheckJson.{IsJsonAnswer, AnswersHexInJson, IsJsonText}
 use Rattle.rtcp_json.specs.JsonValues.{json_line}
-use Rattle.rtcp_json.specs.PacketValues.{datagram_json, fault_json}
+use Rattle.rtcp_json.specs.PacketValues.{IsShownAs, datagram_json, fault_json}
 
 -- A line is answered by itself.
 abbrev answers_alone : {S : Type 0} → S → List ℕ → List ℕ → S → Type 0
@@ -21,12 +22,15 @@ answers_alone state line text next = AnswersHexInJson line text
 
 -- ---- Each line has an answer or a fault
 
-answer_exists : (octets : List ℕ) → (answer : List ℕ) × IsJsonAnswer octets answer
-answer_exists octets =
+pub shown_exists : (octets : List ℕ) → (value : Json) × IsShownAs octets value
+shown_exists octets =
     elim (accepted_or_faulty-always_one octets) [
-      | inl accepted ↦ (json_line (datagram_json accepted.0), inl (accepted.0, accepted.1, refl))
-      | inr refused ↦ (json_line (fault_json refused.0), inr (refused.0, refused.1, refl))
+      | inl accepted ↦ (datagram_json accepted.0, inl (accepted.0, accepted.1, refl))
+      | inr refused ↦ (fault_json refused.0, inr (refused.0, refused.1, refl))
     ]
+
+answer_exists : (octets : List ℕ) → (answer : List ℕ) × IsJsonAnswer octets answer
+answer_exists octets = let shown = shown_exists octets in (json_line shown.0, (shown.0, shown.1, refl))
 
 line_exists : (line : List ℕ) (r : Result (List ℕ) FromHexError) → decode_of line ≡ r
     → ((fault : LineFault) × IsNotHex line fault) ⊎
@@ -39,13 +43,18 @@ total state line = line_exists line (decode_of line) refl
 
 -- ---- And only one
 
+pub one_shown : (octets : List ℕ) (value value' : Json) → IsShownAs octets value → IsShownAs octets value' →
+    value ≡ value'
+one_shown octets value value' (inl h) (inl k) =
+    h.2 ∙ ap datagram_json (one_reading octets h.0 k.0 h.1 k.1) ∙ sym k.2
+one_shown octets value value' (inl h) (inr k) = absurd (accepted_or_faulty-never_both octets h.0 k.0 h.1 k.1)
+one_shown octets value value' (inr h) (inl k) = absurd (accepted_or_faulty-never_both octets k.0 h.0 k.1 h.1)
+one_shown octets value value' (inr h) (inr k) =
+    h.2 ∙ ap fault_json (one_fault octets h.0 k.0 h.1 k.1) ∙ sym k.2
+
 one_answer : (octets text text' : List ℕ) → IsJsonAnswer octets text → IsJsonAnswer octets text' → text ≡ text'
-one_answer octets text text' (inl h) (inl k) =
-    h.2 ∙ ap (λ packets. json_line (datagram_json packets)) (one_reading octets h.0 k.0 h.1 k.1) ∙ sym k.2
-one_answer octets text text' (inl h) (inr k) = absurd (accepted_or_faulty-never_both octets h.0 k.0 h.1 k.1)
-one_answer octets text text' (inr h) (inl k) = absurd (accepted_or_faulty-never_both octets k.0 h.0 k.1 h.1)
-one_answer octets text text' (inr h) (inr k) =
-    h.2 ∙ ap (λ fault. json_line (fault_json fault)) (one_fault octets h.0 k.0 h.1 k.1) ∙ sym k.2
+one_answer octets text text' (value, shown, is) (value', shown', is') =
+    is ∙ ap json_line (one_shown octets value value' shown shown') ∙ sym is'
 
 one_of_line : (line text text' : List ℕ) → AnswersHexInJson line text → AnswersHexInJson line text' → text ≡ text'
 one_of_line line text text' (octets, is, is_answer) (octets', is', is_answer') =

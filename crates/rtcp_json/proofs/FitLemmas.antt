@@ -146,14 +146,15 @@ pub record IsFitTo (deep : ℕ) (value : Json) : Type 0 where
   pub fit : IsFitJson value
 
 -- Its line is valid.
-pub valid : (value : Json) → IsFitTo 128 value → IsValidLine value
-valid value h =
+pub valid : {deep : ℕ} (value : Json) → deep ≤ 128 → IsFitTo deep value → IsValidLine value
+valid {deep} value few h =
     let ts = fit_tokens value h.fit in
+    let shallow = h.shallow in
     record {
       reads = ap (option_and_then (λ p. if_last p.0 p.1))
           (ap (value_in max_depth) (tokens-print (json_tokens value) (all_printable (json_tokens value) ts)
           ∙ sym (append-nil (json_tokens value)))
-          ∙ value-json_tokens value max_depth [] h.shallow);
+          ∙ value-json_tokens value max_depth [] (omega arith));
       utf8 = print_utf8 false (json_tokens value) ts;
       whole = print_line false (json_tokens value) (all_one_line (json_tokens value) ts);
     }

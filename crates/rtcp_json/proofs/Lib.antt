@@ -6,6 +6,9 @@ mod GuardedJsonLemmas
 mod LineLemmas
 mod ReplayJsonLemmas
 mod SmallLemmas
+mod TellingLemmas
 mod TextLemmas
+mod ToldLemmas
 mod ValueLemmas
+mod WatchLemmas
 mod examples

@@ -231,7 +231,7 @@ packet_fit (other kind count body) fine =
       );
     }
 
-pub datagram_fit : (packets : List RtcpPacket) → All IsFine packets → IsFitTo 128 (datagram_json packets)
+pub datagram_fit : (packets : List RtcpPacket) → All IsFine packets → IsFitTo 8 (datagram_json packets)
 datagram_fit packets fine =
     let inner = arrays packet_json 6 IsFine packet_fit packets fine in
     let shallow = inner.shallow in
@@ -249,7 +249,7 @@ reason_ascii Item = refl
 reason_ascii Reason = refl
 reason_ascii TooLong = refl
 
-pub fault_fit : (fault : WireFault) → fault.place < 2 ^ 64 → IsFitTo 128 (fault_json fault)
+pub fault_fit : (fault : WireFault) → fault.place < 2 ^ 64 → IsFitTo 8 (fault_json fault)
 fault_fit fault small = record {
   shallow = omega arith;
   fit = (

@@ -1,2 +1,3 @@
 mod AnswerRows
 mod PacketRows
+mod ToldRows

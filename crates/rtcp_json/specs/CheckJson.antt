@@ -1,25 +1,20 @@
 -- The text that a check of an input is in JSON: a line of answer for each line of hex, as far as the input is good.
-use Rattle.std.specs.Prelude.{◌≡◌, ℕ, ◌⊎◌, List, Option, Some, None, Result, Ok, Err, OnOk}
+use Rattle.std.specs.Prelude.{◌≡◌, ℕ, List, Option, Some, None, Result, Ok, Err, OnOk}
 use Rattle.hex.specs.Hex.{decode_of}
-use Rattle.rtcp_wire.specs.Values.{RtcpPacket}
-use Rattle.rtcp_wire.specs.Grammar.{IsAccepted}
-use Rattle.rtcp_wire.specs.Faults.{IsFirstFault}
-use Rattle.rtcp_wire.specs.declared.fault.WireFault.{WireFault}
+use Rattle.json.specs.Json.{Json}
 use Rattle.rtcp_text.specs.declared.fault.LineFault.{LineFault}
 use Rattle.rtcp_text.specs.declared.fault.TextFault.{TextFault}
 use Rattle.rtcp_text.specs.declared.fault.TextFault.TheVariants.{Text, Read, Memory}
 use Rattle.rtcp_text.specs.Check.{IsNotHex}
 use Rattle.rtcp_text.specs.Lines.{lines_of, IsTextBy, IsPrefixBy, TextOfLines, AnswersWhatCameBy, AnswersUpToBlockBy, AnswersLinesBeforeBy}
 use Rattle.rtcp_json.specs.JsonValues.{json_line}
-use Rattle.rtcp_json.specs.PacketValues.{datagram_json, fault_json}
+use Rattle.rtcp_json.specs.PacketValues.{IsShownAs}
 
 -- ---- Answers
 
 -- the line for a datagram: its packets, or its first fault
 abbrev pub IsJsonAnswer : List ℕ → List ℕ → Type 0
-IsJsonAnswer octets text =
-    ((packets : List RtcpPacket) × IsAccepted octets packets × (text ≡ json_line (datagram_json packets)))
-    ⊎ ((fault : WireFault) × IsFirstFault octets fault × (text ≡ json_line (fault_json fault)))
+IsJsonAnswer octets text = (value : Json) × IsShownAs octets value × (text ≡ json_line value)
 
 -- The line spells octets in hex, of either case, and the text is the answer to that datagram.
 abbrev pub AnswersHexInJson : (line text : List ℕ) → Type 0

@@ -5,4 +5,6 @@ pub mod GuardedReplayJson
 pub mod JsonValues
 pub mod PacketValues
 pub mod ReplayJson
+pub mod ToldValues
 pub mod Validity
+pub mod Watchers

@@ -2,8 +2,10 @@
 --
 --   {"packets":[{"type":"RR","ssrc":"00000007","blocks":[],"extension":""}]}
 --   {"refused":"F1 Short","at":0}
-use Rattle.std.specs.Prelude.{ℕ, ◌==◌, if◌then◌else◌, List, [], ◌∷◌, Option, map, codes}
+use Rattle.std.specs.Prelude.{◌≡◌, ℕ, ◌==◌, ◌⊎◌, if◌then◌else◌, List, [], ◌∷◌, Option, map, codes}
 use Rattle.json.specs.Json.{Json, string}
+use Rattle.rtcp_wire.specs.Faults.{IsFirstFault}
+use Rattle.rtcp_wire.specs.Grammar.{IsAccepted}
 use Rattle.rtcp_wire.specs.Values.{SenderValue, ReportBlock, ItemValue, ChunkValue, RtcpPacket, sr, rr, sdes, bye, app, other}
 use Rattle.rtcp_wire.specs.declared.fault.WireFault.{WireFault}
 use Rattle.rtcp_text.specs.Text.{reason_text}
@@ -120,3 +122,9 @@ datagram_json packets = object_of ((codes "packets", array_of (map packet_json p
 abbrev pub fault_json : WireFault → Json
 fault_json fault =
     object_of ((codes "refused", string (reason_text fault.reason)) ∷ (codes "at", number_json fault.place) ∷ [])
+
+-- what the octets of a datagram are shown as: its packets, or its first fault
+abbrev pub IsShownAs : (octets : List ℕ) → Json → Type 0
+IsShownAs octets value =
+    ((packets : List RtcpPacket) × IsAccepted octets packets × (value ≡ datagram_json packets))
+    ⊎ ((fault : WireFault) × IsFirstFault octets fault × (value ≡ fault_json fault))

@@ -1,12 +1,18 @@
 -- What a line of JSON promises to whoever reads it, whatever a peer sent.
-use Rattle.std.specs.Prelude.{◌≡◌, ℕ, ◌^◌, ◌<◌, Option, Some, None}
+use Rattle.std.specs.Prelude.{◌≡◌, ℕ, ◌^◌, ◌<◌, Option, Some, None, Ok, Err, IfSome}
 use Rattle.std.specs.Str.{IsUtf8}
 use Rattle.json.specs.Json.{Json, document}
+use Rattle.rtcp_wire.specs.Grammar.{AreOctets}
+use Rattle.rtcp_engine.specs.answers.Acts.{EventValue}
 use Rattle.rtcp_engine.specs.answers.Steps.{StepValue}
 use Rattle.rtcp_engine.specs.declared.refusal.Refusal.{Refusal}
 use Rattle.rtcp_engine.specs.declared.refusal.Refusal.TheVariants.{Left, Backwards, TooFar, TooMany, Wire, Rtp, OwnSsrc, Settings}
+use Rattle.rtcp_guarded.specs.Guarded.{GuardedAnswer}
+use Rattle.rtcp_guarded.specs.declared.untaken.Untaken.TheVariants.{Refused, HeldBack}
+use Rattle.rtcp_serve.specs.declared.serving.End.{End}
 use Rattle.rtcp_text.specs.Lines.{HasNoLineFeed}
 use Rattle.rtcp_json.specs.JsonValues.{json_text}
+use Rattle.rtcp_json.specs.ToldValues.{datagram_of_event, moment_of_event}
 
 -- The text is one document of JSON (RFC 8259), which is read as this value. It is UTF-8 and has no line feed, so the
 -- only one in the line is its last octet.
@@ -35,3 +41,22 @@ IsRefusalInRange (Wire fault) = fault.place < 2 ^ 64
 IsRefusalInRange (Rtp fault) = Unit {0}
 IsRefusalInRange OwnSsrc = Unit {0}
 IsRefusalInRange (Settings error) = Unit {0}
+
+abbrev pub IsAnswerInRange : GuardedAnswer → Type 0
+IsAnswerInRange (Ok step) = IsStepInRange step
+IsAnswerInRange (Err (Refused refusal)) = IsRefusalInRange refusal
+IsAnswerInRange (Err (HeldBack reason)) = Unit {0}
+
+-- ---- Those of events and of the end of a session
+
+-- Where a datagram came from may be any number.
+pub record IsEventInRange (event : EventValue) : Type 0 where
+  pub moment : moment_of_event event < 2 ^ 64
+  pub octets : IfSome (datagram_of_event event) AreOctets
+
+pub record IsEndInRange (ended : End) : Type 0 where
+  pub received : ended.received < 2 ^ 64
+  pub refused : ended.refused < 2 ^ 64
+  pub sent : ended.sent < 2 ^ 64
+  pub send_failures : ended.send_failures < 2 ^ 64
+  pub recv_failures : ended.recv_failures < 2 ^ 64

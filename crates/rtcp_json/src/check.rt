@@ -5,17 +5,18 @@ ghost use Rattle.rtcp_text.specs.Counted.{AreUnfailed, FailsOnce, inner_of};
 ghost use Rattle.rtcp_text.specs.Lines.{Wrote};
 ghost use Rattle.rtcp_json.specs.CheckJson.{ChecksInJson, IsJsonAnswer};
 
-use crate::packets::{push_fault_json, push_json};
+use crate::lines::{begin_line, end_line};
+use crate::packets::write_reading;
 use hex::FromHexError;
 use rtcp_text::answerer::Answerer;
 use rtcp_text::blocks::answer_blocks;
 use rtcp_text::{Counted, LineFault, TextFault};
-use rtcp_wire::Compound;
 use std::alloc::{AllocError, Global};
 use std::io::{Read, Write};
 
 /// [`check_up_to`](rtcp_text::check::check_up_to), where each line that is written holds an object of JSON: that of
-/// [`push_json`] for an accepted datagram, and that of [`push_fault_json`] for a refused one. All else is the same.
+/// [`push_json`](crate::push_json) for an accepted datagram, and that of [`push_fault_json`](crate::push_fault_json)
+/// for a refused one. All else is the same.
 ///
 /// # Errors
 ///
@@ -71,8 +72,8 @@ impl Answerer for JsonChecker {
 fn push_answer(out: &mut Vec<u8>, datagram: &[u8]) -> Result<(), AllocError>
     ensures { OnOk result ((text : List ℕ) × IsJsonAnswer datagram.now text × (out.new.items ≡ out.old.items ++ text)) }
 {
-    match Compound::read(datagram) {
-        Ok(compound) => push_json(out, &compound),
-        Err(fault) => push_fault_json(out, &fault),
-    }
+    let alloc = *out.allocator();
+    let mut writer = begin_line(alloc, out);
+    let written = write_reading(&mut writer, alloc, datagram);
+    end_line(out, writer, written)
 }

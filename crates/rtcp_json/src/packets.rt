@@ -1,11 +1,12 @@
 //! The packets of a datagram, and why one is refused.
 
 ghost use Rattle.std.specs.Prelude.{◌≡◌, ◌++◌, OnOk, map};
+ghost use Rattle.json.specs.Json.{Json};
 ghost use Rattle.rtcp_wire.specs.Views.{packet_value};
 ghost use Rattle.rtcp_wire.specs.declared.packet.PacketView.TheVariants.{App, Other};
 ghost use Rattle.rtcp_json.specs.Adding.{Adds, AddsJson};
 ghost use Rattle.rtcp_json.specs.JsonValues.{array_of, json_line};
-ghost use Rattle.rtcp_json.specs.PacketValues.{datagram_json, fault_json, packet_json};
+ghost use Rattle.rtcp_json.specs.PacketValues.{IsShownAs, datagram_json, fault_json, packet_json};
 ghost use Rattle.rtcp_text.specs.Text.{reason_text};
 
 use crate::descriptions::{write_bye, write_description};
@@ -44,6 +45,20 @@ pub fn push_fault_json(out: &mut Vec<u8>, fault: &WireFault) -> Result<(), Alloc
     let mut writer = begin_line(alloc, out);
     let written = write_fault(&mut writer, fault);
     end_line(out, writer, written)
+}
+
+/// Writes what the octets of a datagram say: its packets, or its first fault.
+pub(crate) fn write_reading(
+    writer: &mut Writer,
+    alloc: Global,
+    octets: &[u8],
+) -> Result<(), AllocError>
+    ensures { OnOk result ((value : Json) × IsShownAs octets.now value × AddsJson writer.old writer.new value) }
+{
+    match Compound::read(octets) {
+        Ok(compound) => write_datagram(writer, alloc, &compound),
+        Err(fault) => write_fault(writer, &fault),
+    }
 }
 
 /// Writes an accepted datagram.

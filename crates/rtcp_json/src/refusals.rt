@@ -1,20 +1,30 @@
 //! Why a call was not taken.
 
-ghost use Rattle.std.specs.Prelude.{◌≡◌, ◌∷◌, [], OnOk, codes};
+ghost use Rattle.std.specs.Prelude.{◌≡◌, ◌∷◌, [], Err, OnOk, codes};
 ghost use Rattle.rtcp_engine.specs.declared.refusal.Refusal.TheVariants.{Wire};
 ghost use Rattle.rtcp_text.specs.AnswerText.{rtp_fault_text};
 ghost use Rattle.rtcp_json.specs.Adding.{AddsJson};
-ghost use Rattle.rtcp_json.specs.AnswerValues.{caused_json, held_back_json, refusal_json, refused_json};
+ghost use Rattle.rtcp_json.specs.AnswerValues.{caused_json, guarded_answer_json, held_back_json, refusal_json, refused_json};
 
 use crate::fields::{write_long_number, write_name};
 use crate::packets::reason_name;
 use json::Writer;
 use rtcp_engine::Refusal;
-use rtcp_guarded::Reason;
+use rtcp_guarded::{Reason, Untaken};
 use rtcp_guarded_text::text;
 use rtcp_text::config_name;
 use rtcp_wire::{RtpFault, WireFault};
 use std::alloc::AllocError;
+
+/// Writes why a guarded participant did not take a call.
+pub(crate) fn write_untaken(writer: &mut Writer, untaken: &Untaken) -> Result<(), AllocError>
+    ensures { OnOk result (AddsJson writer.old writer.new (guarded_answer_json (Err untaken.now))) }
+{
+    match untaken {
+        Untaken::Refused(refusal) => write_refusal(writer, refusal),
+        Untaken::HeldBack(reason) => write_held_back(writer, *reason),
+    }
+}
 
 /// Writes why a participant refused a call.
 pub(crate) fn write_refusal(writer: &mut Writer, refusal: &Refusal) -> Result<(), AllocError>
@@ -33,7 +43,7 @@ pub(crate) fn write_refusal(writer: &mut Writer, refusal: &Refusal) -> Result<()
 }
 
 /// Writes why a guard held a datagram back.
-pub(crate) fn write_held_back(writer: &mut Writer, reason: Reason) -> Result<(), AllocError>
+fn write_held_back(writer: &mut Writer, reason: Reason) -> Result<(), AllocError>
     ensures { OnOk result (AddsJson writer.old writer.new (held_back_json reason)) }
 {
     write_rule(writer, text::reason_name(reason))

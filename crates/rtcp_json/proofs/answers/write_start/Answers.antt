@@ -1,3 +1,4 @@
+use Rattle.std.proofs.Common.{append-nil}
 use Rattle.rtcp_json.proofs.AddingLemmas.{one, then}
 use Rattle.rtcp_json.proofs.answers.write_start.Goals as goal
 
@@ -7,8 +8,6 @@ returns c =
     (then (one c.in_ok-key.ensures)
     (then
     (then (one c.in_ok-begin_object-2.ensures)
-    (then c.in_ok-write_number.ensures
-    (then c.in_ok-write_number-2.ensures
-    (then c.in_ok-write_next.ensures
-    (one c.in_ok-end_object.ensures)))))
+    (then (simp append-nil at c.in_ok-write_counts.ensures)
+    (one c.in_ok-end_object.ensures)))
     (one c.in_ok-end_object-2.ensures)))
