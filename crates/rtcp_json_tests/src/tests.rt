@@ -1,5 +1,7 @@
 //! Lines of JSON.
 
+use arrayvec::ArrayVec;
+use rtcp_engine::Config;
 use rtcp_json::push_json;
 use rtcp_wire::Compound;
 use std::process::Abort;
@@ -8,12 +10,35 @@ use std::test::Fail;
 mod checks;
 mod packets;
 mod replays;
+mod told;
+mod watching;
 
 /// Asserts that octets are as they should be. A function that compares slices more than once takes several times
 /// as long to prove as one that calls this.
 pub(crate) fn same(rt: &impl Abort, found: &[u8], want: &[u8], case: &str) {
     assert_eq!(rt; found, want, "{case}");
 }
+
+/// A participant with the least options: `--ssrc 000000aa --cname a`.
+pub(crate) fn plain() -> Config {
+    let mut cname = ArrayVec::new();
+    cname.push(b'a');
+    Config {
+        ssrc: 0xaa,
+        cname,
+        extras: ArrayVec::new(),
+        capacity: 1024,
+        limit: 1472,
+        sender_bw: 100,
+        receiver_bw: 300,
+        rate: 8000,
+        clocks: ArrayVec::new(),
+        ntp_base: 0,
+    }
+}
+
+/// The number of the peer 127.0.0.1:5007.
+pub(crate) const PEER: u64 = 0x7f00_0001 * 65_536 + 5_007;
 
 /// The example that rtcp_json opens with.
 #[test]

@@ -1,29 +1,9 @@
 //! Replays in JSON, over memory: the sessions of docs/FORMATS.md.
 
-use super::same;
-use arrayvec::ArrayVec;
-use rtcp_engine::Config;
+use super::{plain, same};
 use rtcp_guarded_text::GuardLimits;
 use rtcp_json::{replay_guarded_json, replay_json};
 use rtcp_text::Counted;
-
-/// A participant with the least options: `--ssrc 000000aa --cname a`.
-fn plain() -> Config {
-    let mut cname = ArrayVec::new();
-    cname.push(b'a');
-    Config {
-        ssrc: 0xaa,
-        cname,
-        extras: ArrayVec::new(),
-        capacity: 1024,
-        limit: 1472,
-        sender_bw: 100,
-        receiver_bw: 300,
-        rate: 8000,
-        clocks: ArrayVec::new(),
-        ntp_base: 0,
-    }
-}
 
 /// A member comes, a report is sent, a datagram is refused, and the participant leaves.
 #[test]
