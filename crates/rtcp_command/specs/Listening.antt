@@ -26,6 +26,14 @@ is_random text = bytes_eq text (codes "random")
 abbrev pub settled : List ℕ → List ℕ
 settled ssrc = if is_random ssrc then codes "00000000" else ssrc
 
+-- what stands for the time of the system's clock
+abbrev pub is_now : List ℕ → Bool
+is_now text = bytes_eq text (codes "now")
+
+-- an NTP timestamp, or 0 in place of one that is to be read
+abbrev pub settled_ntp : List ℕ → List ℕ
+settled_ntp ntp = if is_now ntp then codes "0000000000000000" else ntp
+
 -- the seed, and whether one is to be drawn in place of it
 abbrev pub seed_in : List ℕ → Option (ℕ × Bool)
 seed_in text =
@@ -66,6 +74,8 @@ pub record Listening : Type 0 where
   pub setup : Setup
   -- whether its SSRC is to be drawn
   pub draws_ssrc : Bool
+  -- whether its NTP timestamp of moment 0 is to be read
+  pub reads_ntp : Bool
   pub rtp : Endpoint
   pub rtcp : Endpoint
   pub peer : Endpoint
@@ -93,7 +103,7 @@ pub record Listening : Type 0 where
 -- The session, or the name of the first option that is refused.
 abbrev pub listen_in : Found → Result Listening (List ℕ)
 listen_in found = do
-  setup ← setup_in found (settled (text_found found (codes "ssrc")))
+  setup ← setup_in found (settled (text_found found (codes "ssrc"))) (settled_ntp (text_found found (codes "ntp")))
   rtp ← ok_or (endpoint_in (text_found found (codes "rtp"))) (codes "rtp")
   rtcp ← ok_or (endpoint_in (text_found found (codes "rtcp"))) (codes "rtcp")
   peer ← ok_or (endpoint_in (text_found found (codes "peer"))) (codes "peer")
@@ -106,6 +116,7 @@ listen_in found = do
     draws_ssrc = is_random (text_found found (codes "ssrc"));
     rtp = rtp;
     rtcp = rtcp;
+    reads_ntp = is_now (text_found found (codes "ntp"));
     peer = peer;
     seed = seed.0;
     draws_seed = seed.1;
@@ -132,6 +143,7 @@ listening_of order recording stop = record {
   rtp = endpoint_of order.rtp;
   rtcp = endpoint_of order.rtcp;
   peer = endpoint_of order.peer;
+  reads_ntp = order.reads_ntp;
   seed = order.seed;
   draws_seed = order.draws_seed;
   turns = order.turns;

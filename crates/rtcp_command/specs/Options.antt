@@ -99,10 +99,10 @@ with_extras setup items = record setup { extras = setup.extras ++ items }
 
 -- ---- The setup
 
--- How the participant is set up, by the options of a command line and the text of its SSRC, or the name of the first
--- option that is refused.
-abbrev pub setup_in : Found → (ssrc : List ℕ) → Result Setup (List ℕ)
-setup_in found ssrc = do
+-- How the participant is set up, by the options of a command line and the texts of its SSRC and its NTP timestamp, or
+-- the name of the first option that is refused.
+abbrev pub setup_in : Found → (ssrc ntp : List ℕ) → Result Setup (List ℕ)
+setup_in found ssrc ntp = do
   ssrc ← ok_or (hex_in w32 ssrc) (codes "ssrc")
   cname ← ok_or (text_in (text_found found (codes "cname"))) (codes "cname")
   capacity ← ok_or (decimal_in 32 (text_found found (codes "capacity"))) (codes "capacity")
@@ -113,7 +113,7 @@ setup_in found ssrc = do
       bandwidth_in (codes "receiver-bw") (share_of_others session_bps) (first_value found (codes "receiver-bw"))
   rate ← ok_or (decimal_in 32 (text_found found (codes "rate"))) (codes "rate")
   clocks ← ok_or (clocks_given (values_found found (codes "clock"))) (codes "clock")
-  ntp ← ok_or (hex_in w64 (text_found found (codes "ntp"))) (codes "ntp")
+  ntp ← ok_or (hex_in w64 ntp) (codes "ntp")
   extras ← extras_in found
   Ok (record {
     ssrc = ssrc;
@@ -135,7 +135,7 @@ lines_in text = option_and_then (λ lines. if nat_le 1 lines then Some lines els
 -- The word of the start, the number of lines and the guard are looked at last.
 abbrev pub replay_in : Found → Result (Setup × ℕ × ℕ × Option GuardLimits) (List ℕ)
 replay_in found = do
-  setup ← setup_in found (text_found found (codes "ssrc"))
+  setup ← setup_in found (text_found found (codes "ssrc")) (text_found found (codes "ntp"))
   word ← ok_or (hex_in w32 (text_found found (codes "word"))) (codes "word")
   lines ← ok_or (lines_in (text_found found (codes "lines"))) (codes "lines")
   guard ← ok_or (guard_given (first_value found (codes "guard"))) (codes "guard")

@@ -4,7 +4,7 @@ ghost use Rattle.std.specs.Prelude.{◌≡◌, ◌≤◌, ◌<◌, ◌+◌, ◌+
 ghost use Rattle.clap.specs.Matches.{found_of, first_value};
 ghost use Rattle.rtcp_wire.specs.Values.{ItemValue};
 ghost use Rattle.rtcp_engine.specs.state.Views.{clock_value, setup_of};
-ghost use Rattle.rtcp_command.specs.Listening.{HasTurns, IsListenOrder, is_set as is_set_in, listen_in, listening_of, seconds_given, seconds_in, seed_in, settled as settled_text, turns_given, turns_in};
+ghost use Rattle.rtcp_command.specs.Listening.{HasTurns, IsListenOrder, is_set as is_set_in, listen_in, listening_of, seconds_given, seconds_in, seed_in, settled as settled_text, settled_ntp as settled_time, turns_given, turns_in};
 ghost use Rattle.rtcp_command.specs.Options.{bandwidth_in, clock_given, clocks_given, extras_in, item_in, lines_in, replay_in, setup_in, text_found, text_given, text_in, texts_given, texts_in, with_extras};
 ghost use Rattle.rtcp_text.specs.Numerals.{hex_text_in};
 
@@ -22,6 +22,9 @@ use std::net::SocketAddrV4;
 
 /// The text that stands for what the system draws.
 const RANDOM: &str = "random";
+
+/// The text that stands for the time of the system's clock.
+const NOW: &str = "now";
 
 /// The most turns of a session.
 const MAX_TURNS: u32 = 1_000_000;
@@ -59,7 +62,7 @@ pub(crate) fn read_replay(
         replay_in (found_of matches.now) ≡ Ok (setup_of read.0, read.1, read.2, read.3)) }
     ensures refused { IfErr result (λ name. replay_in (found_of matches.now) ≡ Err name.now) }
 {
-    let config = read_config(matches, given(matches, "ssrc"))?;
+    let config = read_config(matches, given(matches, "ssrc"), given(matches, "ntp"))?;
     let word = read_word(given(matches, "word").as_bytes()).ok_or("word")?;
     let lines = read_lines(given(matches, "lines")).ok_or("lines")?;
     let guard = read_given_guard(matches.get_str("guard")).map_err(|()| "guard")?;
@@ -110,8 +113,8 @@ fn read_session(matches: &ArgMatches<'_>) -> Result<ListenOrder, &'static str>
     ensures turns { IfOk result (λ order. (1 ≤ order.turns) × (order.turns ≤ 1000000)) }
     ensures refused { IfErr result (λ name. listen_in (found_of matches.now) ≡ Err name.now) }
 {
-    let ssrc = given(matches, "ssrc");
-    let config = read_config(matches, settled(ssrc))?;
+    let (ssrc, ntp) = (given(matches, "ssrc"), given(matches, "ntp"));
+    let config = read_config(matches, settled(ssrc), settled_ntp(ntp))?;
     let rtp = read_endpoint(given(matches, "rtp")).ok_or("rtp")?;
     let rtcp = read_endpoint(given(matches, "rtcp")).ok_or("rtcp")?;
     let peer = read_endpoint(given(matches, "peer")).ok_or("peer")?;
@@ -124,6 +127,7 @@ fn read_session(matches: &ArgMatches<'_>) -> Result<ListenOrder, &'static str>
     Ok(ListenOrder {
         config,
         draws_ssrc: ssrc == RANDOM,
+        reads_ntp: ntp == NOW,
         rtp,
         rtcp,
         peer,
@@ -183,6 +187,13 @@ fn settled(ssrc: &str) -> &str
 }
 
 /// The seed of the random words, and whether one is to be drawn in place of it.
+/// The text of an NTP timestamp, or that of 0 in place of one that is to be read.
+fn settled_ntp(ntp: &str) -> &str
+    ensures { result.now ≡ settled_time ntp.now }
+{
+    if ntp == NOW { "0000000000000000" } else { ntp }
+}
+
 fn read_seed(text: &str) -> Option<(u64, bool)>
     ensures { result ≡ seed_in text.now }
 {
@@ -247,10 +258,10 @@ fn read_seconds(text: &str) -> Option<u32>
     }
 }
 
-/// The configuration that options say, with the text of its SSRC.
-fn read_config(matches: &ArgMatches<'_>, ssrc: &str) -> Result<Config, &'static str>
-    ensures read { IfOk result (λ config. setup_in (found_of matches.now) ssrc.now ≡ Ok (setup_of config)) }
-    ensures refused { IfErr result (λ name. setup_in (found_of matches.now) ssrc.now ≡ Err name.now) }
+/// The configuration that options say, with the texts of its SSRC and of its NTP timestamp.
+fn read_config(matches: &ArgMatches<'_>, ssrc: &str, ntp: &str) -> Result<Config, &'static str>
+    ensures read { IfOk result (λ config. setup_in (found_of matches.now) ssrc.now ntp.now ≡ Ok (setup_of config)) }
+    ensures refused { IfErr result (λ name. setup_in (found_of matches.now) ssrc.now ntp.now ≡ Err name.now) }
 {
     let ssrc = read_word(ssrc.as_bytes()).ok_or("ssrc")?;
     let cname = read_text(given(matches, "cname")).ok_or("cname")?;
@@ -262,7 +273,7 @@ fn read_config(matches: &ArgMatches<'_>, ssrc: &str) -> Result<Config, &'static 
     let receiver_bw = read_bandwidth(matches.get_str("receiver-bw"), "receiver-bw", others)?;
     let rate = read_short_decimal(given(matches, "rate").as_bytes()).ok_or("rate")?;
     let clocks = read_given_clocks(matches.get_strs("clock")).ok_or("clock")?;
-    let ntp_base = read_long(given(matches, "ntp").as_bytes()).ok_or("ntp")?;
+    let ntp_base = read_long(ntp.as_bytes()).ok_or("ntp")?;
     let mut config = Config {
         ssrc,
         cname,

@@ -82,6 +82,8 @@ pub struct ListenOrder {
     /// Whether the session is shown while it runs.
     pub show: bool,
     /// Whether datagrams are shown in plain words.
+    /// Whether its NTP timestamp of moment 0 is to be read from the system's clock.
+    pub reads_ntp: bool,
     pub plain: bool,
     /// What an origin may do before it is held back, if a guard stands before the participant.
     pub guard: Option<GuardLimits>,

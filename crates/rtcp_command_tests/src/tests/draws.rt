@@ -75,6 +75,7 @@ static REFUSED: [(&[&str], &str); 6] = [
     (&["--ssrc", "random", "--seed", "RANDOM"], "option seed\n"),
     (&["--ssrc", "random", "--seed", "random1"], "option seed\n"),
     (&["--ssrc", "random", "--seed", ""], "option seed\n"),
+    (&["--ssrc", "random", "--ntp", "Now"], "option ntp\n"),
 ];
 
 /// Nothing near it does.
@@ -89,13 +90,51 @@ fn refusals(rt: HostRuntime) -> Result<(), Fail> {
     Ok(())
 }
 
-/// The words of `replay`, which draws nothing.
-const REPLAYED: &[&str] = &["rtcp", "replay", "--cname", "a", "--ssrc", "random"];
+/// Options after an SSRC, the NTP timestamp that they ask for, and whether it is read in place of that.
+static TIMED: [(&[&str], u64, bool); 3] = [
+    (&["--ssrc=0000000a"], 0, false),
+    (
+        &["--ssrc=0000000a", "--ntp", "0123456789abcdef"],
+        0x0123_4567_89ab_cdef,
+        false,
+    ),
+    (&["--ssrc=0000000a", "--ntp", "now"], 0, true),
+];
+
+/// `now` stands for the time of the system's clock, and for no number.
+#[test]
+fn timed(rt: HostRuntime) -> Result<(), Fail> {
+    for (row, (options, ntp_base, reads_ntp)) in TIMED.iter().enumerate() {
+        let words = with(rt.alloc(), REQUIRED, options)?;
+        let Ok(Order::Listen(order)) = order(rt.alloc(), &words) else {
+            return Err("it was refused")?;
+        };
+        let found = (order.config.ntp_base, order.reads_ntp);
+        assert_eq!(rt; found, (*ntp_base, *reads_ntp), "row {row}");
+    }
+    Ok(())
+}
+
+/// The words of `replay`, which draws and reads nothing, and the option that is refused.
+static REPLAYED: [(&[&str], &str); 2] = [
+    (
+        &["rtcp", "replay", "--cname", "a", "--ssrc", "random"],
+        "option ssrc\n",
+    ),
+    (
+        &[
+            "rtcp", "replay", "--cname", "a", "--ssrc", "0000000a", "--ntp", "now",
+        ],
+        "option ntp\n",
+    ),
+];
 
 #[test]
 fn replayed(rt: HostRuntime) -> Result<(), Fail> {
-    let (status, line) = refused(rt.alloc(), REPLAYED)?;
-    assert_eq!(rt; status, 2);
-    same(&rt, &line, b"option ssrc\n", "replay");
+    for (words, wanted) in &REPLAYED {
+        let (status, line) = refused(rt.alloc(), words)?;
+        assert_eq!(rt; status, 2);
+        same(&rt, &line, wanted.as_bytes(), "replay");
+    }
     Ok(())
 }
