@@ -1,5 +1,5 @@
 -- What a status says of the outcome.
-use Rattle.std.proofs.Common.{◌≡◌, ◌≢◌, ℕ, ◌⊎◌, ◌↔◌, inl, inr, List, Option, Some, None, Result, Ok, Err, IsErrAnd, refl, sym, subst, ap, ◌∙◌}
+use Rattle.std.proofs.Common.{◌≡◌, ◌≢◌, ℕ, ◌⊎◌, ◌↔◌, inl, inr, List, Option, Some, None, Result, Ok, Err, IsErrAnd, OnOk, refl, sym, subst, ap, ◌∙◌}
 use Rattle.std.specs.Io.KnownBytes.{Keeps}
 use Rattle.std.proofs.lemmas.Result.{err_from_is_err_and}
 use Rattle.rtcp_wire.specs.Values.{RtcpPacket}
@@ -9,12 +9,15 @@ use Rattle.rtcp_engine.specs.state.Taken.{begun}
 use Rattle.rtcp_engine.specs.state.Views.{setup_of}
 use Rattle.rtcp_engine.specs.declared.config.Config.{Config as ConfigOfCall}
 use Rattle.rtcp_engine.specs.declared.config.ConfigError.{ConfigError}
-use Rattle.rtcp_text.specs.Check.{Checks, IsTextOfBy}
+use Rattle.rtcp_text.specs.Check.{Checks}
 use Rattle.rtcp_text.specs.Opened.{IsOpenedText, ReplaysWith}
 use Rattle.rtcp_text.specs.Replay.{IsSessionText, Replays, opening}
 use Rattle.rtcp_guarded_text.specs.GuardedReplay.{IsGuardedText, ReplaysGuarded, guarded_begun, guarded_opening}
 use Rattle.rtcp_guarded_text.specs.declared.limits.GuardLimits.{GuardLimits}
 use Rattle.rtcp_text.specs.Text.{accepted_text}
+use Rattle.rtcp_json.specs.CheckJson.{ChecksInJson}
+use Rattle.rtcp_json.specs.GuardedReplayJson.{IsGuardedJson, ReplaysGuardedInJson, guarded_opening_json}
+use Rattle.rtcp_json.specs.ReplayJson.{IsSessionJson, ReplaysInJson, opening_json}
 use Rattle.rtcp_text.specs.declared.fault.LineFault.{LineFault}
 use Rattle.rtcp_text.specs.declared.fault.ReplayFault.{ReplayFault}
 use Rattle.rtcp_text.specs.declared.fault.ReplayFault.TheVariants.{Config as BadConfig, Run}
@@ -26,7 +29,7 @@ use Rattle.rtcp_text.specs.Counted.{inner_of}
 use Rattle.rtcp_command.specs.declared.fault.RunFault.{RunFault}
 use Rattle.rtcp_command.specs.declared.fault.RunFault.TheVariants.{Config, Text, Link, Record, NoRegularFile, Random, Read, Write, Memory}
 use Rattle.rtcp_command.specs.declared.orders.TextOrder.{TextOrder}
-use Rattle.rtcp_command.specs.declared.orders.TextOrder.TheVariants.{Check, CheckPlain, Replay, ReplayGuarded}
+use Rattle.rtcp_command.specs.declared.orders.TextOrder.TheVariants.{Check, CheckPlain, CheckJson, Replay, ReplayGuarded, ReplayJson, ReplayGuardedJson}
 use Rattle.rtcp_command.specs.Orders.{AnswersOrder, IsTextOfOrder, RefusesConfig}
 use Rattle.rtcp_command.specs.Status.{fault_status, replay_fault, text_fault}
 
@@ -78,22 +81,23 @@ abbrev pub replayed : Result (Unit {0}) ReplayFault → Result (Unit {0}) RunFau
 replayed (Ok x) = Ok x
 replayed (Err fault) = Err (replay_fault fault)
 
-module _ (order : TextOrder) {left : Option (List ℕ)} {Leaves : (List ℕ → List ℕ → Type 0) → Type 0} where
-  pub answers_checked : (shows : List RtcpPacket → List ℕ) (most : ℕ)
-      → ((end : Option (ℕ × LineFault)) → Leaves (IsTextOfBy shows most end) → Leaves (IsTextOfOrder order end))
-      → (r : Result (Unit {0}) TextFault) → Checks shows most r left Leaves → AnswersOrder order (checked r) Leaves
-  answers_checked shows most same (Ok x) h = record {
-    whole = same None h.whole;
+module _ (order : TextOrder) {Leaves : (List ℕ → List ℕ → Type 0) → Type 0} where
+  pub answers_checked : (r : Result (Unit {0}) TextFault) → OnOk r (Leaves (IsTextOfOrder order None))
+      → ((line : ℕ) (fault : LineFault) → r ≡ Err (BadText line fault)
+      → Leaves (IsTextOfOrder order (Some (line, fault))))
+      → AnswersOrder order (checked r) Leaves
+  answers_checked (Ok x) whole refused = record {
+    whole = whole;
     refused = λ line fault is. absurd (cc is);
     config = λ error is. absurd (cc is);
   }
-  answers_checked shows most same (Err found) h = record {
+  answers_checked (Err found) whole refused = record {
     whole = tt;
-    refused = λ line fault is.
-        same (Some (line, fault)) (h.refused line fault (ap Err (check_refused found line fault (cc is))));
+    refused = λ line fault is. refused line fault (ap Err (check_refused found line fault (cc is)));
     config = λ error is. absurd (no_config found error (cc is));
   }
 
+module _ (order : TextOrder) {left : Option (List ℕ)} {Leaves : (List ℕ → List ℕ → Type 0) → Type 0} where
   -- An answered session, with a guard or without, is answered by its opening and its lines.
   pub answers_replayed : (opening : List ℕ) (IsText : TextOfLines) (IsUsable : Type 0)
       → ((end : Option (ℕ × LineFault)) → Leaves (IsOpenedText opening IsText end) → Leaves (IsTextOfOrder order end))
@@ -116,14 +120,17 @@ module _ (order : TextOrder) {left : Option (List ℕ)} {Leaves : (List ℕ → 
   pub check_answers : (lines : ℕ) → order ≡ Check lines → (r : Result (Unit {0}) TextFault) →
       Checks accepted_text lines r left Leaves → AnswersOrder order (checked r) Leaves
   check_answers lines is r h =
-      subst (λ o. AnswersOrder o (checked r) Leaves) (sym is)
-      (answers_checked (Check lines) accepted_text lines (λ end p. p) r h)
+      subst (λ o. AnswersOrder o (checked r) Leaves) (sym is) (answers_checked (Check lines) r h.whole h.refused)
 
   pub check_plain_answers : (lines : ℕ) → order ≡ CheckPlain lines → (r : Result (Unit {0}) TextFault) →
       Checks (plain_text None) lines r left Leaves → AnswersOrder order (checked r) Leaves
   check_plain_answers lines is r h =
-      subst (λ o. AnswersOrder o (checked r) Leaves) (sym is)
-      (answers_checked (CheckPlain lines) (plain_text None) lines (λ end p. p) r h)
+      subst (λ o. AnswersOrder o (checked r) Leaves) (sym is) (answers_checked (CheckPlain lines) r h.whole h.refused)
+
+  pub check_json_answers : (lines : ℕ) → order ≡ CheckJson lines → (r : Result (Unit {0}) TextFault) →
+      ChecksInJson lines r left Leaves → AnswersOrder order (checked r) Leaves
+  check_json_answers lines is r h =
+      subst (λ o. AnswersOrder o (checked r) Leaves) (sym is) (answers_checked (CheckJson lines) r h.whole h.refused)
 
   pub replay_answers : (config : ConfigOfCall) (word lines : ℕ) → order ≡ Replay config word lines →
       (r : Result (Unit {0}) ReplayFault) →
@@ -145,6 +152,27 @@ module _ (order : TextOrder) {left : Option (List ℕ)} {Leaves : (List ℕ → 
       subst (λ o. AnswersOrder o (replayed r) Leaves) (sym is)
       (answers_replayed (ReplayGuarded config word lines limits) (guarded_opening history) (IsGuardedText lines history)
       (error_in (setup_of config) ≡ None) (λ end p. p) r (λ error. (configs error).0) h)
+
+  pub replay_json_answers : (config : ConfigOfCall) (word lines : ℕ) → order ≡ ReplayJson config word lines →
+      (r : Result (Unit {0}) ReplayFault) →
+      ((error : ConfigError) → (r ≡ Err (BadConfig error)) ↔ (error_in (setup_of config) ≡ Some error)) →
+      ReplaysInJson lines (begun (setup_of config) word) r left Leaves → AnswersOrder order (replayed r) Leaves
+  replay_json_answers config word lines is r configs h =
+      let history = begun (setup_of config) word in
+      subst (λ o. AnswersOrder o (replayed r) Leaves) (sym is)
+      (answers_replayed (ReplayJson config word lines) (opening_json history) (IsSessionJson lines history)
+      (error_in (setup_of config) ≡ None) (λ end p. p) r (λ error. (configs error).0) h)
+
+  pub replay_guarded_json_answers : (config : ConfigOfCall) (word lines : ℕ) (limits : GuardLimits) →
+      order ≡ ReplayGuardedJson config word lines limits → (r : Result (Unit {0}) ReplayFault) →
+      ((error : ConfigError) → (r ≡ Err (BadConfig error)) ↔ (error_in (setup_of config) ≡ Some error)) →
+      ReplaysGuardedInJson lines (guarded_begun (setup_of config) word limits) r left Leaves →
+      AnswersOrder order (replayed r) Leaves
+  replay_guarded_json_answers config word lines limits is r configs h =
+      let history = guarded_begun (setup_of config) word limits in
+      subst (λ o. AnswersOrder o (replayed r) Leaves) (sym is)
+      (answers_replayed (ReplayGuardedJson config word lines limits) (guarded_opening_json history)
+      (IsGuardedJson lines history) (error_in (setup_of config) ≡ None) (λ end p. p) r (λ error. (configs error).0) h)
 
 -- the exit of a `?`
 pub at_exit : (order : TextOrder) {Leaves : (List ℕ → List ℕ → Type 0) → Type 0} (r : Result (Unit {0}) RunFault)

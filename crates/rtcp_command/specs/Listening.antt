@@ -97,6 +97,8 @@ pub record Listening : Type 0 where
   pub show : Bool
   -- whether that is in plain words
   pub plain : Bool
+  -- whether lines of JSON are written while it runs, and at its end
+  pub json : Bool
   -- what an origin may do before it is held back, if a guard stands before the participant
   pub guard : Option GuardLimits
 
@@ -114,9 +116,9 @@ listen_in found = do
   Ok (record {
     setup = setup;
     draws_ssrc = is_random (text_found found (codes "ssrc"));
+    reads_ntp = is_now (text_found found (codes "ntp"));
     rtp = rtp;
     rtcp = rtcp;
-    reads_ntp = is_now (text_found found (codes "ntp"));
     peer = peer;
     seed = seed.0;
     draws_seed = seed.1;
@@ -130,6 +132,7 @@ listen_in found = do
     stop = first_value found (codes "stop");
     show = is_set found (codes "show");
     plain = is_set found (codes "plain");
+    json = is_set found (codes "json");
     guard = guard;
   })
 
@@ -140,10 +143,10 @@ abbrev pub listening_of : ListenOrder → (recording stop : Option (List ℕ)) �
 listening_of order recording stop = record {
   setup = setup_of order.config;
   draws_ssrc = order.draws_ssrc;
+  reads_ntp = order.reads_ntp;
   rtp = endpoint_of order.rtp;
   rtcp = endpoint_of order.rtcp;
   peer = endpoint_of order.peer;
-  reads_ntp = order.reads_ntp;
   seed = order.seed;
   draws_seed = order.draws_seed;
   turns = order.turns;
@@ -154,6 +157,7 @@ listening_of order recording stop = record {
   stop = stop;
   show = order.show;
   plain = order.plain;
+  json = order.json;
   guard = order.guard;
 }
 

@@ -9,7 +9,7 @@ use Rattle.rtcp_wire.specs.Values.{ItemValue}
 use Rattle.rtcp_engine.specs.answers.Setups.{ClockValue, Setup}
 use Rattle.rtcp_engine.specs.state.Views.{setup_of}
 use Rattle.rtcp_command.specs.declared.orders.TextOrder.{TextOrder}
-use Rattle.rtcp_command.specs.declared.orders.TextOrder.TheVariants.{Check, CheckPlain, Replay, ReplayGuarded}
+use Rattle.rtcp_command.specs.declared.orders.TextOrder.TheVariants.{Check, CheckPlain, CheckJson, Replay, ReplayGuarded, ReplayJson, ReplayGuardedJson}
 use Rattle.rtcp_command.specs.declared.orders.OrderFault.{OrderFault}
 use Rattle.rtcp_command.specs.declared.orders.OrderFault.TheVariants.{Clap, Option as BadOption, Memory}
 use Rattle.rtcp_text.specs.Numerals.{decimal_in, hex_in, hex_text_in}
@@ -143,23 +143,34 @@ replay_in found = do
 
 -- ---- Orders
 
--- What the options come to is this order, or this fault.
-abbrev pub IsReplayOrder : Result TextOrder OrderFault → Result (Setup × ℕ × ℕ × Option GuardLimits) (List ℕ) → Type 0
-IsReplayOrder (Ok (Replay config word lines)) expected = expected ≡ Ok (setup_of config, word, lines, None)
-IsReplayOrder (Ok (ReplayGuarded config word lines limits)) expected =
-    expected ≡ Ok (setup_of config, word, lines, Some limits)
-IsReplayOrder (Ok (Check lines)) expected = ⊥
-IsReplayOrder (Ok (CheckPlain lines)) expected = ⊥
-IsReplayOrder (Err (BadOption name)) expected = expected ≡ Err name.now
-IsReplayOrder (Err (Clap text)) expected = ⊥
-IsReplayOrder (Err Memory) expected = ⊥
+-- What the options come to is this order, or this fault; and so is whether JSON is asked for.
+abbrev pub IsReplayOrder : Result TextOrder OrderFault → (json : Bool) →
+    Result (Setup × ℕ × ℕ × Option GuardLimits) (List ℕ) → Type 0
+IsReplayOrder (Ok (Replay config word lines)) json expected =
+    (expected ≡ Ok (setup_of config, word, lines, None)) × (json ≡ false)
+IsReplayOrder (Ok (ReplayGuarded config word lines limits)) json expected =
+    (expected ≡ Ok (setup_of config, word, lines, Some limits)) × (json ≡ false)
+IsReplayOrder (Ok (ReplayJson config word lines)) json expected =
+    (expected ≡ Ok (setup_of config, word, lines, None)) × (json ≡ true)
+IsReplayOrder (Ok (ReplayGuardedJson config word lines limits)) json expected =
+    (expected ≡ Ok (setup_of config, word, lines, Some limits)) × (json ≡ true)
+IsReplayOrder (Ok (Check lines)) json expected = ⊥
+IsReplayOrder (Ok (CheckPlain lines)) json expected = ⊥
+IsReplayOrder (Ok (CheckJson lines)) json expected = ⊥
+IsReplayOrder (Err (BadOption name)) json expected = expected ≡ Err name.now
+IsReplayOrder (Err (Clap text)) json expected = ⊥
+IsReplayOrder (Err Memory) json expected = ⊥
 
--- The number of lines is this order's, or refused; and so is whether plain words are asked for.
-abbrev pub IsCheckOrder : Result TextOrder OrderFault → (plain : Bool) → Option ℕ → Type 0
-IsCheckOrder (Ok (Check lines)) plain expected = (expected ≡ Some lines) × (plain ≡ false)
-IsCheckOrder (Ok (CheckPlain lines)) plain expected = (expected ≡ Some lines) × (plain ≡ true)
-IsCheckOrder (Ok (Replay config word lines)) plain expected = ⊥
-IsCheckOrder (Ok (ReplayGuarded config word lines limits)) plain expected = ⊥
-IsCheckOrder (Err (BadOption name)) plain expected = (expected ≡ None) × (name.now ≡ codes "lines")
-IsCheckOrder (Err (Clap text)) plain expected = ⊥
-IsCheckOrder (Err Memory) plain expected = ⊥
+-- The number of lines is this order's, or refused; and so is whether plain words or JSON are asked for. JSON comes
+-- before plain words: a command line that asks for both is refused by `clap`.
+abbrev pub IsCheckOrder : Result TextOrder OrderFault → (plain json : Bool) → Option ℕ → Type 0
+IsCheckOrder (Ok (Check lines)) plain json expected = (expected ≡ Some lines) × (plain ≡ false) × (json ≡ false)
+IsCheckOrder (Ok (CheckPlain lines)) plain json expected = (expected ≡ Some lines) × (plain ≡ true) × (json ≡ false)
+IsCheckOrder (Ok (CheckJson lines)) plain json expected = (expected ≡ Some lines) × (json ≡ true)
+IsCheckOrder (Ok (Replay config word lines)) plain json expected = ⊥
+IsCheckOrder (Ok (ReplayGuarded config word lines limits)) plain json expected = ⊥
+IsCheckOrder (Ok (ReplayJson config word lines)) plain json expected = ⊥
+IsCheckOrder (Ok (ReplayGuardedJson config word lines limits)) plain json expected = ⊥
+IsCheckOrder (Err (BadOption name)) plain json expected = (expected ≡ None) × (name.now ≡ codes "lines")
+IsCheckOrder (Err (Clap text)) plain json expected = ⊥
+IsCheckOrder (Err Memory) plain json expected = ⊥

@@ -11,6 +11,7 @@ ghost use Rattle.rtcp_text.specs.declared.fault.LineFault.{LineFault as Fault};
 use crate::fault::{RunFault, fail};
 use crate::orders::TextOrder;
 use rtcp_guarded_text::replay::replay_guarded;
+use rtcp_json::{check_json, replay_guarded_json, replay_json};
 use rtcp_plain::check_plain;
 use rtcp_text::Counted;
 use rtcp_text::check::check_up_to;
@@ -75,7 +76,8 @@ fn run<R: Read, W: Write>(
 ///
 /// # Errors
 ///
-/// Those of [`check_up_to`], [`check_plain`], [`replay_up_to`] or [`replay_guarded`].
+/// Those of [`check_up_to`], [`check_plain`], [`check_json`], [`replay_up_to`], [`replay_guarded`], [`replay_json`] or
+/// [`replay_guarded_json`].
 fn answer<R: Read, W: Write>(
     alloc: Global,
     order: TextOrder,
@@ -89,6 +91,7 @@ fn answer<R: Read, W: Write>(
     match order {
         TextOrder::Check { lines } => Ok(check_up_to(alloc, lines, reader, writer)?),
         TextOrder::CheckPlain { lines } => Ok(check_plain(alloc, lines, reader, writer)?),
+        TextOrder::CheckJson { lines } => Ok(check_json(alloc, lines, reader, writer)?),
         TextOrder::Replay {
             config,
             word,
@@ -100,6 +103,17 @@ fn answer<R: Read, W: Write>(
             lines,
             limits,
         } => Ok(replay_guarded(alloc, lines, reader, writer, config, word, limits)?),
+        TextOrder::ReplayJson {
+            config,
+            word,
+            lines,
+        } => Ok(replay_json(alloc, lines, reader, writer, config, word)?),
+        TextOrder::ReplayGuardedJson {
+            config,
+            word,
+            lines,
+            limits,
+        } => Ok(replay_guarded_json(alloc, lines, reader, writer, config, word, limits)?),
     }
 }
 

@@ -141,6 +141,7 @@ fn read_session(matches: &ArgMatches<'_>) -> Result<ListenOrder, &'static str>
         stop: None,
         show: is_set(matches, "show"),
         plain: is_set(matches, "plain"),
+        json: is_set(matches, "json"),
         guard,
     })
 }
@@ -186,7 +187,6 @@ fn settled(ssrc: &str) -> &str
     if ssrc == RANDOM { "00000000" } else { ssrc }
 }
 
-/// The seed of the random words, and whether one is to be drawn in place of it.
 /// The text of an NTP timestamp, or that of 0 in place of one that is to be read.
 fn settled_ntp(ntp: &str) -> &str
     ensures { result.now ≡ settled_time ntp.now }
@@ -194,6 +194,7 @@ fn settled_ntp(ntp: &str) -> &str
     if ntp == NOW { "0000000000000000" } else { ntp }
 }
 
+/// The seed of the random words, and whether one is to be drawn in place of it.
 fn read_seed(text: &str) -> Option<(u64, bool)>
     ensures { result ≡ seed_in text.now }
 {

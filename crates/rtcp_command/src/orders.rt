@@ -28,6 +28,11 @@ pub enum TextOrder {
         /// The most lines that are answered, at least 1.
         lines: u32,
     },
+    /// Shows what each datagram is, in JSON.
+    CheckJson {
+        /// The most lines that are answered, at least 1.
+        lines: u32,
+    },
     /// Shows what a participant answers to each event.
     Replay {
         /// How the participant is configured. Nothing of it was tested against the ranges of a configuration.
@@ -48,6 +53,26 @@ pub enum TextOrder {
         /// What an origin may do before the guard holds it back.
         limits: GuardLimits,
     },
+    /// Shows in JSON what a participant answers to each event.
+    ReplayJson {
+        /// How the participant is configured. Nothing of it was tested against the ranges of a configuration.
+        config: Config,
+        /// The random word of the start.
+        word: u32,
+        /// The most lines that are answered, at least 1.
+        lines: u32,
+    },
+    /// Shows in JSON what a participant with a guard before it answers to each event.
+    ReplayGuardedJson {
+        /// How the participant is configured. Nothing of it was tested against the ranges of a configuration.
+        config: Config,
+        /// The random word of the start.
+        word: u32,
+        /// The most lines that are answered, at least 1.
+        lines: u32,
+        /// What an origin may do before the guard holds it back.
+        limits: GuardLimits,
+    },
 }
 
 /// A session over UDP.
@@ -57,6 +82,8 @@ pub struct ListenOrder {
     pub config: Config,
     /// Whether its SSRC is to be drawn from the system's generator.
     pub draws_ssrc: bool,
+    /// Whether its NTP timestamp of moment 0 is to be read from the system's clock.
+    pub reads_ntp: bool,
     /// Where RTP comes in.
     pub rtp: SocketAddrV4,
     /// Where RTCP comes in.
@@ -82,9 +109,9 @@ pub struct ListenOrder {
     /// Whether the session is shown while it runs.
     pub show: bool,
     /// Whether datagrams are shown in plain words.
-    /// Whether its NTP timestamp of moment 0 is to be read from the system's clock.
-    pub reads_ntp: bool,
     pub plain: bool,
+    /// Whether lines of JSON are written while it runs, and at its end.
+    pub json: bool,
     /// What an origin may do before it is held back, if a guard stands before the participant.
     pub guard: Option<GuardLimits>,
 }

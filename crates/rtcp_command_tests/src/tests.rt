@@ -14,6 +14,7 @@ mod ends;
 mod example;
 mod failing;
 mod groups;
+mod json;
 mod options;
 mod ports;
 mod recordings;

@@ -16,6 +16,7 @@ mod stop_file;
 use rand_core::{Rng, SeedableRng};
 use rand_pcg::Pcg32;
 use record_file::RecordFile;
+use rtcp_clock::ntp_of;
 use rtcp_command::arguments::{refuse, tell};
 use rtcp_command::ends::{conclude, end_line};
 use rtcp_command::groups::group_warnings;
@@ -28,22 +29,27 @@ pub use rtcp_command::{
 use rtcp_engine::Participant;
 use rtcp_guard::Guard;
 use rtcp_guarded::GuardedParticipant;
+use rtcp_json::{JsonWatcher, push_end_json};
 use rtcp_members::HeapTable;
 pub use rtcp_serve::{
     Cause, End, Ending, Link, LinkFault, MOST_TURNS, Observer, Port, Received, Until, serve,
     serve_guarded_until, serve_laws, serve_until,
 };
-use rtcp_show::{Printer, Watcher, Wording, push_header};
+use rtcp_show::{Printer, SilenceWatcher, Watcher, Wording, push_header};
 use rtcp_text::record::Recorder;
 pub use rtcp_text::{Counted, LineFault, ReplayFault, TextFault, check, replay};
 use rtcp_udp::{BindFault, UdpLink};
-use std::alloc::Global;
+use std::alloc::{AllocError, Global};
 use std::env;
 use std::fs::{self, File};
-use std::io::{BufWriter, Read, Write};
+use std::io::{BufWriter, Read, Stderr, Stdout, Write};
 use std::net::SocketAddrV4;
 use std::process::ExitCode;
+use std::time::{Duration, SystemTime, UNIX_EPOCH};
 use stop_file::StopFile;
+
+/// The NTP timestamp of the first moment of 1970, in which the system's clock begins: 2,208,988,800 seconds since 1900.
+const UNIX_IN_NTP: u64 = 2_208_988_800 << 32;
 
 fn main(rt: HostRuntime) -> ExitCode {
     let status = match asked(&rt) {
@@ -94,7 +100,8 @@ fn run_text(rt: &HostRuntime, order: TextOrder) -> u8 {
 }
 
 /// Runs a session over UDP, between the ports of RTP and of RTCP and a peer, and writes its end to standard
-/// output. It is recorded if a file is named for that, and shown on standard error if that is asked for.
+/// output. It is recorded if a file is named for that, and shown on standard error, or written as lines of JSON on
+/// standard output, if that is asked for.
 ///
 /// # Errors
 ///
@@ -113,38 +120,92 @@ fn run_listen(rt: &HostRuntime, order: ListenOrder) -> Result<End, RunFault>
     }
     let table = table_of(alloc, order.config.capacity)?;
     let link = bound(rt, &order)?;
+    let order = timed(rt, order)?;
     tell_ports(rt, &order, link.endpoints())?;
-    let recorder = match &order.recording {
-        Some(file) => Some(SessionRecorder {
-            recorder: begin_record(rt, &order, word, file)?,
-            faults: rt.stderr(),
-        }),
-        None => None,
-    };
+    let recorder = recorder_of(rt, &order, word)?;
     let closing = closing(rt, &order, word)?;
-    let watcher = if order.show {
-        write_header(rt, &order, link.endpoints())?;
-        let printer = Printer::new(alloc, order.config.ntp_base, order.peer, rt.stderr());
-        Some(Watcher::new(printer.with_wording(wording(&order))))
-    } else {
-        None
-    };
+    let shown = shown_of(rt, &order, link.endpoints())?;
     let guard = guard_of(alloc, &order)?;
     let participant = Participant::with_table(order.config, table, word);
     let warnings = group_warnings(alloc, order.rtp, order.rtcp).map_err(|_| RunFault::Memory)?;
     let _ = rt.stderr().write_all(&warnings);
-    let observer = (recorder, watcher);
+    let is_json = order.json;
+    let mut observer = ((recorder, shown), json_of(rt, is_json));
     let ending = (order.seconds.map(until), StopFile::of(rt, order.stop));
     let end = match guard {
-        None => serve_on(link, observer, participant, rng, ending, turns),
+        None => serve_on(link, &mut observer, participant, rng, ending, turns),
         Some(guard) => {
             let guarded = GuardedParticipant::new(participant, guard);
-            serve_guarded_on(link, observer, guarded, rng, ending, turns)
+            serve_guarded_on(link, &mut observer, guarded, rng, ending, turns)
         }
     };
     let _ = rt.stderr().write_all(&closing);
-    write_end(rt, &end)?;
-    Ok(end)
+    write_end(rt, is_json, &end)?;
+    match lost_lines(&observer.1) {
+        Some(fault) => Err(RunFault::from(fault)),
+        None => Ok(end),
+    }
+}
+
+/// What shows a session.
+type Shown = (Watcher<Stderr>, SilenceWatcher<Stderr>);
+
+/// What records the session of an order, if a file is named for that.
+///
+/// # Errors
+///
+/// Those of [`begin_record`].
+fn recorder_of(
+    rt: &HostRuntime,
+    order: &ListenOrder,
+    word: u32,
+) -> Result<Option<SessionRecorder<RecordFile, Stderr>>, RunFault> {
+    let Some(file) = &order.recording else {
+        return Ok(None);
+    };
+    let recorder = begin_record(rt, order, word, file)?;
+    Ok(Some(SessionRecorder {
+        recorder,
+        faults: rt.stderr(),
+    }))
+}
+
+/// What shows the session of an order, if that is asked for, between the endpoints that were bound. The line before
+/// those of the session is written.
+///
+/// # Errors
+///
+/// Those of [`write_header`].
+fn shown_of(
+    rt: &HostRuntime,
+    order: &ListenOrder,
+    bound: (SocketAddrV4, SocketAddrV4),
+) -> Result<Option<Shown>, RunFault> {
+    if !order.show {
+        return Ok(None);
+    }
+    write_header(rt, order, bound)?;
+    let printer = Printer::new(rt.alloc(), order.config.ntp_base, order.peer, rt.stderr());
+    let watcher = Watcher::new(printer.with_wording(wording(order)));
+    let silence = SilenceWatcher::new(rt.alloc(), rt.stderr());
+    Ok(Some((watcher, silence)))
+}
+
+/// What writes a session as lines of JSON, if that is asked for.
+fn json_of(rt: &HostRuntime, is_asked: bool) -> Option<JsonWatcher<Stdout>> {
+    if is_asked {
+        Some(JsonWatcher::new(rt.alloc(), rt.stdout()))
+    } else {
+        None
+    }
+}
+
+/// Why lines of JSON were lost, if some were.
+fn lost_lines(json: &Option<JsonWatcher<Stdout>>) -> Option<TextFault> {
+    match json {
+        Some(watcher) => watcher.fault(),
+        None => None,
+    }
 }
 
 /// A table for so many sources, from 1 to 1,024.
@@ -260,6 +321,28 @@ fn drawn(rt: &HostRuntime, order: ListenOrder) -> Result<ListenOrder, RunFault>
     Ok(order)
 }
 
+/// An order with the NTP timestamp of now where it asks for that.
+///
+/// # Errors
+///
+/// [`RunFault::Link`] where the clock cannot be read.
+fn timed(rt: &HostRuntime, order: ListenOrder) -> Result<ListenOrder, RunFault>
+    requires { (1 ≤ order.turns) × (order.turns ≤ 1000000) }
+    ensures turns { IfOk result (λ timed. (1 ≤ timed.turns) × (timed.turns ≤ 1000000)) }
+    ensures capacity { IfOk result (λ timed. timed.config.capacity ≡ order.config.capacity) }
+{
+    let mut order = order;
+    if order.reads_ntp {
+        let Ok(now) = SystemTime::now(rt) else {
+            return Err(RunFault::Link);
+        };
+        let since = now.duration_since(UNIX_EPOCH).unwrap_or(Duration::ZERO);
+        let micros = u64::try_from(since.as_micros()).unwrap_or(u64::MAX);
+        order.config.ntp_base = ntp_of(UNIX_IN_NTP, micros);
+    }
+    Ok(order)
+}
+
 /// The link of a session between the ports of an order and its peer.
 ///
 /// # Errors
@@ -334,9 +417,9 @@ fn until(seconds: u32) -> Until
 
 /// Serves a session on a link, which this observer watches, with these words, until this ending or for so many turns,
 /// and gives its end.
-fn serve_on<L: Link + Drop, O: Observer + Drop, E: Ending + Drop>(
+fn serve_on<L: Link + Drop, O: Observer, E: Ending + Drop>(
     mut link: L,
-    mut observer: O,
+    observer: &mut O,
     mut participant: Participant<HeapTable>,
     mut rng: Pcg32,
     mut ending: E,
@@ -353,15 +436,15 @@ fn serve_on<L: Link + Drop, O: Observer + Drop, E: Ending + Drop>(
         &mut rng,
         &mut ending,
         turns,
-        &mut observer,
+        observer,
         &mut buf,
     )
 }
 
 /// Serves a session of a guarded participant as [`serve_on`] does that of a participant.
-fn serve_guarded_on<L: Link + Drop, O: Observer + Drop, E: Ending + Drop>(
+fn serve_guarded_on<L: Link + Drop, O: Observer, E: Ending + Drop>(
     mut link: L,
-    mut observer: O,
+    observer: &mut O,
     mut participant: GuardedParticipant<HeapTable>,
     mut rng: Pcg32,
     mut ending: E,
@@ -378,20 +461,30 @@ fn serve_guarded_on<L: Link + Drop, O: Observer + Drop, E: Ending + Drop>(
         &mut rng,
         &mut ending,
         turns,
-        &mut observer,
+        observer,
         &mut buf,
     )
 }
 
-/// Writes the line of an end to standard output.
+/// Writes the line of an end to standard output, in JSON or as text.
 ///
 /// # Errors
 ///
 /// - [`RunFault::Memory`] where memory is refused.
 /// - [`RunFault::Write`] where it cannot be written.
-fn write_end(rt: &HostRuntime, end: &End) -> Result<(), RunFault> {
-    let line = end_line(rt.alloc(), end).map_err(|_| RunFault::Memory)?;
+fn write_end(rt: &HostRuntime, is_json: bool, end: &End) -> Result<(), RunFault> {
+    let line = end_of(rt.alloc(), is_json, end).map_err(|_| RunFault::Memory)?;
     rt.stdout().write_all(&line).map_err(|_| RunFault::Write)
+}
+
+/// The line of an end, in JSON or as text.
+fn end_of(alloc: Global, is_json: bool, end: &End) -> Result<Vec<u8>, AllocError> {
+    if !is_json {
+        return end_line(alloc, end);
+    }
+    let mut line = Vec::new(alloc);
+    push_end_json(&mut line, end)?;
+    Ok(line)
 }
 
 /// Creates the file of a record, and writes to standard error the command that plays it again. A failed write there is

@@ -32,6 +32,12 @@ text, the jitter of report blocks in units of the RTP timestamp.
 
     ok RR ssrc=11223344 SDES ssrc=11223344 cname=\"abc\"
 
+With --json each line is an object of JSON, for scripts: octets and SSRCs in hex, all other
+numbers exact, texts as text, with U+FFFD for what is not UTF-8.
+
+    {\"packets\":[{\"type\":\"RR\",\"ssrc\":\"11223344\",\"blocks\":[],\"extension\":\"\"}]}
+    {\"refused\":\"F2 Version\",\"at\":8}
+
 A line of more than 131200 characters, a line after the first N of --lines and a line that is
 not hex end the run: the number of the line and its fault are written to standard error.
 
@@ -41,10 +47,18 @@ text was refused, and 1 if reading, writing or memory failed.";
 /// The option of plain words.
 const PLAIN: Row = ("plain", "", Absent::IsFlag, "Show datagrams in plain words");
 
+/// The option of JSON.
+const JSON: Row = (
+    "json",
+    "",
+    Absent::IsFlagBeside("plain"),
+    "Show datagrams as lines of JSON",
+);
+
 /// The subcommand, as `clap` reads it.
 pub(super) fn subcommand<'a>(alloc: Global) -> Result<Command<'a>, AllocError> {
     let command = Command::new(alloc, "check").about(ABOUT).long_about(LONG);
-    with_options(alloc, command, &[LINES, PLAIN])
+    with_options(alloc, command, &[LINES, PLAIN, JSON])
 }
 
 /// What the words after `check` ask for.
@@ -54,9 +68,11 @@ pub(super) fn subcommand<'a>(alloc: Global) -> Result<Command<'a>, AllocError> {
 /// [`OrderFault::Option`] where the number of lines is refused.
 pub(super) fn order(matches: &ArgMatches<'_>) -> Result<TextOrder, OrderFault>
     ensures { IsCheckOrder result (is_set_in (found_of matches.now) (codes "plain"))
+        (is_set_in (found_of matches.now) (codes "json"))
         (lines_in (text_found (found_of matches.now) (codes "lines"))) }
 {
     match read_lines(given(matches, "lines")) {
+        Some(lines) if is_set(matches, "json") => Ok(TextOrder::CheckJson { lines }),
         Some(lines) if is_set(matches, "plain") => Ok(TextOrder::CheckPlain { lines }),
         Some(lines) => Ok(TextOrder::Check { lines }),
         None => Err(OrderFault::Option("lines")),

@@ -30,7 +30,8 @@ or --stop turns are not counted, unless --turns is given too: what comes first e
 The random words are those of a generator that --seed begins: with the default, 1, they are the same
 each time, so that listeners which are started together report together, in clumps. Give each
 --seed random, and --ssrc random for an SSRC of its own: both come from the system's generator, and
-the command that --record shows has what was drawn.
+the command that --record shows has what was drawn. With --ntp now that command has the time at
+which the session began, so that the page of tools/report tells times of day.
 
 To join a sender of GStreamer on this machine, which reads RTCP at port 5007:
 
@@ -64,14 +65,15 @@ With --show the session is written to standard error as it happens: first who th
 and then a line for each RTCP datagram that comes in, each compound that goes out, and each call
 that is refused: the moment in seconds, the peer, and what rtcp check says of the datagram, or why
 it was refused. A compound that could not be sent has a line, and so has each source that joins,
-says BYE, times out, begins or ceases to send. Once a second the members, the senders and a row for
-each source follow, unless they are as they were last:
+says BYE, times out, begins or ceases to send. If no datagram comes, one says so after five seconds.
+Once a second the members, the senders and a row for each source follow, unless they are as they
+were last:
 
     session ssrc=000000aa cname=\"a\" rtp=127.0.0.1:5004 rtcp=127.0.0.1:5005 peer=127.0.0.1:5007
     0.273647 joined=5efa318e
     2.417003 out 127.0.0.1:5007 ok RR(000000aa,[],0) SDES([000000aa{1=61}])
     3.000411 members=2 senders=1
-    source=5efa318e sends=yes packets=150 lost=0 jitter=0.413ms loss=0.0% peer=127.0.0.1:5006
+    source=5efa318e sends=yes packets=150 lost=0 jitter=0.413ms total-loss=0.0% peer=127.0.0.1:5006
 
 A source that is no member has valid=no, or left= and when. What came of its packets stands in a
 row if one was counted, the CNAME if one was read, its quotes, backslashes and what is not printed
@@ -80,6 +82,12 @@ come the loss of the whole and of the latest interval, the packets a second, and
 
 With --plain too, datagrams are shown in the plain words of rtcp check --plain: with --clock the
 jitter of report blocks is in units of the RTP timestamp, and otherwise in milliseconds by --rate.
+
+With --json lines of JSON go to standard output, for scripts: one for each RTCP datagram that comes
+in, one for each other event of which the answer says something, and one for the end:
+
+    {\"moment\":273647,\"event\":\"rtcp\",\"peer\":\"127.0.0.1:5005\",\"datagram\":{..},\"answer\":{..}}
+    {\"end\":\"Done\",\"received\":137,\"refused\":0,\"sent\":5,..,\"bye\":true}
 
 With --record FILE each event that the participant is told is written to the file as it happens,
 as a line that rtcp replay reads. The command that plays it again is written to standard error
@@ -96,7 +104,7 @@ The status is 0 at Done and Limit, 2 if the command line, an option or the confi
 refused, and 1 at LinkDown and if a port could not be bound, or writing or memory failed.";
 
 /// The options after those of the participant, in the order in which they are looked at.
-const OWN: [Row; 12] = [
+const OWN: [Row; 13] = [
     (
         "rtp",
         "ADDRESS:PORT",
@@ -158,6 +166,12 @@ const OWN: [Row; 12] = [
         "Show the session on standard error while it runs",
     ),
     ("plain", "", Absent::IsFlag, "Show datagrams in plain words"),
+    (
+        "json",
+        "",
+        Absent::IsFlag,
+        "Write lines of JSON on standard output while it runs, and at the end",
+    ),
     GUARD,
 ];
 

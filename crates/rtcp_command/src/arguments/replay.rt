@@ -1,12 +1,13 @@
 //! The subcommand `replay` of the command line.
 
-ghost use Rattle.std.specs.Prelude.{Ok};
+ghost use Rattle.std.specs.Prelude.{Ok, true, false, codes};
 ghost use Rattle.rtcp_engine.specs.state.Views.{setup_of};
 ghost use Rattle.clap.specs.Matches.{found_of};
+ghost use Rattle.rtcp_command.specs.Listening.{is_set as is_set_in};
 ghost use Rattle.rtcp_command.specs.Options.{IsReplayOrder, replay_in};
 
-use super::rows::{Absent, GUARD, LINES, PARTICIPANT, Row, with_options};
-use crate::options::read_replay;
+use super::rows::{Absent, GUARD, JSON, LINES, PARTICIPANT, Row, with_options};
+use crate::options::{is_set, read_replay};
 use crate::orders::{OrderFault, TextOrder};
 use clap::{ArgMatches, Command};
 use rtcp_engine::Config;
@@ -60,6 +61,12 @@ another origin says of it is held back, and so is what would give an origin more
     refused H1 Stranger
     refused H2 Crowd
 
+With --json each line is an object of JSON, for scripts:
+
+    {\"start\":{\"members\":1,\"senders\":0,\"next\":1026037}}
+    {\"members\":2,\"senders\":0,\"next\":1026037,\"out\":null,\"ssrc\":null}
+    {\"refused\":\"E5 Wire\",\"fault\":\"F1 Short\",\"at\":0}
+
 A line of more than 131200 characters, a line after the first N of --lines and a line that is
 not as above end the run: the number of the line and its fault are written to standard error.
 
@@ -67,7 +74,7 @@ The status is 0 if every line was answered, 2 if the command line, an option, th
 or a line of the text was refused, and 1 if reading, writing or memory failed.";
 
 /// The options after those of the participant, in the order in which they are looked at.
-const OWN: [Row; 3] = [
+const OWN: [Row; 4] = [
     (
         "word",
         "HEX",
@@ -76,6 +83,7 @@ const OWN: [Row; 3] = [
     ),
     LINES,
     GUARD,
+    JSON,
 ];
 
 /// The subcommand, as `clap` reads it.
@@ -91,9 +99,13 @@ pub(super) fn subcommand<'a>(alloc: Global) -> Result<Command<'a>, AllocError> {
 ///
 /// [`OrderFault::Option`] with the first option whose value is refused.
 pub(super) fn order(matches: &ArgMatches<'_>) -> Result<TextOrder, OrderFault>
-    ensures { IsReplayOrder result (replay_in (found_of matches.now)) }
+    ensures { IsReplayOrder result (is_set_in (found_of matches.now) (codes "json"))
+        (replay_in (found_of matches.now)) }
 {
     match read_replay(matches) {
+        Ok((config, word, lines, guard)) if is_set(matches, "json") => {
+            Ok(json_order(config, word, lines, guard))
+        }
         Ok((config, word, lines, guard)) => Ok(replay_order(config, word, lines, guard)),
         Err(name) => Err(OrderFault::Option(name)),
     }
@@ -101,7 +113,7 @@ pub(super) fn order(matches: &ArgMatches<'_>) -> Result<TextOrder, OrderFault>
 
 /// A replay, with a guard or without.
 fn replay_order(config: Config, word: u32, lines: u32, guard: Option<GuardLimits>) -> TextOrder
-    ensures { IsReplayOrder (Ok result) (Ok (setup_of config, word, lines, guard)) }
+    ensures { IsReplayOrder (Ok result) false (Ok (setup_of config, word, lines, guard)) }
 {
     match guard {
         None => TextOrder::Replay {
@@ -110,6 +122,25 @@ fn replay_order(config: Config, word: u32, lines: u32, guard: Option<GuardLimits
             lines,
         },
         Some(limits) => TextOrder::ReplayGuarded {
+            config,
+            word,
+            lines,
+            limits,
+        },
+    }
+}
+
+/// The same in JSON.
+fn json_order(config: Config, word: u32, lines: u32, guard: Option<GuardLimits>) -> TextOrder
+    ensures { IsReplayOrder (Ok result) true (Ok (setup_of config, word, lines, guard)) }
+{
+    match guard {
+        None => TextOrder::ReplayJson {
+            config,
+            word,
+            lines,
+        },
+        Some(limits) => TextOrder::ReplayGuardedJson {
             config,
             word,
             lines,

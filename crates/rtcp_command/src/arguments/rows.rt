@@ -16,6 +16,8 @@ pub(super) enum Absent {
     IsEmpty,
     /// The option takes no value: it is a flag, whose text is `true` where it is given, and else `false`.
     IsFlag,
+    /// The same of a flag that is refused beside the flag of this name.
+    IsFlagBeside(&'static str),
 }
 
 /// An option: the name, the value, what stands for it, and the help.
@@ -95,6 +97,9 @@ pub(super) const LINES: Row = (
     "Most lines that are answered, 1 to 4294967295",
 );
 
+/// The option of JSON, of a run over text that has no other form.
+pub(super) const JSON: Row = ("json", "", Absent::IsFlag, "Show answers as lines of JSON");
+
 /// The option of a guard.
 pub(super) const GUARD: Row = (
     "guard",
@@ -117,6 +122,9 @@ pub(super) fn with_options<'a>(
             Absent::Nothing => valued(option, value),
             Absent::IsEmpty => option.value_name(value).action(ArgAction::Append),
             Absent::IsFlag => option.action(ArgAction::SetTrue),
+            Absent::IsFlagBeside(other) => {
+                option.action(ArgAction::SetTrue).conflicts_with(other)?
+            }
         })?;
     }
     Ok(command)

@@ -68,7 +68,7 @@ fn asked(rt: HostRuntime) -> Result<(), Fail> {
 }
 
 /// Options of which one is refused, and its line.
-static REFUSED: [(&[&str], &str); 6] = [
+static REFUSED: [(&[&str], &str); 7] = [
     (&["--ssrc", "Random"], "option ssrc\n"),
     (&["--ssrc", "random "], "option ssrc\n"),
     (&["--ssrc", "rando", "--seed", "RANDOM"], "option ssrc\n"),

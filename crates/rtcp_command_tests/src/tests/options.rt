@@ -33,10 +33,7 @@ fn replayed(alloc: Global, words: &[&str]) -> Result<(Config, WordAndLines), Fai
             word,
             lines,
         } => Ok((config, WordAndLines { word, lines })),
-        TextOrder::Check { lines: _ } | TextOrder::CheckPlain { lines: _ } => {
-            Err("it is a check")?
-        }
-        TextOrder::ReplayGuarded { .. } => Err("it has a guard")?,
+        _other => Err("it is no replay without a guard, in text")?,
     }
 }
 
