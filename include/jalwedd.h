@@ -140,8 +140,9 @@ enum {
 
     /* A datagram that the guard holds back (config.guard): the participant is not told of it. */
     JALWEDD_STRANGER = 24,      /* it names a source that belongs to another origin (8.2) */
-    JALWEDD_CROWD = 25          /* it names more sources than its origin, or all origins, may have. jalwedd_expect,
-                                   _trust: so would the origin, or as many are trusted as may be */
+    JALWEDD_CROWD = 25          /* it names more sources than its origin, or all origins, may have, or is a BYE too many
+                                   of its origin. jalwedd_expect, _trust: the origin would have too many sources, or as
+                                   many are trusted as may be */
 };
 
 /* A short text for each status, and for any other number. Two statuses with the same number share a text. */
@@ -173,7 +174,7 @@ static inline const char *jalwedd_text(uint32_t status)
     case JALWEDD_NO_MEMORY:   return "there is no memory";
     case JALWEDD_TOO_LONG:    return "the datagram is longer than UDP carries";
     case JALWEDD_STRANGER:    return "held back: it names a source of another origin";
-    case JALWEDD_CROWD:       return "held back: its origin names too many sources";
+    case JALWEDD_CROWD:       return "held back: its origin names too many sources, or says BYE too often";
     default:                  return "no status of this version";
     }
 }
@@ -223,8 +224,9 @@ typedef struct jalwedd_clock {
  * participant keeps a silent source. */
 typedef struct jalwedd_guard {
     uint32_t names;         /* how many sources an origin may have, up to 1,024, those included that left within the
-                               hold; 0 for no guard. With more than two for each second of the hold, one address can
-                               keep a participant from reporting: usually 8 */
+                               hold, and how many BYEs it may say as long as it has these; 0 for no guard. With more
+                               than two for each second of the hold, one address can keep a participant from reporting:
+                               usually 8 */
     uint32_t trusted_names; /* how many a trusted origin may have (jalwedd_trust), up to 1,024, if that is more */
     uint64_t hold;          /* in microseconds: usually 60,000,000 */
 } jalwedd_guard;
@@ -232,7 +234,7 @@ typedef struct jalwedd_guard {
 /* What a guard held back so far. */
 typedef struct jalwedd_counts {
     uint64_t strangers;     /* datagrams that named a source of another origin */
-    uint64_t crowds;        /* datagrams that named too many sources */
+    uint64_t crowds;        /* datagrams that named too many sources, or were a BYE too many */
     uint64_t last_stranger; /* the origin of the last stranger, or JALWEDD_NEVER */
     uint64_t last_crowd;    /* the origin of the last crowd, or JALWEDD_NEVER */
 } jalwedd_counts;

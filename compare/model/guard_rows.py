@@ -42,6 +42,11 @@ ALL = [
     # a crowd comes before a stranger that is named after it, and the stranger first before the crowd
     (GUARDED, ONE + [(named(2, 8, 9).replace("rtcp 2 1 ", f"rtcp 2 {HERE} "), CROWD),
                      (media(3, THERE, 20, csrc=7), STRANGER)]),
+    # an address says goodbye as often as it may have names, of one source or more; who comes back is let in
+    (GUARDED, ONE + [(goodbye(2, HERE, 7), standing(1)), (media(3, HERE, 7, 2), standing(1)),
+                     (goodbye(4, HERE_TOO, 7), standing(1)), (goodbye(5, HERE, 7), CROWD), (goodbye(6, HERE, 8), CROWD),
+                     (media(7, HERE, 7, 3), standing(1)), (media(7, HERE, 8), standing(1)),
+                     (goodbye(8, THERE, 9), standing(1))]),
     # what the participant refuses teaches the guard nothing
     (GUARDED, [(media(5, HERE, 7), standing(1)), (media(4, THERE, 8), "refused E2 Backwards"),
                ("rtcp 6 131072 00000000 80", "refused E5 Wire: F1 Short at 0"), (media(6, HERE, 8), standing(1))]),

@@ -25,7 +25,7 @@ MEANINGS = {
     "G3": "a payload type of 72 to 76, which may be RTCP", "G4": "an extension longer than the datagram",
     "G5": "padding that cannot be",
     "H1": "held back by the guard: it names a source of another address",
-    "H2": "held back by the guard: its address would have too many sources",
+    "H2": "held back by the guard: its address would have too many sources, or say BYE too often",
 }
 
 

@@ -62,8 +62,9 @@ pub struct Config {
 /// [`Refusal::Crowd`]: crate::Refusal::Crowd
 #[derive(Clone, Copy, Debug, PartialEq, Eq, Hash)]
 pub struct Guard {
-    /// How many sources an origin may have, 1 to 1,024, those included that left within the hold. With more than two
-    /// for each second of the hold, one address can keep a participant from reporting.
+    /// How many sources an origin may have, 1 to 1,024, those included that left within the hold, and how many BYEs it
+    /// may say as long as it has these. With more than two for each second of the hold, one address can keep a
+    /// participant from reporting.
     pub names: u32,
     /// How many sources a trusted origin may have ([`Participant::trust`](crate::Participant::trust)), up to 1,024, if
     /// that is more.
