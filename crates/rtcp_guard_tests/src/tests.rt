@@ -70,6 +70,58 @@ fn many_goodbyes(rt: HostRuntime) {
     assert!(rt; guard.arrive_rtcp(&compound, 2, 4, OWN) == Verdict::Stranger);
 }
 
+/// A source that says BYE, comes back, and says BYE again, as often as its origin may have sources. Then its goodbyes
+/// are held back, and the other source's too; what says no BYE passes. After the hold without a word all may again.
+#[test]
+fn leaving_again_and_again(rt: HostRuntime) {
+    let report = [0x80u8, 201, 0, 1, 0, 0, 0, 0xbb];
+    let goodbye = [
+        0x80u8, 201, 0, 1, 0, 0, 0, 0xbb, 0x81, 203, 0, 1, 0, 0, 0, 0xbb,
+    ];
+    let report = Compound::read(&report).expect(&rt, "a report");
+    let goodbye = Compound::read(&goodbye).expect(&rt, "a goodbye");
+    let guard = Guard::new(rt.alloc(), SETTINGS);
+    let mut guard = guard.expect(&rt, "memory for a guard");
+    for t in 0..2 {
+        assert!(rt; guard.arrive_rtcp(&report, 1, t, OWN) == Verdict::Pass);
+        assert!(rt; guard.arrive_rtcp(&goodbye, 1, t, OWN) == Verdict::Pass);
+    }
+    assert!(rt; guard.arrive_rtcp(&report, 1, 2, OWN) == Verdict::Pass);
+    assert!(rt; guard.arrive_rtcp(&goodbye, 1, 3, OWN) == Verdict::Crowd);
+    assert!(rt; guard.arrive_leaving(&[8], 8, 1, 3) == Verdict::Crowd);
+    assert!(rt; guard.arrive(&[8], 1, 3) == Verdict::Pass);
+    assert!(rt; guard.arrive_leaving(&[9], 9, 2, 3) == Verdict::Pass);
+    guard.check(12, 12);
+    assert!(rt; guard.arrive_rtcp(&goodbye, 1, 12, OWN) == Verdict::Crowd);
+    guard.check(13, 13);
+    assert!(rt; guard.arrive_rtcp(&goodbye, 1, 13, OWN) == Verdict::Pass);
+}
+
+/// Goodbyes stay with the source: they go where the host says that it is elsewhere, and not where it says that it is
+/// where it was. A BYE of the participant's own SSRC, and of a source that is not named, counts for none.
+#[test]
+fn goodbyes_of_a_source(rt: HostRuntime) {
+    let own = [
+        0x80u8, 201, 0, 1, 0, 0, 0, 0xbb, 0x81, 203, 0, 1, 0, 0, 0, 0xaa,
+    ];
+    let own = Compound::read(&own).expect(&rt, "a goodbye of the participant's");
+    let guard = Guard::new(rt.alloc(), SETTINGS);
+    let mut guard = guard.expect(&rt, "memory for a guard");
+    for t in 0..5 {
+        assert!(rt; guard.arrive_rtcp(&own, 1, t, OWN) == Verdict::Pass);
+        assert!(rt; guard.arrive_leaving(&[7], 8, 1, t) == Verdict::Pass);
+    }
+    assert!(rt; guard.arrive_leaving(&[7], 7, 1, 5) == Verdict::Pass);
+    assert!(rt; guard.arrive_leaving(&[7, 0xbb], 7, 1, 5) == Verdict::Pass);
+    assert!(rt; guard.expect(7, 1, 6));
+    assert!(rt; guard.arrive_leaving(&[7], 7, 1, 6) == Verdict::Crowd);
+    assert!(rt; guard.expect(7, 2, 7));
+    assert!(rt; guard.arrive_leaving(&[0xbb], 0xbb, 1, 7) == Verdict::Pass);
+    assert!(rt; guard.arrive_leaving(&[7], 7, 2, 7) == Verdict::Pass);
+    assert!(rt; guard.arrive_leaving(&[7], 7, 2, 7) == Verdict::Pass);
+    assert!(rt; guard.arrive_leaving(&[7], 7, 2, 7) == Verdict::Crowd);
+}
+
 /// An RTP packet with a CSRC of another origin is held back; the participant's own SSRC is not looked at.
 #[test]
 fn contributing_source(rt: HostRuntime) {
