@@ -118,6 +118,23 @@ fn crowd(rt: HostRuntime) {
     assert!(rt; sends(&mut guarded, 5, HERE_TOO, 9).is_ok());
 }
 
+/// A source that left as often as its address may have sources is let in, but no goodbye of that address is, of another
+/// source neither. The other address has goodbyes of its own.
+#[test]
+fn leaving_again_and_again(rt: HostRuntime) {
+    let mut guarded = guarded(&rt, rt.alloc());
+    let crowd = Err(Untaken::HeldBack(Reason::Crowd));
+    assert!(rt; leaves(&mut guarded, 5, HERE, 7).is_ok());
+    assert!(rt; sends(&mut guarded, 6, HERE, 7).is_ok());
+    assert!(rt; leaves(&mut guarded, 6, HERE_TOO, 7).is_ok());
+    assert!(rt; sends(&mut guarded, 7, HERE, 8).is_ok());
+    assert!(rt; leaves(&mut guarded, 7, HERE, 7) == crowd);
+    assert!(rt; leaves(&mut guarded, 7, HERE_TOO, 8) == crowd);
+    assert!(rt; guarded.held_back().crowds == 2);
+    assert!(rt; sends(&mut guarded, 8, HERE, 7).is_ok());
+    assert!(rt; leaves(&mut guarded, 8, THERE, 9).is_ok());
+}
+
 /// What the participant refuses anyhow claims nothing.
 #[test]
 fn refused(rt: HostRuntime) {
