@@ -105,13 +105,13 @@ fn run_text(rt: &HostRuntime, order: TextOrder) -> u8 {
 ///
 /// # Errors
 ///
-/// Each of [`RunFault`]. A generator that cannot be read is found first, then a refused configuration, both before a
-/// port is bound, and that before the file is created. No line is written before.
+/// Each of [`RunFault`]. A generator or a clock that cannot be read is found first, then a refused configuration, both
+/// before a port is bound, and that before the file is created. No line is written before.
 fn run_listen(rt: &HostRuntime, order: ListenOrder) -> Result<End, RunFault>
     requires { (1 ≤ order.turns) × (order.turns ≤ 1000000) }
 {
     let alloc = rt.alloc();
-    let order = drawn(rt, order)?;
+    let order = timed(rt, drawn(rt, order)?)?;
     let turns = most_turns(&order);
     let mut rng = Pcg32::seed_from_u64(order.seed);
     let word = rng.next_u32();
@@ -120,7 +120,6 @@ fn run_listen(rt: &HostRuntime, order: ListenOrder) -> Result<End, RunFault>
     }
     let table = table_of(alloc, order.config.capacity)?;
     let link = bound(rt, &order)?;
-    let order = timed(rt, order)?;
     tell_ports(rt, &order, link.endpoints())?;
     let recorder = recorder_of(rt, &order, word)?;
     let closing = closing(rt, &order, word)?;
@@ -328,8 +327,7 @@ fn drawn(rt: &HostRuntime, order: ListenOrder) -> Result<ListenOrder, RunFault>
 /// [`RunFault::Link`] where the clock cannot be read.
 fn timed(rt: &HostRuntime, order: ListenOrder) -> Result<ListenOrder, RunFault>
     requires { (1 ≤ order.turns) × (order.turns ≤ 1000000) }
-    ensures turns { IfOk result (λ timed. (1 ≤ timed.turns) × (timed.turns ≤ 1000000)) }
-    ensures capacity { IfOk result (λ timed. timed.config.capacity ≡ order.config.capacity) }
+    ensures { IfOk result (λ timed. (1 ≤ timed.turns) × (timed.turns ≤ 1000000)) }
 {
     let mut order = order;
     if order.reads_ntp {
