@@ -1,7 +1,8 @@
 //! Who speaks for a source, by where its datagrams come from (RFC 3550, 8.2): a guard that stands before a
 //! participant, and says of each arriving datagram whether it is passed on or held back. A source belongs to the
-//! origin that named it first, until it was silent for long; and an origin has few sources. The guard reads no clock,
-//! and no address: an origin is a number that the caller makes of one. It allocates when it is made, and never later.
+//! origin that named it first, until it was silent for long; an origin has few sources, and few of its goodbyes pass.
+//! The guard reads no clock, and no address: an origin is a number that the caller makes of one. It allocates when it
+//! is made, and never later.
 //!
 //! ```
 //! let settings = Settings { sources: 4, names: 2, trusted_names: 3, hold: 10 };

@@ -5,7 +5,7 @@ use Rattle.rtcp_guard.specs.declared.settings.Settings.{Settings}
 use Rattle.rtcp_guard.specs.declared.verdict.Verdict.TheVariants.{Pass, Crowd}
 use Rattle.rtcp_guard.specs.Claims.{Claim, goodbyes_of, held, is_named, is_of_another, owner_in, with_names}
 use Rattle.rtcp_guard.specs.Guarding.{GuardStep, datagram_came, check_made, source_expected, GuardValue, limit_of, new_guard, room_of, verdict_on}
-use Rattle.rtcp_guard.specs.Histories.{AreWithinHold, LosesNone, NamesOnly, are_among, guard_after, is_passed, owner_of, passed_about, passed_goodbyes, without, IsClaimedThroughout, IsNotMoved}
+use Rattle.rtcp_guard.specs.Histories.{AreWithinHold, IsWithinHold, LosesNone, NamesOnly, are_among, guard_after, is_passed, owner_of, passed_about, passed_goodbyes, without, IsClaimedThroughout, IsNotMoved}
 use Rattle.rtcp_guard.proofs.examples.GuardRows.{left_twice, small, named_by_one}
 
 abbrev by : ℕ → Option ℕ
@@ -78,53 +78,35 @@ fewer_goodbyes : ((settings : Settings) (history : List GuardStep) (origin : ℕ
     < limit_of origin settings (guard_after settings history).trusted) → ⊥
 fewer_goodbyes law = let two : 2 < 2 = law small left_twice 1 in omega (arith, two)
 
+within : (hold moment : ℕ) → moment ≤ hold → IsWithinHold hold 0 moment
+within hold moment before = record { from = omega arith; until = omega (arith, before) }
+
+within_left : (hold : ℕ) → 9 ≤ hold → AreWithinHold hold 0 left_twice
+within_left hold long = (
+  within hold 9 long,
+  (within hold 6 (omega (arith, long)), (within hold 1 (omega (arith, long)), (within hold 0 (omega arith), tt))),
+)
+
 -- As many as that are passed on in a hold.
 fewer_pass : ((settings : Settings) (origin first : ℕ) (newer older : List GuardStep) →
     AreWithinHold settings.hold first newer → LosesNone settings origin newer older →
     passed_goodbyes settings origin newer older
     < limit_of origin settings (guard_after settings (newer ++ older)).trusted) → ⊥
 fewer_pass law =
-    let two : 2 < 2 = law small 1 0 left_twice [] within tt in omega (arith, two)
-  where
-    within : AreWithinHold 10 0 left_twice
-    within = (
-      record { from = omega arith; until = omega arith },
-      (
-        record { from = omega arith; until = omega arith },
-        (
-          record { from = omega arith; until = omega arith },
-          (record { from = omega arith; until = omega arith }, tt),
-        ),
-      ),
-    )
+    let two : 2 < 2 = law small 1 0 left_twice [] (within_left 10 (omega arith)) tt in omega (arith, two)
 
--- In a stretch that is longer than the hold more may be.
-few_pass_ever : ((settings : Settings) (origin first : ℕ) (newer older : List GuardStep) →
-    AreWithinHold (settings.hold + 11) first newer → LosesNone settings origin newer older →
+-- In a stretch that is longer than the hold by one, more may be.
+few_pass_longer : ((settings : Settings) (origin first : ℕ) (newer older : List GuardStep) →
+    AreWithinHold (settings.hold + 1) first newer → LosesNone settings origin newer older →
     passed_goodbyes settings origin newer older
     ≤ limit_of origin settings (guard_after settings (newer ++ older)).trusted) → ⊥
-few_pass_ever law =
-    let three : 3 ≤ 2 = law small 1 0 (datagram_came 1 21 (7 ∷ []) (Some 7) ∷ check_made 20 20 ∷ left_twice) [] within
-    tt in
+few_pass_longer law =
+    let three : 3 ≤ 2 = law small 1 0 (datagram_came 1 11 (7 ∷ []) (Some 7) ∷ check_made 11 11
+    ∷ datagram_came 1 0 (7 ∷ []) (Some 7) ∷ datagram_came 1 0 (7 ∷ []) (Some 7) ∷ []) [] (
+      within 11 11 (omega arith),
+      (within 11 11 (omega arith), (within 11 0 (omega arith), (within 11 0 (omega arith), tt))),
+    ) tt in
     omega (arith, three)
-  where
-    within : AreWithinHold 21 0 (datagram_came 1 21 (7 ∷ []) (Some 7) ∷ check_made 20 20 ∷ left_twice)
-    within = (
-      record { from = omega arith; until = omega arith },
-      (
-        record { from = omega arith; until = omega arith },
-        (
-          record { from = omega arith; until = omega arith },
-          (
-            record { from = omega arith; until = omega arith },
-            (
-              record { from = omega arith; until = omega arith },
-              (record { from = omega arith; until = omega arith }, tt),
-            ),
-          ),
-        ),
-      ),
-    )
 
 -- Nor are they few where the host expects the origin's sources elsewhere meanwhile.
 few_pass_moved : ((settings : Settings) (origin first : ℕ) (newer older : List GuardStep) →
@@ -132,26 +114,8 @@ few_pass_moved : ((settings : Settings) (origin first : ℕ) (newer older : List
     ≤ limit_of origin settings (guard_after settings (newer ++ older)).trusted) → ⊥
 few_pass_moved law =
     let three : 3 ≤ 2 = law small 1 0 (datagram_came 1 10 (8 ∷ []) (Some 8) ∷ source_expected 7 2 10 ∷ left_twice) []
-    within in
+    (within 10 10 (omega arith), (within 10 10 (omega arith), within_left 10 (omega arith))) in
     omega (arith, three)
-  where
-    within : AreWithinHold 10 0 (datagram_came 1 10 (8 ∷ []) (Some 8) ∷ source_expected 7 2 10 ∷ left_twice)
-    within = (
-      record { from = omega arith; until = omega arith },
-      (
-        record { from = omega arith; until = omega arith },
-        (
-          record { from = omega arith; until = omega arith },
-          (
-            record { from = omega arith; until = omega arith },
-            (
-              record { from = omega arith; until = omega arith },
-              (record { from = omega arith; until = omega arith }, tt),
-            ),
-          ),
-        ),
-      ),
-    )
 
 -- Without goodbyes left a BYE does not pass.
 leaves_ever : ((guard : GuardValue) (origin moment : ℕ) (names : List ℕ) (goodbye : Option ℕ) →
