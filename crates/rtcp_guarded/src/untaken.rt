@@ -9,8 +9,9 @@ pub enum Reason {
     /// It names a source that belongs to another origin (RFC 3550, 8.2).
     #[error("names a source of another origin (RFC 3550, 8.2)")]
     Stranger,
-    /// By it its origin would have more sources than it may, or all origins together would.
-    #[error("names more sources than its origin, or all origins, may have")]
+    /// By it its origin would have more sources than it may, or all origins together would; or it says BYE, and its
+    /// origin has as many goodbyes as it may have sources.
+    #[error("names more sources, or says BYE more often, than its origin, or all origins, may")]
     Crowd,
 }
 
