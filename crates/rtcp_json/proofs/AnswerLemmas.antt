@@ -24,7 +24,7 @@ use Rattle.rtcp_json.proofs.ValueLemmas.{reason_ascii}
 
 -- ---- Steps
 
-next_fit : (next : Option ℕ) → IsMomentInRange next → IsFitTo 0 (optional_json number_json next)
+pub next_fit : (next : Option ℕ) → IsMomentInRange next → IsFitTo 0 (optional_json number_json next)
 next_fit None small = record { shallow = omega arith; fit = tt }
 next_fit (Some next) small = record { shallow = omega arith; fit = decimal_fit next small }
 

@@ -4,8 +4,10 @@ mod CheckJsonLemmas
 mod FitLemmas
 mod GuardedJsonLemmas
 mod LineLemmas
+mod NewsLemmas
 mod ReplayJsonLemmas
 mod SmallLemmas
+mod SourceLemmas
 mod TellingLemmas
 mod TextLemmas
 mod ToldLemmas

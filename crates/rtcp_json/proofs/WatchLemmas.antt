@@ -2,10 +2,26 @@
 use Rattle.std.proofs.Common.{◌≡◌, ◌∙◌, ap, ℕ, List, [], ◌∷◌, ◌++◌, Option, Some, None, refl, subst, sym}
 use Rattle.std.proofs.KnownBytes.{Appends-nil, Appends-trans}
 use Rattle.std.specs.Io.KnownBytes.{Appends}
-use Rattle.rtcp_serve.specs.Observers.{Notice, TakesAll}
+use Rattle.rtcp_engine.specs.answers.Acts.{EventValue}
+use Rattle.rtcp_engine.specs.state.States.{ParticipantValue}
+use Rattle.rtcp_guarded.specs.Guarded.{GuardedAnswer}
+use Rattle.rtcp_serve.specs.Observers.{Notice, TakesAll, event_told, telling}
 use Rattle.rtcp_text.specs.declared.fault.TextFault.{TextFault}
 use Rattle.rtcp_json.specs.declared.watcher.JsonWatcher.{JsonWatcher}
-use Rattle.rtcp_json.specs.Watchers.{ShowsNotice, ShowsNotices, Watches, fault_of, held_by, moment_after, moment_after_all, moment_told}
+use Rattle.rtcp_json.specs.Watchers.{ShowsNotice, ShowsNotices, Tells, Watches, fault_of, held_by, moment_after, moment_after_all, moment_told}
+use Rattle.rtcp_json.proofs.NewsLemmas.{may_list}
+
+-- What it wrote of an event.
+pub told_shown : {W : Type 0} {contents : W → Option (List ℕ)} {event : EventValue} {answer : GuardedAnswer}
+    {participant : ParticipantValue} {before after : JsonWatcher W}
+    → Tells contents event answer participant before after
+    → (text : List ℕ) × ShowsNotice (moment_told before) (event_told (telling event answer)) text
+    × Appends (held_by contents before) (held_by contents after) text
+told_shown tells = (
+  tells.line ++ tells.news,
+  (tells.line, tells.news, tells.tells, may_list _ _ _ _ _ tells.news tells.lists, refl),
+  tells.writes,
+)
 
 -- the moment of its last event
 moment_kept : {W : Type 0} (contents : W → Option (List ℕ)) (notices : List Notice) (before after : JsonWatcher W) →

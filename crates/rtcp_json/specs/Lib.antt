@@ -5,6 +5,7 @@ pub mod GuardedReplayJson
 pub mod JsonValues
 pub mod PacketValues
 pub mod ReplayJson
+pub mod SourceValues
 pub mod ToldValues
 pub mod Validity
 pub mod Watchers

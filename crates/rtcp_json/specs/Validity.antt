@@ -1,8 +1,10 @@
 -- What a line of JSON promises to whoever reads it, whatever a peer sent.
-use Rattle.std.specs.Prelude.{◌≡◌, ℕ, ◌^◌, ◌<◌, Option, Some, None, Ok, Err, IfSome}
+use Rattle.std.specs.Prelude.{◌≡◌, ℕ, pos, negsuc, ◌^◌, ◌<◌, ◌≤ℤ◌, All, Option, Some, None, Ok, Err, IfSome}
 use Rattle.std.specs.Str.{IsUtf8}
 use Rattle.json.specs.Json.{Json, document}
 use Rattle.rtcp_wire.specs.Grammar.{AreOctets}
+use Rattle.rtcp_source.specs.Receptions.{ReceptionValue}
+use Rattle.rtcp_members.specs.Listings.{StateValue}
 use Rattle.rtcp_engine.specs.answers.Acts.{EventValue}
 use Rattle.rtcp_engine.specs.answers.Steps.{StepValue}
 use Rattle.rtcp_engine.specs.declared.refusal.Refusal.{Refusal}
@@ -12,6 +14,7 @@ use Rattle.rtcp_guarded.specs.declared.untaken.Untaken.TheVariants.{Refused, Hel
 use Rattle.rtcp_serve.specs.declared.serving.End.{End}
 use Rattle.rtcp_text.specs.Lines.{HasNoLineFeed}
 use Rattle.rtcp_json.specs.JsonValues.{json_text}
+use Rattle.rtcp_json.specs.SourceValues.{Listing}
 use Rattle.rtcp_json.specs.ToldValues.{datagram_of_event, moment_of_event}
 
 -- The text is one document of JSON (RFC 8259), which is read as this value. It is UTF-8 and has no line feed, so the
@@ -60,3 +63,21 @@ pub record IsEndInRange (ended : End) : Type 0 where
   pub sent : ended.sent < 2 ^ 64
   pub send_failures : ended.send_failures < 2 ^ 64
   pub recv_failures : ended.recv_failures < 2 ^ 64
+
+-- ---- Those of who is there
+
+pub record IsReceptionInRange (reception : ReceptionValue) : Type 0 where
+  pub received : reception.received < 2 ^ 64
+  pub least : negsuc 2147483647 ≤ℤ reception.lost
+  pub greatest : reception.lost ≤ℤ pos 2147483647
+  pub jitter : reception.jitter < 2 ^ 32
+  pub rate : reception.rate < 2 ^ 32
+
+pub record IsSourceInRange (state : StateValue) : Type 0 where
+  pub left : IsMomentInRange state.left
+  pub reception : IfSome state.reception IsReceptionInRange
+
+pub record IsListingInRange (listing : Listing) : Type 0 where
+  pub members : listing.members < 2 ^ 32
+  pub senders : listing.senders < 2 ^ 32
+  pub sources : All IsSourceInRange listing.sources

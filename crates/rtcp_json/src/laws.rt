@@ -21,8 +21,9 @@ ghost use Rattle.rtcp_json.specs.CheckJson.{IsJsonOf};
 ghost use Rattle.rtcp_json.specs.GuardedReplayJson.{IsGuardedJsonOf};
 ghost use Rattle.rtcp_json.specs.PacketValues.{datagram_json, fault_json};
 ghost use Rattle.rtcp_json.specs.ReplayJson.{IsSessionJsonOf};
+ghost use Rattle.rtcp_json.specs.SourceValues.{Listing, dated_json};
 ghost use Rattle.rtcp_json.specs.ToldValues.{IsShownIfSome, TellsInJson, datagram_of_event, end_json, told_json, unsent_json};
-ghost use Rattle.rtcp_json.specs.Validity.{IsAnswerInRange, IsEndInRange, IsEventInRange, IsMomentInRange, IsRefusalInRange, IsStepInRange, IsValidLine};
+ghost use Rattle.rtcp_json.specs.Validity.{IsAnswerInRange, IsEndInRange, IsEventInRange, IsListingInRange, IsMomentInRange, IsRefusalInRange, IsStepInRange, IsValidLine};
 ghost use Rattle.rtcp_json.specs.Watchers.{ShowsNotices, Watches, fault_of, held_by, moment_told};
 ghost use Rattle.rtcp_json.specs.declared.watcher.JsonWatcher.{JsonWatcher};
 
@@ -51,6 +52,8 @@ pub fn told_lines_are_json()
     ensures told { (event : EventValue) (datagram : Json) (answer : GuardedAnswer) → IsEventInRange event →
         IsShownIfSome (datagram_of_event event) datagram → IsAnswerInRange answer →
         IsValidLine (told_json event datagram answer) }
+    ensures listed { (moment : ℕ) (listing : Listing) → moment < 2 ^ 64 → IsListingInRange listing →
+        IsValidLine (dated_json moment listing) }
     ensures unsent { (moment : ℕ) → moment < 2 ^ 64 → IsValidLine (unsent_json moment) }
     ensures ended { (ended : End) → IsEndInRange ended → IsValidLine (end_json ended) }
 {}

@@ -2,7 +2,7 @@
 //! object, and [`check_json`] does so for datagrams, one line of hex each. [`replay_json`] runs a participant over the
 //! events of a session, one a line, and [`replay_guarded_json`] one with a guard before it. A [`JsonWatcher`] observes
 //! a session on a link, and writes a line for each RTCP datagram and for each other event whose answer says something
-//! ([`push_told_json`]). One more line says how the session ended ([`push_end_json`]).
+//! ([`push_told_json`]), and once a second who is there. One more line says how the session ended ([`push_end_json`]).
 //!
 //! Octets and SSRCs are strings of hex digits, other numbers are exact, and texts of a peer are strings in which U+FFFD
 //! stands for what is no UTF-8. So each line is JSON whatever a peer sends ([`laws::lines_are_json`],
@@ -16,12 +16,14 @@
 //! assert_eq!(rt; text.as_slice(), line.as_slice());
 //! ```
 //!
-//! `specs/` defines the values of datagrams (`PacketValues`), of answers (`AnswerValues`) and of a session on a link
-//! (`ToldValues`), the lines of values (`JsonValues`) and what they promise (`Validity`), the texts of whole inputs
-//! (`CheckJson`, `ReplayJson`, `GuardedReplayJson`), and what a watcher writes (`Watchers`).
+//! `specs/` defines the values of datagrams (`PacketValues`), of answers (`AnswerValues`), of a session on a link
+//! (`ToldValues`) and of its sources (`SourceValues`), the lines of values (`JsonValues`) and what they promise
+//! (`Validity`), the texts of whole inputs (`CheckJson`, `ReplayJson`, `GuardedReplayJson`), and what a watcher writes
+//! (`Watchers`).
 #![tactic(auto)]
 
 mod answers;
+mod board;
 mod check;
 mod descriptions;
 mod ends;
@@ -33,6 +35,7 @@ mod player;
 mod refusals;
 mod replay;
 mod reports;
+mod sources;
 mod told;
 mod watcher;
 

@@ -1,10 +1,12 @@
 -- Worked examples of the lines of a session on a link.
-use Rattle.std.proofs.Common.{◌≡◌, ℕ, [], ◌∷◌, ◌++◌, Option, Some, None, Bool, true, false, Ok, Err, codes, refl}
+use Rattle.std.proofs.Common.{◌≡◌, ℕ, [], ◌∷◌, ◌++◌, Option, Some, None, is_some, is_none, Bool, true, false, Ok, Err, negsuc, codes, refl}
 use Rattle.std.specs.Fmt.{digits}
 use Rattle.hex.specs.Hex.{encode_with}
 use Rattle.json.specs.Json.{null}
 use Rattle.json.specs.Print.{escape_byte, print_from}
 use Rattle.rtcp_wire.specs.Values.{rr}
+use Rattle.rtcp_source.specs.Receptions.{ReceptionValue}
+use Rattle.rtcp_members.specs.Listings.{StateValue}
 use Rattle.rtcp_engine.specs.answers.Acts.{rtcp_arrived, rtp_arrived, time_passed, leave_asked}
 use Rattle.rtcp_engine.specs.answers.Steps.{StepValue}
 use Rattle.rtcp_engine.specs.declared.refusal.Refusal.TheVariants.{TooFar}
@@ -13,7 +15,9 @@ use Rattle.rtcp_guarded.specs.declared.untaken.Untaken.TheVariants.{Refused, Hel
 use Rattle.rtcp_serve.specs.declared.serving.Cause.TheVariants.{Done}
 use Rattle.rtcp_json.specs.JsonValues.{json_line}
 use Rattle.rtcp_json.specs.PacketValues.{datagram_json}
+use Rattle.rtcp_json.specs.SourceValues.{dated_json}
 use Rattle.rtcp_json.specs.ToldValues.{end_json, is_shown, peer_text, told_json, unsent_json}
+use Rattle.rtcp_json.specs.Watchers.{is_due}
 
 -- the number of 127.0.0.1:5007
 abbrev a_peer : ℕ
@@ -57,6 +61,47 @@ record Lines : Type 0 where
 lines : Lines
 unfolding digits encode_with escape_byte print_from
 lines = record { held_back = refl; renamed = refl; unsent = refl; ended = refl }
+
+-- a source by its SSRC, and how its packets come
+abbrev a_source : (ssrc : ℕ) → (left : Option ℕ) → Option ReceptionValue → StateValue
+a_source ssrc left reception = record {
+  ssrc = ssrc;
+  member = is_none left;
+  sender = is_some reception;
+  left = left;
+  heard = 0;
+  reception = reception;
+  last_report = None;
+  last_block = None;
+}
+
+abbrev a_reception : ReceptionValue
+a_reception = record { received = 150; octets = 24000; lost = negsuc 1; highest = 150; jitter = 3; rate = 8000 }
+
+record Listings : Type 0 where
+  nobody : json_line (dated_json 0 (record { members = 0; senders = 0; sources = [] }))
+      ≡ codes "{\"moment\":0,\"members\":0,\"senders\":0,\"sources\":[]}" ++ 10 ∷ []
+  two : json_line (dated_json 4000000 (record {
+    members = 2;
+    senders = 1;
+    sources = a_source 7 None (Some a_reception) ∷ a_source 187 (Some 3500000) None ∷ [];
+  })) ≡ codes "{\"moment\":4000000,\"members\":2,\"senders\":1,\"sources\":["
+      ++ codes "{\"ssrc\":\"00000007\",\"member\":true,\"sender\":true,\"left\":null,"
+      ++ codes "\"packets\":150,\"lost\":-2,\"jitter\":3,\"rate\":8000},"
+      ++ codes "{\"ssrc\":\"000000bb\",\"member\":false,\"sender\":false,\"left\":3500000,"
+      ++ codes "\"packets\":null,\"lost\":null,\"jitter\":null,\"rate\":null}]}" ++ 10 ∷ []
+
+listings : Listings
+unfolding digits encode_with escape_byte print_from
+listings = record { nobody = refl; two = refl }
+
+record Due : Type 0 where
+  first_second : is_due 0 999999 ≡ false
+  next_second : is_due 0 1000000 ≡ true
+  same_second : is_due 1 1999999 ≡ false
+
+due : Due
+due = record { first_second = refl; next_second = refl; same_second = refl }
 
 record Peers : Type 0 where
   least : peer_text 0 ≡ codes "0.0.0.0:0"
