@@ -1,7 +1,7 @@
 //! Lines of JSON.
 
 use arrayvec::ArrayVec;
-use rtcp_engine::Config;
+use rtcp_engine::{Config, Step};
 use rtcp_json::push_json;
 use rtcp_wire::Compound;
 use std::process::Abort;
@@ -34,6 +34,19 @@ pub(crate) fn plain() -> Config {
         rate: 8000,
         clocks: ArrayVec::new(),
         ntp_base: 0,
+    }
+}
+
+/// An answer of two members that says nothing else.
+pub(crate) fn quiet() -> Step {
+    Step {
+        members: 2,
+        senders: 1,
+        entries: 1,
+        next: Some(1_026_037),
+        changed: None,
+        others_changed: false,
+        out: None,
     }
 }
 

@@ -1,6 +1,6 @@
 //! Lines of events with their answers, and of the end.
 
-use super::{PEER, same};
+use super::{PEER, quiet, same};
 use arrayvec::ArrayVec;
 use rtcp_engine::{ConfigError, Event, Out, OutKind, Refusal, Settings, Step};
 use rtcp_guarded::{GuardedAnswer, Reason, Untaken};
@@ -29,19 +29,6 @@ fn tells(
     same(rt, before, BEFORE.as_bytes(), want);
     same(rt, line, want.as_bytes(), want);
     Ok(())
-}
-
-/// An answer of two members that says nothing else.
-fn quiet() -> Step {
-    Step {
-        members: 2,
-        senders: 1,
-        entries: 1,
-        next: Some(1_026_037),
-        changed: None,
-        others_changed: false,
-        out: None,
-    }
 }
 
 /// An RTCP datagram of these octets.
