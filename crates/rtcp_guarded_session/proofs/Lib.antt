@@ -8,3 +8,4 @@ mod Origins
 mod Saying
 mod Passing
 mod Reporting
+mod examples

@@ -1,0 +1,2 @@
+mod GoodbyeRows
+mod GoodbyeWrongs
