@@ -8,7 +8,7 @@ use Rattle.rtcp_engine.specs.answers.Acts.{Act, arrived, rtp_sent, ticked, left,
 use Rattle.rtcp_engine.specs.answers.Histories.{History}
 use Rattle.rtcp_session.specs.Departures.{departures_within, is_departure_after}
 use Rattle.rtcp_guarded.specs.Guarded.{origin_of}
-use Rattle.rtcp_guarded_session.specs.Goodbyes.{departures_by, goodbyes_from, is_from, is_from_any, others_than}
+use Rattle.rtcp_guarded_session.specs.Goodbyes.{departures_by, departures_from, is_from, is_from_any, other_departures}
 
 -- ---- Sums
 
@@ -154,12 +154,12 @@ module _ (origins : List ℕ) (setup : Setup) (word from until : ℕ) where
 pub departures_are_once : (history : History) (origins : List ℕ) (from until : ℕ) →
     IsDistinct (λ one other. one == other) origins →
     departures_within history.setup history.word from until history.acts
-    ≡ sum_by (λ origin. goodbyes_from origin from until history) origins + others_than origins from until history
+    ≡ sum_by (λ origin. departures_from origin from until history) origins + other_departures origins from until history
 departures_are_once history origins from until distinct =
     all_once origins history.setup history.word from until distinct history.acts
 
 pub departures_are_among : (history : History) (origins : List ℕ) (from until : ℕ) →
     departures_within history.setup history.word from until history.acts
-    ≤ sum_by (λ origin. goodbyes_from origin from until history) origins + others_than origins from until history
+    ≤ sum_by (λ origin. departures_from origin from until history) origins + other_departures origins from until history
 departures_are_among history origins from until =
     all_at_least_once origins history.setup history.word from until history.acts

@@ -20,7 +20,7 @@ use Rattle.rtcp_guard.specs.Histories.{AreWithinHold as StepsWithinHold, IsWithi
 use Rattle.rtcp_guarded.specs.Claimed.{AllNameFew, followed}
 use Rattle.rtcp_guarded.specs.Guarded.{Course, GuardedAct, GuardedHistory, told, expected, trusted, course_after, course_at, course_unless, course_with, goodbye_for, guard_at, names_for, origin_of, passed_at, passed_on, steps_with, verdict_in}
 use Rattle.rtcp_session.specs.Departures.{is_departure_after}
-use Rattle.rtcp_guarded_session.specs.Goodbyes.{AreWithinHold, IsStretch, LosesNone, departures_by, goodbyes_from, is_from}
+use Rattle.rtcp_guarded_session.specs.Goodbyes.{AreWithinHold, IsStretch, LosesNone, departures_by, departures_from, is_from}
 
 -- ---- Counts of one act
 
@@ -133,7 +133,7 @@ module _
     older_steps = (course_at older).steps
 
     abbrev said : History → ℕ
-    said history = goodbyes_from origin from until history
+    said history = departures_from origin from until history
 
     -- What the guard did since, and the goodbyes in that.
     record Brought (course : Course) : Type 0 where
@@ -313,7 +313,7 @@ module _
         ≤ limit_of origin settings (guard_after settings (newer ++ older)).trusted)
       where
         pub few_are_said : (newer : List GuardedAct) → IsStretch from newer older → LosesNone origin newer older →
-            goodbyes_from origin from until (passed_at (followed older newer))
+            departures_from origin from until (passed_at (followed older newer))
             ≤ limit_of origin older.settings (guard_at (followed older newer)).trusted
         few_are_said newer stretch loses =
             let b = all_brought newer stretch.passed stretch.few stretch.within loses in

@@ -11,7 +11,7 @@ use Rattle.rtcp_guarded.specs.Claimed.{followed}
 use Rattle.rtcp_guarded.specs.Guarded.{GuardedAct, GuardedHistory, guard_at, passed_at}
 use Rattle.rtcp_session.specs.Departures.{departures_within}
 use Rattle.rtcp_session.specs.Falls.{AllWaitAtMost, HasReport, TicksWithin}
-use Rattle.rtcp_guarded_session.specs.Goodbyes.{IsStretch, LosesNone, goodbyes_from, others_than, sources_allowed}
+use Rattle.rtcp_guarded_session.specs.Goodbyes.{IsStretch, LosesNone, departures_from, other_departures, sources_allowed}
 use Rattle.rtcp_guarded_session.proofs.Origins.{departures_are_among}
 
 first_is_contained : (x : ℕ) (xs : List ℕ) → Contains (x ∷ xs) x
@@ -37,7 +37,7 @@ module _
     from + (departures + 1) * (wait + lag) ≤ until → HasReport from until (reports_in (sent_at history)))
     (few_said : (older : GuardedHistory) (newer : List GuardedAct) (origin from until : ℕ) →
     IsStretch from newer older → LosesNone origin newer older → let history = followed older newer in
-    goodbyes_from origin from until (passed_at history)
+    departures_from origin from until (passed_at history)
     ≤ limit_of origin history.settings (guard_at history).trusted)
   where
     pub origins_put_off_few : (older : GuardedHistory) (newer : List GuardedAct) (origins : List ℕ)
@@ -45,14 +45,14 @@ module _
         ((origin : ℕ) → Contains origins origin → LosesNone origin newer older) →
         let history = followed older newer in let passed = passed_at history in
         AllWaitAtMost wait from passed.setup passed.word passed.acts → TicksWithin lag from until passed.acts →
-        others_than origins from until passed ≤ others →
+        other_departures origins from until passed ≤ others →
         from + (sources_allowed origins history + others + 1) * (wait + lag) ≤ until →
         HasReport from until (reports_in (sent_at passed))
     origins_put_off_few older newer origins wait lag from until others stretch lose waits often few room =
         let history = followed older newer in
         let passed = passed_at history in
         let among = departures_are_among passed origins from until in
-        let said = sums (λ origin. goodbyes_from origin from until passed)
+        let said = sums (λ origin. departures_from origin from until passed)
         (λ origin. limit_of origin history.settings (guard_at history).trusted) origins
         (λ origin there. few_said older newer origin from until stretch (lose origin there)) in
         departures_put_off_few passed wait lag from until (sources_allowed origins history + others)
@@ -62,14 +62,14 @@ module _
         (origin wait lag from until others : ℕ) → IsStretch from newer older → LosesNone origin newer older →
         let history = followed older newer in let passed = passed_at history in
         AllWaitAtMost wait from passed.setup passed.word passed.acts → TicksWithin lag from until passed.acts →
-        others_than (origin ∷ []) from until passed ≤ others →
+        other_departures (origin ∷ []) from until passed ≤ others →
         from + (limit_of origin history.settings (guard_at history).trusted + others + 1) * (wait + lag) ≤ until →
         HasReport from until (reports_in (sent_at passed))
     origin_puts_off_few older newer origin wait lag from until others stretch loses waits often few room =
         let history = followed older newer in
         let passed = passed_at history in
         let among = departures_are_among passed (origin ∷ []) from until in
-        let alone = sum_by-cons (λ one. goodbyes_from one from until passed) origin [] in
+        let alone = sum_by-cons (λ one. departures_from one from until passed) origin [] in
         let said = few_said older newer origin from until stretch loses in
         departures_put_off_few passed wait lag from until
         (limit_of origin history.settings (guard_at history).trusted + others) stretch.passed waits often

@@ -106,8 +106,8 @@ module _
         is_about own datagram ≡ false → is_departure setup (arrived moment peer word datagram) life ≡ true →
         says_goodbye own datagram ≡ true
     departing_says setup life own moment peer word (rtcp size (Ok packets)) unnamed departs =
-        compound_says own size packets unnamed (may_depart setup (arrived moment peer word (rtcp size (Ok packets))) life
-        departs)
+        compound_says own size packets unnamed
+        (may_depart setup (arrived moment peer word (rtcp size (Ok packets))) life departs)
     departing_says setup life own moment peer word (rtcp size (Err fault)) unnamed departs =
         absurd (never (may_depart setup (arrived moment peer word (rtcp size (Err fault))) life departs))
     departing_says setup life own moment peer word (rtp reading) unnamed departs =

@@ -1,2 +1,3 @@
 mod GoodbyeRows
 mod GoodbyeWrongs
+mod ReportRows

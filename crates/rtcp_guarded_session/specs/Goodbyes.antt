@@ -1,5 +1,5 @@
--- Departures at a guarded participant, by where they come from (RFC 3550, 6.3.4 and 8.2). Lists are newest first; moments
--- are in microseconds.
+-- Departures at a guarded participant, by where they come from (RFC 3550, 6.3.4 and 8.2). Lists are newest first;
+-- moments are in microseconds.
 use Rattle.std.specs.Prelude.{ℕ, ◌≡◌, ◌+◌, ◌≤◌, ◌==◌, ◌&&◌, not, nat_lt, nat_le, Bool, false, List, [], ◌∷◌, if◌then◌else◌, Some, None}
 use Rattle.std.specs.List.{list_any, sum_by}
 use Rattle.rtcp_engine.specs.answers.Setups.{Setup}
@@ -33,14 +33,14 @@ departures_by test setup word from until (act ∷ earlier) =
     + departures_by test setup word from until earlier
 
 -- how many of them are by datagrams of an origin: members that say BYE there
-abbrev pub goodbyes_from : (origin from until : ℕ) → History → ℕ
-goodbyes_from origin from until history =
+abbrev pub departures_from : (origin from until : ℕ) → History → ℕ
+departures_from origin from until history =
     departures_by (is_from origin) history.setup history.word from until history.acts
 
 -- How many of them are by no datagram of these origins: time-outs, sources that the host says are gone, and BYEs that
 -- come from elsewhere.
-abbrev pub others_than : (origins : List ℕ) → (from until : ℕ) → History → ℕ
-others_than origins from until history =
+abbrev pub other_departures : (origins : List ℕ) → (from until : ℕ) → History → ℕ
+other_departures origins from until history =
     departures_by (λ act. not (is_from_any origins act)) history.setup history.word from until history.acts
 
 -- how many sources these origins may have together
@@ -69,8 +69,8 @@ LosesNone origin (expected ssrc other moment ∷ newer) older =
     (owner_at ssrc (followed older newer) ≡ Some origin → other ≡ origin) × LosesNone origin newer older
 LosesNone origin (trusted other ∷ newer) older = LosesNone origin newer older
 
--- A participant takes these acts from a moment on, those at least that are neither refused nor held back, and they are
--- over within the hold.
+-- A stretch of a history that a participant can have: what it took before came by a moment, and what these acts bring
+-- comes from that moment on, and within the hold.
 pub record IsStretch (from : ℕ) (newer : List GuardedAct) (older : GuardedHistory) : Type 0 where
   pub passed : IsHistory (passed_at (followed older newer))
   pub few : AllNameFew newer

@@ -13,8 +13,8 @@ ghost use Rattle.rtcp_session.specs.Falls.{AllWaitAtMost, HasReport, TicksWithin
 ghost use Rattle.rtcp_guarded_session.specs.Goodbyes.{
   IsStretch,
   LosesNone,
-  goodbyes_from,
-  others_than,
+  departures_from,
+  other_departures,
   sources_allowed,
 };
 
@@ -31,7 +31,7 @@ pub fn few_origins_put_off_few_reports()
         IsStretch from newer older → LosesNone origin newer older →
         let history = followed older newer in let passed = passed_at history in
         AllWaitAtMost wait from passed.setup passed.word passed.acts → TicksWithin lag from until passed.acts →
-        others_than (origin ∷ []) from until passed ≤ others →
+        other_departures (origin ∷ []) from until passed ≤ others →
         from + (limit_of origin history.settings (guard_at history).trusted + others + 1) * (wait + lag) ≤ until →
         HasReport from until (reports_in (sent_at passed)) }
     ensures few { (older : GuardedHistory) (newer : List GuardedAct) (origins : List ℕ)
@@ -39,7 +39,7 @@ pub fn few_origins_put_off_few_reports()
         ((origin : ℕ) → Contains origins origin → LosesNone origin newer older) →
         let history = followed older newer in let passed = passed_at history in
         AllWaitAtMost wait from passed.setup passed.word passed.acts → TicksWithin lag from until passed.acts →
-        others_than origins from until passed ≤ others →
+        other_departures origins from until passed ≤ others →
         from + (sources_allowed origins history + others + 1) * (wait + lag) ≤ until →
         HasReport from until (reports_in (sent_at passed)) }
 {
@@ -53,7 +53,7 @@ pub fn few_origins_put_off_few_reports()
 pub fn origins_make_few_depart()
     ensures { (older : GuardedHistory) (newer : List GuardedAct) (origin from until : ℕ) →
         IsStretch from newer older → LosesNone origin newer older → let history = followed older newer in
-        goodbyes_from origin from until (passed_at history)
+        departures_from origin from until (passed_at history)
         ≤ limit_of origin history.settings (guard_at history).trusted }
 {
     compounds_name_their_sources();
@@ -65,12 +65,12 @@ pub fn origins_make_few_depart()
 /// Each departure is by a datagram of one of these origins, or by none of theirs. Where no origin stands twice among
 /// them, it is counted once.
 #[tactic(auto, using(crate::proofs::Origins::departures_are_among, crate::proofs::Origins::departures_are_once))]
-pub fn departures_have_origins()
+pub fn departures_split_by_origin()
     ensures each { (history : History) (origins : List ℕ) (from until : ℕ) →
         departures_within history.setup history.word from until history.acts
-        ≤ sum_by (λ origin. goodbyes_from origin from until history) origins + others_than origins from until history }
+        ≤ sum_by (λ origin. departures_from origin from until history) origins + other_departures origins from until history }
     ensures once { (history : History) (origins : List ℕ) (from until : ℕ) →
         IsDistinct (λ one other. one == other) origins →
         departures_within history.setup history.word from until history.acts
-        ≡ sum_by (λ origin. goodbyes_from origin from until history) origins + others_than origins from until history }
+        ≡ sum_by (λ origin. departures_from origin from until history) origins + other_departures origins from until history }
 {}

@@ -1,14 +1,15 @@
--- Worked rows: departures by where they come from. A participant has SSRC 170 and a guard by which an origin may have two
--- sources, and a trusted one three. The hold is a minute. The source 7 speaks from the origin 1, and 8 from the origin 2.
+-- Worked rows: departures by where they come from. A participant has SSRC 170 and a guard by which an origin may have
+-- two sources, and a trusted one three. The hold is a minute. The source 7 is the origin 1's, and 8 the origin 2's.
 use Rattle.std.proofs.Common.{◌≡◌, ℕ, ◌+◌, ◌*◌, true, false, List, [], ◌∷◌, Some, None, Ok, refl, arith}
 use Rattle.rtcp_wire.specs.Values.{rr, sdes, bye}
 use Rattle.rtcp_engine.specs.answers.Setups.{Setup, IsUsable}
 use Rattle.rtcp_engine.specs.answers.Acts.{Act, arrived, rtcp, ticked, forgotten}
+use Rattle.rtcp_engine.specs.answers.Histories.{setup_at}
 use Rattle.rtcp_engine.proofs.LawLemmas.{usable_is_unrefused}
 use Rattle.rtcp_guard.specs.declared.settings.Settings.{Settings}
 use Rattle.rtcp_guarded.specs.Claimed.{owner_at}
 use Rattle.rtcp_guarded.specs.Guarded.{GuardedAct, GuardedHistory, told, expected, trusted, passed_at}
-use Rattle.rtcp_guarded_session.specs.Goodbyes.{IsStretch, LosesNone, goodbyes_from, is_from, is_from_any, others_than, sources_allowed}
+use Rattle.rtcp_guarded_session.specs.Goodbyes.{IsStretch, LosesNone, departures_from, is_from, is_from_any, other_departures, sources_allowed}
 
 abbrev pub setup : Setup
 setup = record {
@@ -72,54 +73,66 @@ abbrev pub both_leave : List GuardedAct
 both_leave =
     told (leaves 300 2 8) ∷ told (leaves 200 1 7) ∷ told (named 150 2 8) ∷ told (named 100 1 7) ∷ []
 
-of_the_first : goodbyes_from 1 0 1000 (passed_at (after both_leave)) ≡ 1
+of_the_first : departures_from 1 0 1000 (passed_at (after both_leave)) ≡ 1
 of_the_first = refl
 
-of_the_second : goodbyes_from 2 0 1000 (passed_at (after both_leave)) ≡ 1
+of_the_second : departures_from 2 0 1000 (passed_at (after both_leave)) ≡ 1
 of_the_second = refl
 
-of_none : goodbyes_from 3 0 1000 (passed_at (after both_leave)) ≡ 0
+of_none : departures_from 3 0 1000 (passed_at (after both_leave)) ≡ 0
 of_none = refl
 
-others_than_the_first : others_than (1 ∷ []) 0 1000 (passed_at (after both_leave)) ≡ 1
-others_than_the_first = refl
+but_the_first : other_departures (1 ∷ []) 0 1000 (passed_at (after both_leave)) ≡ 1
+but_the_first = refl
 
-others_than_both : others_than (1 ∷ 2 ∷ []) 0 1000 (passed_at (after both_leave)) ≡ 0
-others_than_both = refl
+but_both : other_departures (1 ∷ 2 ∷ []) 0 1000 (passed_at (after both_leave)) ≡ 0
+but_both = refl
 
-others_than_none : others_than [] 0 1000 (passed_at (after both_leave)) ≡ 2
-others_than_none = refl
+but_none : other_departures [] 0 1000 (passed_at (after both_leave)) ≡ 2
+but_none = refl
 
 -- not at the first moment, but at the last one
-not_at_the_first : goodbyes_from 1 200 1000 (passed_at (after both_leave)) ≡ 0
+not_at_the_first : departures_from 1 200 1000 (passed_at (after both_leave)) ≡ 0
 not_at_the_first = refl
 
-at_the_last : goodbyes_from 1 199 200 (passed_at (after both_leave)) ≡ 1
+at_the_last : departures_from 1 199 200 (passed_at (after both_leave)) ≡ 1
 at_the_last = refl
 
-not_after_the_last : goodbyes_from 1 100 199 (passed_at (after both_leave)) ≡ 0
+not_after_the_last : departures_from 1 100 199 (passed_at (after both_leave)) ≡ 0
 not_after_the_last = refl
 
 -- A BYE from another origin is held back, and nobody departs by it.
-forged : goodbyes_from 2 0 1000 (passed_at (after (told (leaves 200 2 7) ∷ told (named 100 1 7) ∷ []))) ≡ 0
+forged : departures_from 2 0 1000 (passed_at (after (told (leaves 200 2 7) ∷ told (named 100 1 7) ∷ []))) ≡ 0
 forged = refl
 
 -- One of a source that is no member is passed on, and nobody departs by it.
-no_member : goodbyes_from 1 0 1000 (passed_at (after (told (leaves 200 1 7) ∷ []))) ≡ 0
+no_member : departures_from 1 0 1000 (passed_at (after (told (leaves 200 1 7) ∷ []))) ≡ 0
 no_member = refl
+
+-- A compound says BYE of the participant too, which takes another SSRC then, and of a member.
+abbrev pub both_said : List GuardedAct
+both_said =
+    told (arrived 200 (peer 1) 187 (rtcp 20 (Ok (rr 7 [] [] ∷ bye (170 ∷ 7 ∷ []) None ∷ []))))
+    ∷ told (named 100 1 7) ∷ []
+
+said_of_both : departures_from 1 0 1000 (passed_at (after both_said)) ≡ 1
+said_of_both = refl
+
+other_ssrc : (setup_at (passed_at (after both_said))).ssrc ≡ 187
+other_ssrc = refl
 
 -- The host says that a member is gone, and that comes from no origin.
 abbrev pub one_is_gone : List GuardedAct
 one_is_gone = told (forgotten 200 7) ∷ told (named 100 1 7) ∷ []
 
-gone_is_no_goodbye : goodbyes_from 1 0 1000 (passed_at (after one_is_gone)) ≡ 0
+gone_is_no_goodbye : departures_from 1 0 1000 (passed_at (after one_is_gone)) ≡ 0
 gone_is_no_goodbye = refl
 
-gone_is_another : others_than (1 ∷ []) 0 1000 (passed_at (after one_is_gone)) ≡ 1
+gone_is_another : other_departures (1 ∷ []) 0 1000 (passed_at (after one_is_gone)) ≡ 1
 gone_is_another = refl
 
 -- A member was silent for too long: 12.5 seconds before the first report.
-timed_out : others_than (1 ∷ []) 0 20000000
+timed_out : other_departures (1 ∷ []) 0 20000000
     (passed_at (after (told (ticked 12500101 4294967295 0) ∷ told (named 100 1 7) ∷ []))) ≡ 1
 timed_out = refl
 

@@ -1,5 +1,5 @@
--- What would be wrong of goodbyes: each statement here is a law with a part left out or a bound that is reached, and there
--- is a session of which it does not hold.
+-- What would be wrong of goodbyes: each statement here is a law with a part left out or a bound that is reached, and
+-- there is a session of which it does not hold.
 use Rattle.std.proofs.Common.{◌≡◌, ℕ, ◌+◌, ◌*◌, ◌≤◌, ◌<◌, ◌++◌, List, [], ◌∷◌, refl, arith}
 use Rattle.std.specs.List.{Contains, sum_by}
 use Rattle.rtcp_engine.specs.answers.Acts.{ticked}
@@ -11,22 +11,23 @@ use Rattle.rtcp_session.specs.Falls.{AllWaitAtMost, HasReport, TicksWithin}
 use Rattle.rtcp_guard.specs.Guarding.{limit_of}
 use Rattle.rtcp_guarded.specs.Claimed.{AllNameFew, followed}
 use Rattle.rtcp_guarded.specs.Guarded.{GuardedAct, GuardedHistory, told, expected, trusted, guard_at, passed_at}
-use Rattle.rtcp_guarded_session.specs.Goodbyes.{AreWithinHold, IsStretch, LosesNone, goodbyes_from, others_than, sources_allowed}
+use Rattle.rtcp_guarded_session.specs.Goodbyes.{AreWithinHold, IsStretch, LosesNone, departures_from, other_departures, sources_allowed}
 use Rattle.rtcp_guarded_session.proofs.examples.GoodbyeRows.{after, leaves, named, one_is_gone, usable}
 
 -- ---- Origins
 
 -- Not all departures come from these origins.
-all_are_goodbyes : ((history : History) (origins : List ℕ) (from until : ℕ) →
+all_have_these_origins : ((history : History) (origins : List ℕ) (from until : ℕ) →
     departures_within history.setup history.word from until history.acts
-    ≤ sum_by (λ origin. goodbyes_from origin from until history) origins) → ⊥
-all_are_goodbyes law =
+    ≤ sum_by (λ origin. departures_from origin from until history) origins) → ⊥
+all_have_these_origins law =
     let is : 1 ≤ 0 = law (passed_at (after one_is_gone)) (1 ∷ []) 0 1000 in omega (arith, is)
 
 -- An origin that is said twice is counted twice.
 counted_once : ((history : History) (origins : List ℕ) (from until : ℕ) →
     departures_within history.setup history.word from until history.acts
-    ≡ sum_by (λ origin. goodbyes_from origin from until history) origins + others_than origins from until history) → ⊥
+    ≡ sum_by (λ origin. departures_from origin from until history) origins
+    + other_departures origins from until history) → ⊥
 counted_once law =
     let is : 1 ≡ 2 =
     law (passed_at (after (told (leaves 200 1 7) ∷ told (named 100 1 7) ∷ []))) (1 ∷ 1 ∷ []) 0 1000 in
@@ -62,7 +63,7 @@ two_stretch = record {
 -- as many as it may have sources, and not one less
 one_less : ((older : GuardedHistory) (newer : List GuardedAct) (origin from until : ℕ) → IsStretch from newer older →
     LosesNone origin newer older → let history = followed older newer in
-    goodbyes_from origin from until (passed_at history)
+    departures_from origin from until (passed_at history)
     < limit_of origin history.settings (guard_at history).trusted) → ⊥
 one_less law = let is : 2 < 2 = law (after []) two_leave 1 0 1000 two_stretch tt in omega (arith, is)
 
@@ -90,7 +91,7 @@ moving_stretch = record {
 
 though_it_loses_some : ((older : GuardedHistory) (newer : List GuardedAct) (origin from until : ℕ) →
     IsStretch from newer older → let history = followed older newer in
-    goodbyes_from origin from until (passed_at history)
+    departures_from origin from until (passed_at history)
     ≤ limit_of origin history.settings (guard_at history).trusted) → ⊥
 though_it_loses_some law =
     let is : 3 ≤ 2 = law (after []) one_moves 1 0 1000 moving_stretch in omega (arith, is)
@@ -116,7 +117,7 @@ trusting_stretch = record {
 
 though_trusted : ((older : GuardedHistory) (newer : List GuardedAct) (origin from until : ℕ) →
     IsStretch from newer older → LosesNone origin newer older → let history = followed older newer in
-    goodbyes_from origin from until (passed_at history) ≤ history.settings.names) → ⊥
+    departures_from origin from until (passed_at history) ≤ history.settings.names) → ⊥
 though_trusted law =
     let is : 3 ≤ 2 = law (after []) three_leave 1 0 1000 trusting_stretch tt in omega (arith, is)
 
@@ -155,7 +156,7 @@ back_is_history = record {
 two_microseconds_longer : ((older : GuardedHistory) (newer : List GuardedAct) (origin from until : ℕ) →
     IsHistory (passed_at (followed older newer)) → AllNameFew newer → last_moment (passed_at older).acts ≤ from →
     AreWithinHold from newer (longer older) → LosesNone origin newer older → let history = followed older newer in
-    goodbyes_from origin from until (passed_at history)
+    departures_from origin from until (passed_at history)
     ≤ limit_of origin history.settings (guard_at history).trusted) → ⊥
 two_microseconds_longer law =
     let is : 3 ≤ 2 = law (after []) back_again 1 1 60000003 back_is_history
@@ -202,7 +203,7 @@ no_wait_less : ((older : GuardedHistory) (newer : List GuardedAct) (origins : Li
     IsStretch from newer older → ((origin : ℕ) → Contains origins origin → LosesNone origin newer older) →
     let history = followed older newer in let passed = passed_at history in
     AllWaitAtMost wait from passed.setup passed.word passed.acts → TicksWithin lag from until passed.acts →
-    others_than origins from until passed ≤ others →
+    other_departures origins from until passed ≤ others →
     from + (sources_allowed origins history + others) * (wait + lag) ≤ until →
     HasReport from until (reports_in (sent_at passed))) → ⊥
 no_wait_less law =
@@ -213,7 +214,7 @@ no_wait_less law =
 no_tick_less : ((older : GuardedHistory) (newer : List GuardedAct) (origins : List ℕ) (wait from until others : ℕ) →
     IsStretch from newer older → ((origin : ℕ) → Contains origins origin → LosesNone origin newer older) →
     let history = followed older newer in let passed = passed_at history in
-    AllWaitAtMost wait from passed.setup passed.word passed.acts → others_than origins from until passed ≤ others →
+    AllWaitAtMost wait from passed.setup passed.word passed.acts → other_departures origins from until passed ≤ others →
     from + (sources_allowed origins history + others + 1) * wait ≤ until →
     HasReport from until (reports_in (sent_at passed))) → ⊥
 no_tick_less law =
