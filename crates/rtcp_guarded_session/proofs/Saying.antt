@@ -1,7 +1,6 @@
 -- A datagram by which a member departs says BYE, of a source that it names.
-use Rattle.std.proofs.Common.{◌≡◌, ℕ, ◌<◌, ◌^◌, ◌==◌, ◌&&◌, ◌||◌, ◌++◌, not, Bool, true, false, cond, List, [], ◌∷◌, length, map, Option, Some, None, is_some, option_map, Ok, Err, refl, sym, ap, ◌∙◌, arith, if◌then◌else◌}
+use Rattle.std.proofs.Common.{◌≡◌, ℕ, ◌<◌, ◌^◌, ◌==◌, ◌&&◌, ◌||◌, ◌++◌, not, Bool, true, false, cond, List, [], ◌∷◌, length, map, Option, Some, None, is_some, option_map, Ok, Err, refl, ap, ◌∙◌, if◌then◌else◌}
 use Rattle.std.specs.List.{find, list_any}
-use Rattle.std.proofs.lemmas.Bool.{ne_eqb}
 use Rattle.std.proofs.lemmas.List.Folds.{list_any-append}
 use Rattle.rtcp_wire.specs.declared.fact.Fact.{Fact}
 use Rattle.rtcp_wire.specs.declared.fact.Fact.TheVariants.{Gone}
@@ -23,10 +22,6 @@ never : false ≡ true → ⊥
 never e = absurd cc
 
 -- ---- Facts
-
-gone_ids : (ids : List ℕ) → list_any is_gone (map Gone ids) ≡ not (length ids == 0)
-gone_ids [] = refl
-gone_ids (id ∷ ids) = ap not (sym (ne_eqb (length (id ∷ ids)) 0 (λ same. omega (arith, same))))
 
 -- A packet that says of somebody that it leaves has a fact that does.
 packet_is_gone : (packet : RtcpPacket) → (id : ℕ) (ids : List ℕ) → leavers_of packet ≡ id ∷ ids →
