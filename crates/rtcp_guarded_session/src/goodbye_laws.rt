@@ -22,10 +22,11 @@ use rtcp_engine::laws::new_identifiers_are_free;
 use rtcp_guard::laws::{compounds_name_their_sources, few_goodbyes_pass};
 use rtcp_session::departure_laws::{falls_are_departures, few_departures_put_off_few_reports};
 
-/// No address can keep a guarded participant from reporting by saying BYE, nor can a few (RFC 3550, 6.3.4, 6.3.6, 8.2).
-/// Within a hold the participant reports between two moments that lie far enough apart: by one more longest wait, with
-/// the lag of its ticks, than these origins may have sources, and than there are other departures. The host says
-/// meanwhile of none of the sources of these origins that it expects it elsewhere.
+/// By saying BYE an address cannot keep a guarded participant from reporting, nor can a few (RFC 3550, 6.3.4, 6.3.6,
+/// 8.2). Within a hold, the participant reports between two moments that lie far enough apart. Far enough is one longest
+/// wait, with the lag of the ticks, for each source that these origins may have, one for each other departure, and one
+/// more. Time-outs of the sources of these origins are among the others. The host says meanwhile of none of these
+/// sources that it expects it elsewhere.
 pub fn few_origins_put_off_few_reports()
     ensures one { (older : GuardedHistory) (newer : List GuardedAct) (origin wait lag from until others : ℕ) →
         IsStretch from newer older → LosesNone origin newer older →
