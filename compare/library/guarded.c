@@ -214,8 +214,8 @@ static void departures(void)
     told("8 names", USUAL, reports_among_departures(USUAL, 8, 1), "", 600, 800);
     told("2 names", USUAL, reports_among_departures(USUAL, 2, 1), "", 600, 800);
     told("1 name", USUAL, reports_among_departures(USUAL, 1, 1), "", 600, 800);
-    told("8 names that come back each 8 s, by twos", USUAL, reports_among_returns(USUAL), "", 250, 800);
-    told("4 names, where the attacker chooses the host's words", USUAL, reports_by_known_words(4), "", 0, 0);
+    told("8 names that come back each 8 s, by twos", USUAL, reports_among_returns(USUAL), "", 600, 800);
+    told("4 names, where the attacker chooses the host's words", USUAL, reports_by_known_words(4), "", 500, 600);
     puts("The same from several addresses, with as many names as their limits allow");
     told("8 addresses", USUAL, reports_among_departures(USUAL, 8, 8), "", 600, 800);
     told("16 addresses", USUAL, reports_among_departures(USUAL, 16, 16), "", 500, 800);
