@@ -174,7 +174,7 @@ static inline const char *jalwedd_text(uint32_t status)
     case JALWEDD_NO_MEMORY:   return "there is no memory";
     case JALWEDD_TOO_LONG:    return "the datagram is longer than UDP carries";
     case JALWEDD_STRANGER:    return "held back: it names a source of another origin";
-    case JALWEDD_CROWD:       return "held back: its origin names too many sources, or says BYE too often";
+    case JALWEDD_CROWD:       return "held back: its origin has too many sources or goodbyes";
     default:                  return "no status of this version";
     }
 }

@@ -96,7 +96,7 @@ error! {
         /// The guard holds the datagram back: it names a source that belongs to another origin (RFC 3550, 8.2).
         Stranger = sys::JALWEDD_STRANGER, "held back: it names a source of another origin";
         /// The guard holds the datagram back: it names more sources than its origin, or all origins, may have.
-        Crowd = sys::JALWEDD_CROWD, "held back: its origin names too many sources, or says BYE too often";
+        Crowd = sys::JALWEDD_CROWD, "held back: its origin has too many sources or goodbyes";
         /// There are more than 7 items (C6). This comes before all others.
         Item = sys::JALWEDD_ITEM, "there are more than 7 items";
         /// The RTP datagram has more than 65,535 octets, which UDP does not carry. This comes before all
