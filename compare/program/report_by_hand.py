@@ -224,7 +224,8 @@ GUARDED = Session(compound(0, RR_7, FIRST) + compound(1, RR_7 + NAME_7, FIRST + 
                    ["1", "RTP datagram", "H1 Stranger", "held back by the guard: it names a source of another address",
                     "127.0.0.3:5007 (1)"],
                    ["1", "RTCP datagram", "H2 Crowd",
-                    "held back by the guard: its address would have too many sources", "127.0.0.2:5005 (1)"]],
+                    "held back by the guard: its address would have too many sources, or say BYE too often",
+                    "127.0.0.2:5005 (1)"]],
                   none_of=["BYE from"], options=[*PLAIN, "--guard", "2"])
 # Two of three members send, so all three share the bandwidth of 400 octets a second: 2/3 of it are theirs.
 SHARED = Session(compound(0, SR_7 + NAME_7)
