@@ -11,7 +11,7 @@ since_earlier moment earlier [] less since = tt
 since_earlier moment earlier (first ∷ rest) less since =
     (let its = since.0 in omega (arith, its, less), since_earlier moment earlier rest less since.1)
 
-since_put : (moment : ℕ) (claim : Claim) (claims : List Claim) → AreSince moment claims → moment ≤ claim.last →
+pub since_put : (moment : ℕ) (claim : Claim) (claims : List Claim) → AreSince moment claims → moment ≤ claim.last →
     AreSince moment (put claim claims)
 since_put moment claim [] since its = (its, tt)
 since_put moment claim (first ∷ rest) since its = elim (order first.ssrc claim.ssrc) [

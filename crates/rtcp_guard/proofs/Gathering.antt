@@ -1,5 +1,5 @@
 -- The new sources among a datagram's names, each once, and the verdict by them.
-use Rattle.std.proofs.Common.{◌≡◌, ◌≤◌, ◌+◌, ◌==◌, ◌||◌, ◌++◌, ℕ, true, false, List, [], ◌∷◌, length, Some, None, arith, refl, sym, ap, subst, ◌∙◌}
+use Rattle.std.proofs.Common.{◌≡◌, ◌≤◌, ◌+◌, ◌==◌, ◌||◌, ◌++◌, ◌<◌, ℕ, true, false, cond, List, [], ◌∷◌, length, Some, None, arith, refl, sym, ap, subst, ◌∙◌}
 use Rattle.std.proofs.lemmas.Bool.{eqb-true}
 use Rattle.std.proofs.lemmas.List.{append-nil, length_push}
 use Rattle.rtcp_guard.specs.Claims.{Claim, AreOwn, owner_in, is_named, is_of_another}
@@ -67,26 +67,41 @@ module _ (origin : ℕ) (claims : List Claim) (seen fresh : List ℕ) (n : ℕ) 
         ∙ sym (named_more m n seen);
   }
 
+  -- however it is put among those, unless it is there
+  pub new_put : (more : List ℕ) → owner_in n claims ≡ None →
+      ((m : ℕ) → is_named m more ≡ is_named m (fresh ++ n ∷ [])) →
+      length more ≡ length fresh + cond (is_named n fresh) 0 1 → AreNew origin claims (seen ++ n ∷ []) more
+  new_put more none alike once = record {
+    counted = λ moment. elim (is_named n fresh) as (λ b. is_named n fresh ≡ b →
+        length more ≡ length fresh + cond b 0 1 → IsCounted origin moment claims (seen ++ n ∷ []) (length more)) [
+          | true ↦ λ e long. counted_as origin moment claims (seen ++ n ∷ []) (seen ++ n ∷ []) (length fresh)
+              (length more)
+              refl (omega (arith, long)) ((new_again none e).counted moment)
+          | false ↦ λ e long. counted_as origin moment claims (seen ++ n ∷ []) (seen ++ n ∷ [])
+              (length (fresh ++ n ∷ []))
+              (length more) refl (omega (arith, long, length_push fresh n)) ((new_more none e).counted moment)
+        ] refl once;
+    same = λ m missing. alike m ∙ named_more m n fresh ∙ ap (λ b. b || (n == m || false)) (so.same m missing)
+        ∙ sym (named_more m n seen);
+  }
+
 -- ---- The verdict
 
 module _ (limit room origin moment : ℕ) (claims : List Claim) (seen fresh : List ℕ) (spare : ℕ)
     (rising : AreRising claims) (room_left : IsSpare limit room origin claims spare)
-    (so : AreNew origin claims seen fresh) (fits : length fresh ≤ spare) where
-  pub then_strange : (n : ℕ) (rest : List ℕ) → is_of_another origin (owner_in n claims) ≡ true →
+    (so : AreNew origin claims seen fresh) where
+  pub then_strange : length fresh ≤ spare → (n : ℕ) (rest : List ℕ) → is_of_another origin (owner_in n claims) ≡ true →
       Stranger ≡ judged limit room origin moment (seen ++ n ∷ rest) claims
-  then_strange n rest strange = judged_strange limit room origin moment claims seen (length fresh) rest
+  then_strange fits n rest strange = judged_strange limit room origin moment claims seen (length fresh) rest
       (so.counted moment) n (omega (arith, fits, room_left.least, room_left.few))
       (omega (arith, fits, room_left.least, room_left.within)) strange
 
-  pub then_crowd : (n : ℕ) (rest : List ℕ) → owner_in n claims ≡ None → is_named n fresh ≡ false →
-      spare ≤ length fresh → Crowd ≡ judged limit room origin moment ((seen ++ n ∷ []) ++ rest) claims
-  then_crowd n rest none apart full =
-      let more = new_more origin claims seen fresh n rising so none apart in
-      let longer = length_push fresh n in
-      judged_crowd limit room origin moment claims (seen ++ n ∷ []) (length (fresh ++ n ∷ [])) rest
-      (more.counted moment) rising
-      (λ few. omega (arith, few, full, longer, room_left.least, room_left.few, room_left.within))
+  pub then_crowd : (rest : List ℕ) → spare < length fresh →
+      Crowd ≡ judged limit room origin moment (seen ++ rest) claims
+  then_crowd rest over = judged_crowd limit room origin moment claims seen (length fresh) rest (so.counted moment)
+      rising
+      (λ few. omega (arith, few, over, room_left.least, room_left.few, room_left.within))
 
-  pub then_pass : Pass ≡ judged limit room origin moment seen claims
-  then_pass = judged_pass limit room origin moment claims seen (length fresh) (so.counted moment)
+  pub then_pass : length fresh ≤ spare → Pass ≡ judged limit room origin moment seen claims
+  then_pass fits = judged_pass limit room origin moment claims seen (length fresh) (so.counted moment)
       (omega (arith, fits, room_left.least, room_left.few)) (omega (arith, fits, room_left.least, room_left.within))

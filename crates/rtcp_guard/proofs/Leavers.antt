@@ -1,7 +1,6 @@
 -- The source of which a BYE in a compound speaks first.
-use Rattle.std.proofs.Common.{◌≡◌, ◌==◌, ◌&&◌, ◌||◌, ◌++◌, ℕ, not, Bool, true, false, cond, List, [], ◌∷◌, map, Option, Some, None, option_map, arith, refl, sym, ap, ◌∙◌}
+use Rattle.std.proofs.Common.{◌≡◌, ◌==◌, ◌&&◌, ◌||◌, ◌++◌, ℕ, not, Bool, true, false, cond, List, [], ◌∷◌, map, Option, Some, None, option_map, arith, refl, ap, ◌∙◌}
 use Rattle.std.specs.List.{find, list_all}
-use Rattle.std.specs.Option.{option_or}
 use Rattle.std.proofs.lemmas.Bool.Decides.{nat_tests}
 use Rattle.rtcp_wire.specs.declared.fact.Fact.{Fact}
 use Rattle.rtcp_wire.specs.declared.fact.Fact.TheVariants.{Heard, Told, Named, Gone, Media}
@@ -84,37 +83,3 @@ pub sole_leaves_not : (own : ℕ) (source : SoleSource) (packets : List RtcpPack
 sole_leaves_not own source packets sole =
     ap (first_goodbye own) sole.parts
     ∙ after_clock own source.ssrc source.timestamps sole.others (none_among own source.ssrc sole.others sole.alone)
-
--- ---- One fact after the other
-
--- what one fact says of a goodbye
-abbrev pub goodbye_if : (gone : Bool) → (name : ℕ) → Option ℕ
-goodbye_if gone name = cond gone (Some name) None
-
-pub own_skipped : (own : ℕ) (goodbye : Option ℕ) (fact : Fact) (rest : List Fact) → subject fact ≡ own →
-    option_or goodbye (first_goodbye own (fact ∷ rest)) ≡ option_or goodbye (first_goodbye own rest)
-own_skipped own goodbye fact rest its =
-    let not_other : not (subject fact == own) ≡ false = grind (arith, nat_tests, its) in
-    ap (λ b. option_or goodbye (option_map subject (cond b (Some fact) (find (is_goodbye_of_another own) rest))))
-    (ap (λ b. is_gone fact && b) not_other ∙ and_false (is_gone fact))
-  where
-    and_false : (b : Bool) → b && false ≡ false
-    and_false true = refl
-    and_false false = refl
-
-pub fact_taken : (own : ℕ) (goodbye : Option ℕ) (fact : Fact) (rest : List Fact) → (subject fact ≡ own → ⊥) →
-    option_or (option_or goodbye (goodbye_if (is_gone fact) (subject fact))) (first_goodbye own rest)
-    ≡ option_or goodbye (first_goodbye own (fact ∷ rest))
-fact_taken own goodbye fact rest apart =
-    let other : not (subject fact == own) ≡ true = grind (arith, nat_tests, apart) in
-    cases goodbye (is_gone fact)
-    ∙ sym (ap (λ b. option_or goodbye (option_map subject
-    (cond (is_gone fact && b) (Some fact) (find (is_goodbye_of_another own) rest)))) other)
-  where
-    cases : (o : Option ℕ) (gone : Bool) →
-        option_or (option_or o (goodbye_if gone (subject fact))) (first_goodbye own rest)
-        ≡ option_or o (option_map subject (cond (gone && true) (Some fact) (find (is_goodbye_of_another own) rest)))
-    cases None true = refl
-    cases None false = refl
-    cases (Some name) true = refl
-    cases (Some name) false = refl

@@ -6,6 +6,8 @@ pub mod Orders
 pub mod Putting
 -- The same once an origin named sources.
 pub mod Claiming
+-- New sources of an origin, merged into the claims.
+pub mod Newcomers
 -- Since when all sources were named.
 pub mod Ages
 -- The cells in which claims lie.

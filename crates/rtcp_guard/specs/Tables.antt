@@ -1,7 +1,7 @@
 -- Claims in cells side by side, by rising SSRC.
-use Rattle.std.specs.Prelude.{ℕ, zero, suc, ◌≡◌, ◌<◌, ◌≤◌, ◌-◌, ◌^◌, min, List, [], ◌∷◌, length, map, slice_index_or, Result, Ok, Err}
+use Rattle.std.specs.Prelude.{ℕ, zero, suc, ◌≡◌, ◌<◌, ◌≤◌, ◌-◌, ◌^◌, min, List, [], ◌∷◌, length, map, slice_index_or, Result, Ok, Err, None, true}
 use Rattle.std.specs.List.{AllByRecursion}
-use Rattle.rtcp_guard.specs.Claims.{Claim, held, goodbyes_of}
+use Rattle.rtcp_guard.specs.Claims.{Claim, found, goodbyes_of, held, is_named}
 use Rattle.rtcp_guard.specs.Guarding.{limit_of, room_of}
 use Rattle.rtcp_guard.specs.declared.cells.Cell.{Cell}
 use Rattle.rtcp_guard.specs.declared.settings.Settings.{Settings}
@@ -33,6 +33,15 @@ AreAbove ssrc claims = AllByRecursion (λ (claim : Claim). ssrc < claim.ssrc) cl
 abbrev pub AreRising : List Claim → Type 0
 AreRising [] = Unit {0}
 AreRising (claim ∷ rest) = AreAbove claim.ssrc rest × AreRising rest
+
+-- The names strictly rise.
+abbrev pub AreRisingNames : (names : List ℕ) → Type 0
+AreRisingNames [] = Unit {0}
+AreRisingNames (name ∷ rest) = AllByRecursion (λ (other : ℕ). name < other) rest × AreRisingNames rest
+
+-- None of these sources is claimed.
+abbrev pub AreUnclaimed : (names : List ℕ) → List Claim → Type 0
+AreUnclaimed names claims = (ssrc : ℕ) → is_named ssrc names ≡ true → found ssrc claims ≡ None
 
 -- each source was last named at this moment or later
 abbrev pub AreSince : (moment : ℕ) → List Claim → Type 0

@@ -14,7 +14,7 @@ const SPREAD: u32 = 0x85eb_ca6b;
 /// The claim of an origin to a source. The hint takes what would be left free between the fields. The hints of all
 /// cells are one table, which says where sources were found last. No answer depends on it, only how soon a source is
 /// found.
-#[derive(Drop)]
+#[derive(Clone, Copy)]
 pub(crate) struct Cell {
     pub(crate) ssrc: u32,
     pub(crate) hint: u16,

@@ -1,13 +1,14 @@
 //! The guard.
 
-ghost use Rattle.std.specs.Prelude.{◌≡◌, ◌≤◌, ◌*◌, ◌<◌, ◌^◌, ℕ, [], ◌∷◌, IfOk, None, Some, length, not, take, true};
-ghost use Rattle.rtcp_guard.specs.Claims.{goodbyes_of, held, is_named, is_too_many, with_name, with_names};
+ghost use Rattle.std.specs.Prelude.{◌≡◌, ◌≤◌, ◌*◌, ◌<◌, ◌^◌, ◌++◌, ℕ, List, [], ◌∷◌, IfOk, None, Some, length, false, not, take, true};
+ghost use Rattle.rtcp_guard.specs.Claims.{AreOwn, goodbyes_of, held, is_named, is_too_many, with_name, with_names};
 ghost use Rattle.rtcp_guard.specs.Guarding.{after, after_verdict, check_made, counted, datagram_came, limit_of, may_have, may_trust, new_guard, origin_trusted, source_expected, unless_more, verdict_by, verdict_on};
 ghost use Rattle.rtcp_guard.specs.Tables.{AreRising};
+ghost use Rattle.rtcp_guard.specs.declared.verdict.Verdict.TheVariants.{Pass};
 ghost use Rattle.rtcp_guard.specs.Naming.{but, goodbye_of_compound, names_of_compound, names_of_packet};
 
 use crate::judging::{judge_rest, own_first};
-use crate::naming::{FewNames, Gathered, MAX_NAMES, Names, of_compound, of_packet};
+use crate::naming::{FEW, FewNames, Gathered, MAX_NAMES, Names, of_compound, of_packet};
 use crate::settings::Settings;
 use crate::table::ClaimTable;
 use crate::verdict::{HeldBack, Verdict};
@@ -124,9 +125,10 @@ impl Guard {
         ensures verdict { result ≡ verdict_on origin t (names_of_packet own head.now) None self.old }
         ensures content { self.new ≡ after (datagram_came origin t (names_of_packet own head.now) None) self.old }
     {
-        let mut names = FewNames::new();
-        of_packet(head, own, &mut names);
-        self.arrive(names.as_slice(), origin, t)
+        if head.csrcs().next().is_some() {
+            return self.arrive_mixed(head, origin, t, own);
+        }
+        self.arrive_sole(head.ssrc(), origin, t, own)
     }
 
     /// Says that a source is expected at an origin, as signalling knows: it belongs to that origin from now on, as if
@@ -177,6 +179,7 @@ impl Guard {
     }
 
     /// A datagram that names one source.
+    // If the source is its origin's already, as most are, it is looked up once.
     #[inline(always)]
     fn arrive_sole(&mut self, ssrc: u32, origin: u64, t: u64, own: u32) -> Verdict
         ensures verdict { result ≡ verdict_on origin t (but own (ssrc ∷ [])) None self.old }
@@ -185,7 +188,42 @@ impl Guard {
         if ssrc == own {
             return self.arrive(&[], origin, t);
         }
+        if self.renew_own(ssrc, origin, t) {
+            return Verdict::Pass;
+        }
+        self.arrive_anew(ssrc, origin, t)
+    }
+
+    /// Claims a source at a moment if it is this origin's already, and returns whether it is: then a datagram that names
+    /// it alone passes.
+    #[inline(always)]
+    fn renew_own(&mut self, ssrc: u32, origin: u64, t: u64) -> bool
+        ensures passes { result ≡ true → verdict_on origin t (ssrc ∷ []) None self.old ≡ Pass }
+        ensures content { result ≡ true → self.new ≡ after (datagram_came origin t (ssrc ∷ []) None) self.old }
+        ensures kept { result ≡ false → self.new ≡ self.old }
+    {
+        self.claims.renew_own(ssrc, origin, t)
+    }
+
+    /// A datagram that names one source, which is not its origin's yet.
+    #[cold]
+    #[inline(never)]
+    fn arrive_anew(&mut self, ssrc: u32, origin: u64, t: u64) -> Verdict
+        ensures verdict { result ≡ verdict_on origin t (ssrc ∷ []) None self.old }
+        ensures content { self.new ≡ after (datagram_came origin t (ssrc ∷ []) None) self.old }
+    {
         self.arrive(&[ssrc], origin, t)
+    }
+
+    /// An RTP packet with CSRCs.
+    #[inline(never)]
+    fn arrive_mixed(&mut self, head: &RtpHead<'_>, origin: u64, t: u64, own: u32) -> Verdict
+        ensures verdict { result ≡ verdict_on origin t (names_of_packet own head.now) None self.old }
+        ensures content { self.new ≡ after (datagram_came origin t (names_of_packet own head.now) None) self.old }
+    {
+        let mut names = FewNames::new();
+        of_packet(head, own, &mut names);
+        self.arrive(names.as_slice(), origin, t)
     }
 
     /// The same as [`Guard::arrive_rtcp`], where these are the first names, and there are more.
@@ -264,13 +302,43 @@ impl Guard {
     }
 
     /// What becomes of a datagram with these names, and with more where `more` says so. It is noted.
+    // Its own sources alone are the common case, for which no limit is looked up. What else there is stands apart, so
+    // that the common case keeps no registers free for it.
     #[inline(always)]
     fn decide(&mut self, names: &[u32], more: bool, origin: u64, t: u64) -> Verdict
         requires { length names.now ≤ 512 }
         ensures verdict { result ≡ unless_more more (verdict_by origin t names.now self.old) }
         ensures content { self.new ≡ after_verdict origin t names.now None result self.old }
     {
-        let verdict = self.judge(names, origin).unless_more(more);
+        if more {
+            return self.decide_others(names, 0, true, origin, t);
+        }
+        let own = own_first(&mut self.claims, origin, names);
+        if own < names.len() {
+            return self.decide_others(names, own, false, origin, t);
+        }
+        claim_each(&mut self.claims, origin, t, names);
+        Verdict::Pass
+    }
+
+    /// The same, where the first `own` of the names are the origin's.
+    #[cold]
+    #[inline(never)]
+    fn decide_others(
+        &mut self,
+        names: &[u32],
+        own: usize,
+        more: bool,
+        origin: u64,
+        t: u64,
+    ) -> Verdict
+        requires short { length names.now ≤ 512 }
+        requires within { own ≤ length names.now }
+        requires own { AreOwn origin (take own names.now) self.old.claims }
+        ensures verdict { result ≡ unless_more more (verdict_by origin t names.now self.old) }
+        ensures content { self.new ≡ after_verdict origin t names.now None result self.old }
+    {
+        let verdict = self.judge_rest(names, own, origin).unless_more(more);
         match verdict {
             Verdict::Pass => claim_all(&mut self.claims, origin, t, names),
             Verdict::Stranger | Verdict::Crowd => self.held_back.count(verdict, origin),
@@ -289,8 +357,6 @@ impl Guard {
     }
 
     /// What becomes of a datagram by these names alone.
-    // Its own sources alone are the common case, for which no limit is looked up.
-    #[inline(always)]
     fn judge(&mut self, names: &[u32], origin: u64) -> Verdict
         requires { length names.now ≤ 512 }
         ensures verdict { (moment : ℕ) → result ≡ verdict_by origin moment names.now self.old }
@@ -298,6 +364,20 @@ impl Guard {
         ensures rising { AreRising self.old.claims }
     {
         let own = own_first(&mut self.claims, origin, names);
+        self.judge_rest(names, own, origin)
+    }
+
+    /// The same, where the first `own` of the names are the origin's.
+    #[inline(always)]
+    fn judge_rest(&mut self, names: &[u32], own: usize, origin: u64) -> Verdict
+        requires short { length names.now ≤ 512 }
+        requires within { own ≤ length names.now }
+        requires own { AreOwn origin (take own names.now) self.old.claims }
+        ensures verdict { (moment : ℕ) → result ≡ verdict_by origin moment names.now self.old }
+        ensures kept { self.new ≡ self.old }
+        ensures rising { AreRising self.old.claims }
+    {
+        let _ = &self.claims;
         if own == names.len() {
             return Verdict::Pass;
         }
@@ -345,6 +425,22 @@ fn may_put(claims: &mut ClaimTable, limit: usize, room: usize, ssrc: u32, origin
 /// An origin names these sources.
 #[inline(always)]
 fn claim_all(claims: &mut ClaimTable, origin: u64, t: u64, names: &[u32])
+    requires short { length names.now ≤ 512 }
+    requires rising { AreRising claims.old.items }
+    requires room { length (with_names origin t names.now claims.old.items) ≤ claims.old.room }
+    ensures items { claims.new.items ≡ with_names origin t names.now claims.old.items }
+    ensures room { claims.new.room ≡ claims.old.room }
+{
+    if names.len() > FEW {
+        claims.put_many(names, origin, t);
+    } else {
+        claim_each(claims, origin, t, names);
+    }
+}
+
+/// The same, one after the other.
+#[inline(always)]
+fn claim_each(claims: &mut ClaimTable, origin: u64, t: u64, names: &[u32])
     requires rising { AreRising claims.old.items }
     requires room { length (with_names origin t names.now claims.old.items) ≤ claims.old.room }
     ensures items { claims.new.items ≡ with_names origin t names.now claims.old.items }

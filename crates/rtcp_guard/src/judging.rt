@@ -5,6 +5,7 @@ ghost use Rattle.rtcp_guard.specs.Claims.{AreOwn, held, is_of_another, owner_in}
 ghost use Rattle.rtcp_guard.specs.Guarding.{judged};
 ghost use Rattle.rtcp_guard.specs.Tables.{AreRising, IsSpare};
 
+use crate::merging::put_once;
 use crate::naming::{FEW, FewNames, Names};
 use crate::table::ClaimTable;
 use crate::verdict::Verdict;
@@ -102,9 +103,12 @@ fn judge_each<const N: usize>(
         match claims.owner(*name) {
             Some(owner) if owner != origin => return Verdict::Stranger,
             Some(_) => (),
-            None if fresh.contains(name) => (),
-            None if fresh.len() >= spare => return Verdict::Crowd,
-            None => fresh.push(*name),
+            None => {
+                put_once(fresh, *name);
+                if fresh.len() > spare {
+                    return Verdict::Crowd;
+                }
+            }
         }
     }
     Verdict::Pass

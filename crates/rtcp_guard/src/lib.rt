@@ -22,6 +22,7 @@ mod cells;
 mod guard;
 mod judging;
 pub mod laws;
+mod merging;
 mod naming;
 mod settings;
 mod table;

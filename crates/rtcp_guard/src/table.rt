@@ -1,11 +1,13 @@
 //! The table of claims.
 
-ghost use Rattle.std.specs.Prelude.{◌≡◌, ◌≤◌, ◌<◌, ◌^◌, [], length, IfOk, IfSome, Some, set};
+ghost use Rattle.std.specs.Prelude.{◌≡◌, ◌≤◌, ◌<◌, ◌+◌, ◌^◌, [], length, IfOk, IfSome, Some, false, set, true};
 ghost use Rattle.std.specs.List.{insert};
-ghost use Rattle.rtcp_guard.specs.Claims.{after_lapse, goodbyes_of, held, owner_in, with_goodbye, with_name};
-ghost use Rattle.rtcp_guard.specs.Tables.{AreFewGoodbyes, IsGap, IsRankOf, IsTally, Locates};
+ghost use Rattle.rtcp_guard.specs.Claims.{after_lapse, goodbyes_of, held, owner_in, with_goodbye, with_name, with_names};
+ghost use Rattle.rtcp_guard.specs.Tables.{AreFewGoodbyes, AreRising, AreRisingNames, AreUnclaimed, IsGap, IsRankOf, IsTally, Locates};
 
 use crate::cells::{Cell, count, hinted, note, oldest, search, settle_last};
+use crate::merging::{lengthen, merge, put_once};
+use crate::naming::Names;
 use crate::tallies::{Tallies, Tally};
 use std::alloc::{AllocError, Global};
 use std::marker::Model;
@@ -107,6 +109,38 @@ impl ClaimTable {
         }
     }
 
+    /// Claims a source at a moment if it is this origin's already, and returns whether it is.
+    #[inline(always)]
+    pub(crate) fn renew_own(&mut self, ssrc: u32, origin: u64, t: u64) -> bool
+        ensures own { result ≡ true → owner_in ssrc self.old.items ≡ Some origin }
+        ensures items { result ≡ true → self.new.items ≡ with_name origin t ssrc self.old.items }
+        ensures kept { result ≡ false → self.new ≡ self.old }
+        ensures room { self.new.room ≡ self.old.room }
+    {
+        let Ok(at) = self.find(ssrc) else {
+            return false;
+        };
+        if self.cells[at].origin != origin {
+            return false;
+        }
+        self.write(at, ssrc, origin, t);
+        true
+    }
+
+    /// The same as [`ClaimTable::put`] of many sources: those that are new are gathered, and come into the table together.
+    #[inline(never)]
+    pub(crate) fn put_many(&mut self, names: &[u32], origin: u64, t: u64)
+        requires short { length names.now ≤ 512 }
+        requires rising { AreRising self.old.items }
+        requires room { length (with_names origin t names.now self.old.items) ≤ self.old.room }
+        ensures items { self.new.items ≡ with_names origin t names.now self.old.items }
+        ensures room { self.new.room ≡ self.old.room }
+    {
+        let mut fresh = Names::new();
+        self.renew_each(names, origin, t, &mut fresh);
+        self.insert_all(fresh.as_slice(), origin, t);
+    }
+
     /// A BYE that is passed on speaks of a source, which has one goodbye more if it is claimed.
     pub(crate) fn leave(&mut self, ssrc: u32)
         requires { AreFewGoodbyes (with_goodbye (Some ssrc) self.old.items) }
@@ -205,6 +239,59 @@ impl ClaimTable {
         let end = self.cells.len();
         let _inserted = self.cells.insert(end, Cell::of(ssrc, origin, t));
         settle_last(&mut self.cells, gap, ssrc);
+        self.oldest = self.oldest.min(t);
+        self.tallies.forget();
+    }
+
+    /// Claims these sources as far as they are claimed already, and gathers the others.
+    fn renew_each(&mut self, names: &[u32], origin: u64, t: u64, fresh: &mut Names)
+        requires short { length names.now ≤ 512 }
+        requires rising { AreRising self.old.items }
+        requires none { fresh.old.items ≡ [] }
+        ensures rising { AreRising self.new.items }
+        ensures names { AreRisingNames fresh.new.items }
+        ensures new { AreUnclaimed fresh.new.items self.new.items }
+        ensures all { with_names origin t fresh.new.items self.new.items
+            ≡ with_names origin t names.now self.old.items }
+        ensures room { self.new.room ≡ self.old.room }
+    {
+        'names: for name in names {
+            self.renew_or_gather(*name, origin, t, fresh);
+        }
+    }
+
+    /// Claims a source if it is claimed already, or else gathers it.
+    #[inline(always)]
+    fn renew_or_gather(&mut self, name: u32, origin: u64, t: u64, fresh: &mut Names)
+        requires rising { AreRising self.old.items }
+        requires names { AreRisingNames fresh.old.items }
+        requires new { AreUnclaimed fresh.old.items self.old.items }
+        requires few { length fresh.old.items < 512 }
+        ensures rising { AreRising self.new.items }
+        ensures names { AreRisingNames fresh.new.items }
+        ensures new { AreUnclaimed fresh.new.items self.new.items }
+        ensures few { length fresh.new.items ≤ length fresh.old.items + 1 }
+        ensures all { with_names origin t fresh.new.items self.new.items
+            ≡ with_name origin t name (with_names origin t fresh.old.items self.old.items) }
+        ensures room { self.new.room ≡ self.old.room }
+    {
+        match self.find(name) {
+            Ok(at) => self.write(at, name, origin, t),
+            Err(_) => put_once(fresh, name),
+        }
+    }
+
+    /// Claims new sources, whose names rise.
+    fn insert_all(&mut self, fresh: &[u32], origin: u64, t: u64)
+        requires names { AreRisingNames fresh.now }
+        requires new { AreUnclaimed fresh.now self.old.items }
+        requires room { length self.old.items + length fresh.now ≤ self.old.room }
+        ensures items { self.new.items ≡ with_names origin t fresh.now self.old.items }
+        ensures room { self.new.room ≡ self.old.room }
+    {
+        let count = self.cells.len();
+        lengthen(&mut self.cells, fresh);
+        merge(&mut self.cells, count, fresh, origin, t);
         self.oldest = self.oldest.min(t);
         self.tallies.forget();
     }

@@ -4,7 +4,7 @@ use Rattle.std.proofs.lemmas.List.{at_drop_more, at_drop_all}
 use Rattle.rtcp_guard.specs.Claims.{with_name, with_names}
 use Rattle.rtcp_guard.specs.Tables.{AreRising}
 use Rattle.rtcp_guard.proofs.Claiming.{length_grows, rising_name}
-use Rattle.rtcp_guard.proofs.guard.claim_all.Goals as goal
+use Rattle.rtcp_guard.proofs.guard.claim_each.Goals as goal
 
 pub put-requires : goal.put-requires
 put-requires c =

@@ -2,7 +2,7 @@
 use Rattle.std.proofs.Common.{◌≡◌, drop}
 use Rattle.rtcp_guard.specs.Claims.{with_names}
 use Rattle.rtcp_guard.specs.Tables.{AreRising}
-use Rattle.rtcp_guard.proofs.guard.claim_all.Given as goal
+use Rattle.rtcp_guard.proofs.guard.claim_each.Given as goal
 
 abbrev pub invariant-names : goal.invariant-names
 invariant-names l = record {
