@@ -1,0 +1,3 @@
+pub mod AlarmTexts
+pub mod Alarms
+pub mod Watches
