@@ -7,6 +7,10 @@ pub three_pairs :
     → o3 ≡ o0 ++ (a ++ b ++ c ++ d ++ e ++ f)
 three_pairs o0 o1 o2 o3 a b c d e f h1 h2 h3 = rw (h3, h2, h1) (simp append_assoc)
 
+pub three_parts :
+    (o0 o1 o2 o3 a b c : List ℕ) → o1 ≡ o0 ++ a → o2 ≡ o1 ++ b → o3 ≡ o2 ++ c → o3 ≡ o0 ++ (a ++ b ++ c)
+three_parts o0 o1 o2 o3 a b c h1 h2 h3 = rw (h3, h2, h1) (simp append_assoc)
+
 pub six_parts :
     (o0 o1 o2 o3 o4 o5 o6 a b c d e f : List ℕ)
     → o1 ≡ o0 ++ a → o2 ≡ o1 ++ b → o3 ≡ o2 ++ c → o4 ≡ o3 ++ d → o5 ≡ o4 ++ e → o6 ≡ o5 ++ f

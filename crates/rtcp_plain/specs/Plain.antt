@@ -34,10 +34,13 @@ reception_text rate b =
     loss_text b.fraction ++ codes " lost=" ++ signed_decimal b.lost ++ codes " highest=" ++ decimal b.highest
     ++ jitter_text rate b.jitter
 
+-- what a block says of its source
+abbrev pub block_facts_text : (rate : Option ℕ) → ReportBlock → List ℕ
+block_facts_text rate b =
+    reception_text rate b ++ last_report_text b.lsr ++ codes " dlsr=" ++ seconds_text (middle_time b.dlsr)
+
 abbrev pub block_text : (rate : Option ℕ) → ReportBlock → List ℕ
-block_text rate b =
-    codes " block about=" ++ hex_word b.ssrc ++ reception_text rate b ++ last_report_text b.lsr
-    ++ codes " dlsr=" ++ seconds_text (middle_time b.dlsr)
+block_text rate b = codes " block about=" ++ hex_word b.ssrc ++ block_facts_text rate b
 
 -- the octets of an extension, if there are any
 abbrev pub extension_text : List ℕ → List ℕ

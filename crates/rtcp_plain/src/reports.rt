@@ -3,7 +3,7 @@
 ghost use Rattle.std.specs.Prelude.{◌≡◌, ◌++◌, OnOk};
 ghost use Rattle.rtcp_wire.specs.Views.{block_value, packet_value, sender_value};
 ghost use Rattle.rtcp_wire.specs.declared.packet.PacketView.TheVariants.{Sr, Rr};
-ghost use Rattle.rtcp_plain.specs.Plain.{block_text, extension_text, jitter_text, last_report_text, loss_text, packet_text, reception_text, report_end_text, sender_text};
+ghost use Rattle.rtcp_plain.specs.Plain.{block_facts_text, block_text, extension_text, jitter_text, last_report_text, loss_text, packet_text, reception_text, report_end_text, sender_text};
 
 use crate::numbers::{middle_time, ntp_time, push_fixed, push_number, push_seconds, push_time};
 use crate::packets::push_source;
@@ -82,6 +82,18 @@ fn push_block(out: &mut Vec<u8>, block: &Block, rate: Option<u32>) -> Result<(),
 {
     out.extend_from_slice(b" block about=")?;
     push_word(out, block.ssrc)?;
+    push_block_facts(out, block, rate)?;
+    Ok(())
+}
+
+/// Appends what a report block says of its source.
+pub(crate) fn push_block_facts(
+    out: &mut Vec<u8>,
+    block: &Block,
+    rate: Option<u32>,
+) -> Result<(), AllocError>
+    ensures { OnOk result (out.new.items ≡ out.old.items ++ block_facts_text rate (block_value block.now)) }
+{
     push_reception(out, block, rate)?;
     push_last_report(out, block.lsr)?;
     out.extend_from_slice(b" dlsr=")?;

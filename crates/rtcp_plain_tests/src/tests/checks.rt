@@ -1,9 +1,9 @@
 //! Checks in plain words, over memory.
 
 use super::same;
-use rtcp_plain::check_plain;
+use rtcp_plain::{check_blocks, check_plain};
 use rtcp_text::{Counted, LineFault, TextFault};
-use std::alloc::Global;
+use std::alloc::{AllocError, Global};
 use std::process::Abort;
 
 /// A check of at most two lines ends so, and writes this.
@@ -51,4 +51,24 @@ fn faulty(rt: HostRuntime) {
         fault(3, LineFault::TooManyLines),
         "F1 Short at 0\nF1 Short at 0\n",
     );
+}
+
+/// A row for each block of each report: none of the other packets and of the datagrams without a block.
+#[test]
+fn blocks(rt: HostRuntime) -> Result<(), AllocError> {
+    // An SR of 0000000b about 000000aa and 000000ab: 85/256 lost, 1 in all, then nothing. An RR without blocks. A BYE.
+    let reported = "82c800120000000b0000000000000000000000000000000000000000\
+                    000000aa5500000100000004000000010002000000008000\
+                    000000ab00ffffff00010005000000000000000000000000\
+                    81cb00010000000b";
+    let lines = [reported, "\n80c9000100000007\n"].concat(rt.alloc())?;
+    let mut reader = Counted::new(lines.as_bytes());
+    let mut writer = Counted::new(Vec::new(rt.alloc()));
+    let found = check_blocks(rt.alloc(), 2, &mut reader, &mut writer);
+    assert_eq!(rt; found, Ok(()));
+    let want =
+        b"by=0000000b about=000000aa loss=33.2% lost=1 highest=4 jitter=1units lsr=2.000000s dlsr=0.500000s\n\
+                 by=0000000b about=000000ab loss=0.0% lost=-1 highest=65541 jitter=0units lsr=none dlsr=0.000000s\n";
+    same(&rt, &writer.into_inner(), want, "two blocks");
+    Ok(())
 }
