@@ -2,7 +2,7 @@
 use Rattle.std.proofs.Common.{◌≡◌, ◌∷◌, [], ◌∙◌, ap, ℕ, Bool, true, false, List, Option, None, refl, sym, if◌then◌else◌}
 use Rattle.rtcp_engine.specs.answers.Histories.{setup_at}
 use Rattle.rtcp_wire.specs.About.{blocks_about}
-use Rattle.rtcp_show.specs.declared.printer.Terms.{Terms}
+use Rattle.rtcp_show.specs.declared.terms.Terms.{Terms}
 use Rattle.rtcp_show.specs.declared.printer.Printer.{Printer}
 use Rattle.rtcp_show.specs.Flows.{elapsed_since, flow_after_event, peer_of_event}
 use Rattle.rtcp_show.specs.Listings.{lists, state_at}

@@ -1,5 +1,5 @@
 -- What a watcher writes and keeps, one part after the other.
-use Rattle.std.proofs.Common.{◌≡◌, ◌++◌, ◌∙◌, ap, ℕ, List, Bool, true, false, if◌then◌else◌, Option, Result, Ok, Err, OnOk, refl, sym}
+use Rattle.std.proofs.Common.{◌≡◌, ◌++◌, ◌∙◌, ap, ℕ, List, Bool, true, false, if◌then◌else◌, Option, Result, Ok, Err, OnOk, refl, subst, sym}
 use Rattle.std.specs.Result.{is_ok, result_and}
 use Rattle.std.proofs.lemmas.Bool.{false≢true}
 use Rattle.std.proofs.KnownBytes.{Appends-trans}
@@ -16,7 +16,8 @@ use Rattle.rtcp_show.specs.Flows.{IsMediaOf, elapsed_since, flow_in, flow_looked
 use Rattle.rtcp_show.specs.Lines.{HasPackets, ShowsBothBy, moment_of_event}
 use Rattle.rtcp_show.specs.Listings.{if_listed, lists, state_at}
 use Rattle.rtcp_show.specs.Notes.{kept_if, noted_after, noted_in}
-use Rattle.rtcp_show.specs.Watchers.{KeepsRows, LooksIf, Watches, arrival_at, held_on, is_due, listed_in, news_text, second_after, terms_of}
+use Rattle.rtcp_show.specs.Watchers.{KeepsRows, LooksIf, Watches, arrival_at, held_on, is_due, listed_in, news_text, second_after, terms_of, time_told}
+use Rattle.rtcp_show.specs.Times.{told_by}
 use Rattle.rtcp_show.specs.Wordings.{shown_in}
 
 -- ---- Results
@@ -93,16 +94,18 @@ pub watched :
     {W : Type 0} {contents : W → Option (List ℕ)} (event : EventValue) (answer : GuardedAnswer) (history : History)
     (before after : Printer W) (lined told : Page W) (noted : Board)
     → terms_of after ≡ terms_of before
-    → (lines : List ℕ) × ShowsBothBy (shown_in (terms_of before).wording) (terms_of before).to event answer lines
+    → (lines : List ℕ) × ShowsBothBy (told_by (terms_of before).clock) (shown_in (terms_of before).wording)
+    (terms_of before).to event answer lines
     × Appends (held_on contents before.page) (held_on contents lined) lines
     → Notes event answer history (arrival_at (terms_of before).ntp_base (moment_of_event event)) before.board noted
-    → (changes : List ℕ) × ShowsChanges (shows_others event answer) (moment_of_event event) history
+    → (changes : List ℕ) × ShowsChanges (shows_others event answer) (time_told before (moment_of_event event))
+    history
     (listed_in before.roles) changes × Appends (held_on contents lined) (held_on contents told) changes
     → KeepsListing (lists_anew event answer) history (listed_in before.roles) (listed_in after.roles)
     → Appends (held_on contents told) (held_on contents after.page)
-    (news_text (is_due noted.second (moment_of_event event)) (moment_of_event event) noted.rows.items
+    (news_text (is_due noted.second (moment_of_event event)) (time_told before (moment_of_event event)) noted.rows.items
     after.board.rows.items)
-    → KeepsRows (is_due noted.second (moment_of_event event)) history after.board noted.rows.items
+    → KeepsRows (terms_of before) (is_due noted.second (moment_of_event event)) history after.board noted.rows.items
     after.board.rows.items
     → LooksIf (is_due noted.second (moment_of_event event)) (moment_of_event event) history noted after.board
     → after.board.second ≡ second_after noted.second (moment_of_event event)
@@ -110,21 +113,32 @@ pub watched :
 watched {contents = contents} event answer history before after lined told noted same shown notes changed listed
     written rows looks second =
     let moment = moment_of_event event in
-    let news = news_text (is_due noted.second moment) moment noted.rows.items after.board.rows.items in
-    let items = ap (λ rows. rows.items) notes.rows in
+    let news = news_text (is_due noted.second moment) (time_told before moment) noted.rows.items
+    after.board.rows.items in
+    let items : noted.rows.items ≡ before.board.rows.items = ap (λ rows. rows.items) notes.rows in
+    let same_news : news ≡ news_text (is_due before.board.second moment) (time_told before moment)
+    before.board.rows.items after.board.rows.items =
+    ap (λ second. news_text (is_due second moment) (time_told before moment) noted.rows.items after.board.rows.items)
+    notes.second
+    ∙ ap (λ items. news_text (is_due before.board.second moment) (time_told before moment) items
+    after.board.rows.items) items in
     record {
       lines = shown.0;
       changes = changed.0;
       terms = same;
       shows = shown.1;
       tells = changed.1;
-      writes = rw (sym notes.second, sym items)
+      writes = subst (λ news. Appends (held_on contents before.page) (held_on contents after.page)
+          (shown.0 ++ (changed.0 ++ news))) same_news
           (Appends-trans (held_on contents before.page) (held_on contents lined) (held_on contents after.page) shown.0
           (changed.0 ++ news) shown.2
           (Appends-trans (held_on contents lined) (held_on contents told) (held_on contents after.page) changed.0 news
           changed.2 written));
       listing = listed;
-      rows = rw (sym notes.second, sym items) rows;
+      rows = subst (λ (items : List ℕ). KeepsRows (terms_of before) (is_due before.board.second moment) history
+          after.board items after.board.rows.items) items
+          (subst (λ second. KeepsRows (terms_of before) (is_due second moment) history after.board noted.rows.items
+          after.board.rows.items) notes.second rows);
       second = second ∙ ap (λ s. second_after s moment) notes.second;
       looked = rw (sym notes.second, sym notes.looked) (looked_then _ moment history noted after.board looks);
       notes = λ packets says ssrc.

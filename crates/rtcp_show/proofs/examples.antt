@@ -1,3 +1,4 @@
 -- Rows of what a watcher keeps, worked out by hand.
 mod KeptRows
 mod ChangeRows
+mod TimeRows

@@ -1,4 +1,5 @@
 pub mod Numbers
+pub mod Times
 pub mod Wordings
 pub mod Headers
 pub mod Lines
@@ -8,6 +9,8 @@ pub mod Kept
 pub mod Notes
 pub mod Flows
 pub mod Rows
+pub mod ShortRows
 pub mod Watchers
 pub mod Silences
+pub mod Summaries
 pub mod Observations

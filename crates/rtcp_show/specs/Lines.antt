@@ -1,5 +1,5 @@
 -- The lines of an event and its answer, as `rtcp listen --show` writes them. `shows` is how the packets of a datagram
--- are shown.
+-- are shown, `told` how a moment is written, and `time` a moment as it is written.
 use Rattle.std.specs.Prelude.{◌≡◌, ℕ, List, [], ◌∷◌, ◌++◌, Option, Some, None, Ok, Err, codes}
 use Rattle.rtcp_wire.specs.Grammar.{IsAccepted}
 use Rattle.rtcp_wire.specs.Values.{RtcpPacket}
@@ -17,8 +17,8 @@ use Rattle.rtcp_show.specs.Numbers.{moment_text, peer_text}
 -- ---- Parts
 
 -- a moment, a word and a peer, before what is said of a datagram
-abbrev pub passing_text : (moment : ℕ) → (word : List ℕ) → (peer : ℕ) → List ℕ
-passing_text moment word peer = moment_text moment ++ word ++ peer_text peer ++ codes " "
+abbrev pub passing_text : (time word : List ℕ) → (peer : ℕ) → List ℕ
+passing_text time word peer = time ++ word ++ peer_text peer ++ codes " "
 
 -- why a call was refused, or a datagram held back
 abbrev pub refused_text : Untaken → List ℕ
@@ -43,22 +43,22 @@ HasPackets (rtcp_arrived moment peer word octets) answer packets = ArePackets oc
 HasPackets event answer packets = packets ≡ []
 
 -- An RTCP datagram has the text of `check` where it was taken.
-abbrev pub ShowsRtcp : (shows : List RtcpPacket → List ℕ) → (moment peer : ℕ) → (octets : List ℕ) → GuardedAnswer →
-    List ℕ → Type 0
-ShowsRtcp shows moment peer octets (Ok step) text =
-    (checked : List ℕ) × IsAnswerBy shows octets checked × (text ≡ passing_text moment (codes " in ") peer ++ checked)
-ShowsRtcp shows moment peer octets (Err untaken) text =
-    text ≡ passing_text moment (codes " in ") peer ++ refused_text untaken
+abbrev pub ShowsRtcp : (shows : List RtcpPacket → List ℕ) → (time : List ℕ) → (peer : ℕ) → (octets : List ℕ) →
+    GuardedAnswer → List ℕ → Type 0
+ShowsRtcp shows time peer octets (Ok step) text =
+    (checked : List ℕ) × IsAnswerBy shows octets checked × (text ≡ passing_text time (codes " in ") peer ++ checked)
+ShowsRtcp shows time peer octets (Err untaken) text =
+    text ≡ passing_text time (codes " in ") peer ++ refused_text untaken
 
 -- An RTP datagram is shown only where it was refused.
-abbrev pub rtp_text : (moment peer : ℕ) → GuardedAnswer → List ℕ
-rtp_text moment peer (Ok step) = []
-rtp_text moment peer (Err untaken) = passing_text moment (codes " rtp ") peer ++ refused_text untaken
+abbrev pub rtp_text : (time : List ℕ) → (peer : ℕ) → GuardedAnswer → List ℕ
+rtp_text time peer (Ok step) = []
+rtp_text time peer (Err untaken) = passing_text time (codes " rtp ") peer ++ refused_text untaken
 
 -- So is what else the participant is told.
-abbrev pub told_text : (moment : ℕ) → GuardedAnswer → List ℕ
-told_text moment (Ok step) = []
-told_text moment (Err untaken) = moment_text moment ++ codes " " ++ refused_text untaken
+abbrev pub told_text : (time : List ℕ) → GuardedAnswer → List ℕ
+told_text time (Ok step) = []
+told_text time (Err untaken) = time ++ codes " " ++ refused_text untaken
 
 abbrev pub moment_of_event : EventValue → ℕ
 moment_of_event (rtcp_arrived moment peer word octets) = moment
@@ -69,42 +69,48 @@ moment_of_event (leave_asked moment word) = moment
 moment_of_event (settings_given moment settings) = moment
 moment_of_event (forget_asked moment ssrc) = moment
 
-abbrev pub ShowsEvent : (shows : List RtcpPacket → List ℕ) → EventValue → GuardedAnswer → List ℕ → Type 0
-ShowsEvent shows (rtcp_arrived moment peer word octets) answer text = ShowsRtcp shows moment peer octets answer text
-ShowsEvent shows (rtp_arrived moment peer word octets) answer text = text ≡ rtp_text moment peer answer
-ShowsEvent shows event answer text = text ≡ told_text (moment_of_event event) answer
+abbrev pub ShowsEvent : (told : ℕ → List ℕ) → (shows : List RtcpPacket → List ℕ) → EventValue → GuardedAnswer →
+    List ℕ → Type 0
+ShowsEvent told shows (rtcp_arrived moment peer word octets) answer text =
+    ShowsRtcp shows (told moment) peer octets answer text
+ShowsEvent told shows (rtp_arrived moment peer word octets) answer text = text ≡ rtp_text (told moment) peer answer
+ShowsEvent told shows event answer text = text ≡ told_text (told (moment_of_event event)) answer
 
 -- ---- What was answered
 
 -- the new identifier, where there is one
-abbrev pub changed_text : (moment : ℕ) → Option ℕ → List ℕ
-changed_text moment None = []
-changed_text moment (Some ssrc) = moment_text moment ++ codes " ssrc=" ++ hex_word ssrc ++ 10 ∷ []
+abbrev pub changed_text : (time : List ℕ) → Option ℕ → List ℕ
+changed_text time None = []
+changed_text time (Some ssrc) = time ++ codes " ssrc=" ++ hex_word ssrc ++ 10 ∷ []
 
 -- The compound that goes out, if there is one, has the text of `check`. `to` is where it goes.
-abbrev pub ShowsOut : (shows : List RtcpPacket → List ℕ) → (moment to : ℕ) → Option OutValue → List ℕ → Type 0
-ShowsOut shows moment to None text = text ≡ []
-ShowsOut shows moment to (Some out) text =
+abbrev pub ShowsOut :
+    (shows : List RtcpPacket → List ℕ) → (time : List ℕ) → (to : ℕ) → Option OutValue → List ℕ → Type 0
+ShowsOut shows time to None text = text ≡ []
+ShowsOut shows time to (Some out) text =
     (checked : List ℕ) × IsAnswerBy shows out.octets checked
-    × (text ≡ passing_text moment (codes " out ") to ++ checked)
+    × (text ≡ passing_text time (codes " out ") to ++ checked)
 
-abbrev pub ShowsAnswer : (shows : List RtcpPacket → List ℕ) → (moment to : ℕ) → GuardedAnswer → List ℕ → Type 0
-ShowsAnswer shows moment to (Ok step) text =
-    (sent : List ℕ) × ShowsOut shows moment to step.out sent × (text ≡ changed_text moment step.changed ++ sent)
-ShowsAnswer shows moment to (Err untaken) text = text ≡ []
+abbrev pub ShowsAnswer :
+    (shows : List RtcpPacket → List ℕ) → (time : List ℕ) → (to : ℕ) → GuardedAnswer → List ℕ → Type 0
+ShowsAnswer shows time to (Ok step) text =
+    (sent : List ℕ) × ShowsOut shows time to step.out sent × (text ≡ changed_text time step.changed ++ sent)
+ShowsAnswer shows time to (Err untaken) text = text ≡ []
 
 -- a compound that went out, and was not handed to the network
-abbrev pub unsent_text : (moment to : ℕ) → List ℕ
-unsent_text moment to = moment_text moment ++ codes " unsent " ++ peer_text to ++ 10 ∷ []
+abbrev pub unsent_text : (time : List ℕ) → (to : ℕ) → List ℕ
+unsent_text time to = time ++ codes " unsent " ++ peer_text to ++ 10 ∷ []
 
 -- ---- Both
 
 -- what came, and then what was answered
-abbrev pub ShowsBothBy : (shows : List RtcpPacket → List ℕ) → (to : ℕ) → EventValue → GuardedAnswer → List ℕ → Type 0
-ShowsBothBy shows to event answer text =
-    (came : List ℕ) × ShowsEvent shows event answer came
-    × ((answered : List ℕ) × ShowsAnswer shows (moment_of_event event) to answer answered × (text ≡ came ++ answered))
+abbrev pub ShowsBothBy : (told : ℕ → List ℕ) → (shows : List RtcpPacket → List ℕ) → (to : ℕ) → EventValue →
+    GuardedAnswer → List ℕ → Type 0
+ShowsBothBy told shows to event answer text =
+    (came : List ℕ) × ShowsEvent told shows event answer came
+    × ((answered : List ℕ) × ShowsAnswer shows (told (moment_of_event event)) to answer answered
+    × (text ≡ came ++ answered))
 
--- the same, with the text of `check`
+-- the same, with moments in seconds and the text of `check`
 abbrev pub ShowsBoth : (to : ℕ) → EventValue → GuardedAnswer → List ℕ → Type 0
-ShowsBoth to event answer text = ShowsBothBy accepted_text to event answer text
+ShowsBoth to event answer text = ShowsBothBy moment_text accepted_text to event answer text

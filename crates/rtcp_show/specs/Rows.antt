@@ -1,4 +1,4 @@
--- The row of a source, as `rtcp listen --show` writes it.
+-- The row of a source, as `rtcp listen --show` writes it. `told` is how a moment is written.
 use Rattle.std.specs.Prelude.{ℕ, ◌*◌, ◌/◌, Bool, true, false, List, [], ◌∷◌, ◌++◌, max, if◌then◌else◌, Option, Some, None, codes}
 use Rattle.std.specs.Fmt.{decimal, signed_decimal}
 use Rattle.std.specs.List.{flat_map}
@@ -18,12 +18,12 @@ sends_text true = codes " sends=yes"
 sends_text false = codes " sends=no"
 
 -- A source that is no member has left, or is not yet valid.
-abbrev pub left_text : Option ℕ → List ℕ
-left_text None = codes " valid=no"
-left_text (Some moment) = codes " left=" ++ moment_text moment
+abbrev pub left_text : (told : ℕ → List ℕ) → Option ℕ → List ℕ
+left_text told None = codes " valid=no"
+left_text told (Some moment) = codes " left=" ++ told moment
 
-abbrev pub standing_text : StateValue → List ℕ
-standing_text state = sends_text state.sender ++ (if state.member then [] else left_text state.left)
+abbrev pub standing_text : (told : ℕ → List ℕ) → StateValue → List ℕ
+standing_text told state = sends_text state.sender ++ (if state.member then [] else left_text told state.left)
 
 -- Jitter is in units of the clock of the newest packet, which has at least one a second.
 abbrev pub reception_text : Option ReceptionValue → List ℕ
@@ -42,13 +42,14 @@ cname_text (Some cname) = codes " cname=" ++ quoted_text cname
 
 -- ---- Rows
 
-abbrev pub facts_text : StateValue → NoteValue → List ℕ
-facts_text state note =
-    codes "source=" ++ hex_word state.ssrc ++ standing_text state ++ reception_text state.reception
+abbrev pub facts_text : (told : ℕ → List ℕ) → StateValue → NoteValue → List ℕ
+facts_text told state note =
+    codes "source=" ++ hex_word state.ssrc ++ standing_text told state ++ reception_text state.reception
     ++ trip_text note.trip ++ cname_text note.cname
 
+-- with moments in seconds
 abbrev pub row_text : StateValue → NoteValue → List ℕ
-row_text state note = facts_text state note ++ 10 ∷ []
+row_text state note = facts_text moment_text state note ++ 10 ∷ []
 
 -- ---- How packets come, after these facts
 
@@ -73,15 +74,15 @@ flow_text state flow =
     tenths_text (codes " total-loss=") flow.loss (codes "%") ++ interval_text state.last_block
     ++ tenths_text (codes " pace=") flow.packet_rate (codes "/s") ++ origin_text flow.rtp_peer flow.rtcp_peer
 
-abbrev pub full_row_text : StateValue → NoteValue → Flow → List ℕ
-full_row_text state note flow = facts_text state note ++ flow_text state flow ++ 10 ∷ []
+abbrev pub full_row_text : (told : ℕ → List ℕ) → StateValue → NoteValue → Flow → List ℕ
+full_row_text told state note flow = facts_text told state note ++ flow_text state flow ++ 10 ∷ []
 
 abbrev pub counts_text : (members senders : ℕ) → List ℕ
 counts_text members senders = codes "members=" ++ decimal members ++ codes " senders=" ++ decimal senders ++ 10 ∷ []
 
 -- the counts, and a row for each source, with what is noted of it
-abbrev pub sources_text :
-    (members senders : ℕ) → (note : ℕ → NoteValue) → (flow : ℕ → Flow) → List StateValue → List ℕ
-sources_text members senders note flow states =
+abbrev pub sources_text : (told : ℕ → List ℕ) → (members senders : ℕ) → (note : ℕ → NoteValue) → (flow : ℕ → Flow) →
+    List StateValue → List ℕ
+sources_text told members senders note flow states =
     counts_text members senders
-    ++ flat_map (λ state. full_row_text state (note state.ssrc) (flow state.ssrc)) states
+    ++ flat_map (λ state. full_row_text told state (note state.ssrc) (flow state.ssrc)) states

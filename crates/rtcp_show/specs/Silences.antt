@@ -3,8 +3,8 @@ use Rattle.std.specs.Prelude.{ℕ, ◌&&◌, ◌||◌, not, nat_le, Bool, true, 
 use Rattle.rtcp_engine.specs.answers.Acts.{EventValue, rtcp_arrived, rtp_arrived}
 use Rattle.rtcp_text.specs.declared.fault.TextFault.{TextFault}
 use Rattle.rtcp_show.specs.declared.silence.SilenceWatcher.{SilenceWatcher}
+use Rattle.rtcp_show.specs.declared.times.Clock.{Clock}
 use Rattle.rtcp_show.specs.Lines.{moment_of_event}
-use Rattle.rtcp_show.specs.Numbers.{moment_text}
 use Rattle.rtcp_show.specs.Watchers.{held_on}
 
 -- whether a datagram came with an event
@@ -24,17 +24,22 @@ is_over_after over event = over || is_arrival event || is_late event
 abbrev pub says_silence : (over : Bool) → EventValue → Bool
 says_silence over event = not over && not (is_arrival event) && is_late event
 
--- the line, with the first event after five seconds in which no datagram came
-abbrev pub silence_text : (moment : ℕ) → List ℕ
-silence_text moment = moment_text moment ++ codes " nothing heard yet" ++ 10 ∷ []
+-- The line, with the first event after five seconds in which no datagram came. `time` is its moment as it is written.
+abbrev pub silence_text : (time : List ℕ) → List ℕ
+silence_text time = time ++ codes " nothing heard yet" ++ 10 ∷ []
 
-abbrev pub said_of_silence : (over : Bool) → EventValue → List ℕ
-said_of_silence over event = if says_silence over event then silence_text (moment_of_event event) else []
+-- `told` is how a moment is written.
+abbrev pub said_of_silence : (told : ℕ → List ℕ) → (over : Bool) → EventValue → List ℕ
+said_of_silence told over event = if says_silence over event then silence_text (told (moment_of_event event)) else []
 
 -- ---- Of a watcher
 
 abbrev pub is_over : {W : Type 0} → SilenceWatcher W → Bool
 is_over watcher = watcher.is_over
+
+-- what its moments are written by
+abbrev pub clock_in : {W : Type 0} → SilenceWatcher W → Clock
+clock_in watcher = watcher.clock
 
 abbrev pub fault_in : {W : Type 0} → SilenceWatcher W → Option TextFault
 fault_in watcher = watcher.fault

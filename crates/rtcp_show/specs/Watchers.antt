@@ -18,15 +18,15 @@ use Rattle.rtcp_show.specs.declared.changes.Roles.{Roles}
 use Rattle.rtcp_show.specs.declared.flows.Flow.{Flow}
 use Rattle.rtcp_show.specs.declared.page.Page.{Page}
 use Rattle.rtcp_show.specs.declared.printer.Printer.{Printer}
-use Rattle.rtcp_show.specs.declared.printer.Terms.{Terms}
+use Rattle.rtcp_show.specs.declared.terms.Terms.{Terms}
 use Rattle.rtcp_show.specs.declared.watcher.Watcher.{Watcher}
 use Rattle.rtcp_show.specs.Changes.{KeepsListing, ShowsChanges, lists_anew, shows_others}
 use Rattle.rtcp_show.specs.Flows.{IsMediaOf, elapsed_since, flow_in, flow_looked, flow_after_event, peer_of_event}
 use Rattle.rtcp_show.specs.Lines.{HasPackets, ShowsBothBy, moment_of_event}
 use Rattle.rtcp_show.specs.Listings.{lists, state_at}
 use Rattle.rtcp_show.specs.Notes.{NoteValue, kept_if, note_after_event, noted_in}
-use Rattle.rtcp_show.specs.Numbers.{moment_text}
-use Rattle.rtcp_show.specs.Rows.{sources_text}
+use Rattle.rtcp_show.specs.ShortRows.{rows_text}
+use Rattle.rtcp_show.specs.Times.{told_by}
 use Rattle.rtcp_show.specs.Wordings.{shown_in}
 
 -- ---- Of a page
@@ -54,23 +54,25 @@ is_due second moment = nat_lt second (moment / 1000000)
 abbrev pub second_after : (second moment : ℕ) → ℕ
 second_after second moment = if is_due second moment then moment / 1000000 else second
 
--- Who is there after a history, with these notes and flows of them.
-pub record IsThere (history : History) (noted : ℕ → NoteValue) (flowing : ℕ → Flow) (rows : List ℕ) : Type 0 where
+-- Who is there after a history, as a printer of these terms writes it, with these notes and flows of them.
+pub record IsThere (terms : Terms) (history : History) (noted : ℕ → NoteValue) (flowing : ℕ → Flow)
+    (rows : List ℕ) : Type 0 where
   pub states : List StateValue
   pub walk : WalksInLife (setup_at history) (life_at history) states
-  pub says : rows ≡ sources_text (members_in_life (setup_at history) (life_at history))
+  pub says : rows ≡ rows_text terms.rows (told_by terms.clock) (members_in_life (setup_at history) (life_at history))
       (senders_in_life (setup_at history) (life_at history)) noted flowing states
 
 -- The rows that are kept: where they are due, those of who is there after a history, and else those of before.
-abbrev pub KeepsRows : (due : Bool) → History → (board : Board) → (before after : List ℕ) → Type 0
-KeepsRows false history board before after = after ≡ before
-KeepsRows true history board before after = IsThere history (noted_in board.notes) (flow_in board.flows) after
+abbrev pub KeepsRows : Terms → (due : Bool) → History → (board : Board) → (before after : List ℕ) → Type 0
+KeepsRows terms false history board before after = after ≡ before
+KeepsRows terms true history board before after =
+    IsThere terms history (noted_in board.notes) (flow_in board.flows) after
 
--- They are written where they are due and are not those that were written last, with the moment and a space (32) before
+-- They are written where they are due and are not those that were written last, with the time and a space (32) before
 -- them.
-abbrev pub news_text : (due : Bool) → (moment : ℕ) → (before after : List ℕ) → List ℕ
-news_text false moment before after = []
-news_text true moment before after = if bytes_eq after before then [] else moment_text moment ++ 32 ∷ after
+abbrev pub news_text : (due : Bool) → (time : List ℕ) → (before after : List ℕ) → List ℕ
+news_text false time before after = []
+news_text true time before after = if bytes_eq after before then [] else time ++ 32 ∷ after
 
 -- What is kept of each source where the rows are due: of those that are not listed nothing is.
 pub record LooksAt (now : ℕ) (history : History) (before after : Board) : Type 0 where
@@ -98,6 +100,10 @@ arrival_at ntp_base moment = ntp_moment ntp_base moment / 65536 % 2 ^ 32
 -- what a printer knows of the session from its start
 abbrev pub terms_of : {W : Type 0} → Printer W → Terms
 terms_of printer = printer.terms
+
+-- how it writes a moment
+abbrev pub time_told : {W : Type 0} → Printer W → (moment : ℕ) → List ℕ
+time_told printer moment = told_by (terms_of printer).clock moment
 
 abbrev pub writer_of : {W : Type 0} → Printer W → W
 writer_of printer = printer.page.writer
@@ -139,12 +145,16 @@ pub record Watches {W : Type 0} (contents : W → Option (List ℕ)) (event : Ev
   pub lines : List ℕ
   pub changes : List ℕ
   pub terms : terms_of after ≡ terms_of before
-  pub shows : ShowsBothBy (shown_in (terms_of before).wording) (terms_of before).to event answer lines
-  pub tells : ShowsChanges (shows_others event answer) (moment_of_event event) history (listing_of before) changes
+  pub shows : ShowsBothBy (told_by (terms_of before).clock) (shown_in (terms_of before).wording) (terms_of before).to
+      event answer lines
+  pub tells : ShowsChanges (shows_others event answer) (time_told before (moment_of_event event)) history
+      (listing_of before) changes
   pub writes : Appends (held_by contents before) (held_by contents after) (lines ++ (changes
-      ++ news_text (is_due_at before event) (moment_of_event event) (rows_of before) (rows_of after)))
+      ++ news_text (is_due_at before event) (time_told before (moment_of_event event)) (rows_of before)
+      (rows_of after)))
   pub listing : KeepsListing (lists_anew event answer) history (listing_of before) (listing_of after)
-  pub rows : KeepsRows (is_due_at before event) history after.board (rows_of before) (rows_of after)
+  pub rows : KeepsRows (terms_of before) (is_due_at before event) history after.board (rows_of before)
+      (rows_of after)
   pub second : second_of after ≡ second_after (second_of before) (moment_of_event event)
   pub looked : looked_of after ≡ (if is_due_at before event then moment_of_event event else looked_of before)
   pub notes : (packets : List RtcpPacket) → HasPackets event answer packets → (ssrc : ℕ) →

@@ -1,20 +1,26 @@
 //! Who is there, once a second.
 
-ghost use Rattle.std.specs.Prelude.{◌≡◌, ◌++◌, [], ℕ, Option, OnOk, true, unwrap_or};
-ghost use Rattle.rtcp_engine.specs.answers.Histories.{History, setup_at};
+ghost use Rattle.std.specs.Prelude.{◌≡◌, ◌++◌, [], ℕ, List, Option, OnOk, true, unwrap_or};
+ghost use Rattle.rtcp_members.specs.Listings.{StateValue};
+ghost use Rattle.rtcp_engine.specs.answers.Histories.{History, life_at, setup_at};
+ghost use Rattle.rtcp_engine.specs.answers.Lives.{WalksInLife, members_in_life, senders_in_life};
 ghost use Rattle.rtcp_engine.specs.state.States.{StandsAt};
 ghost use Rattle.rtcp_engine.specs.state.Views.{event_value};
 ghost use Rattle.rtcp_guarded.specs.Views.{guarded_value};
 ghost use Rattle.rtcp_show.specs.Flows.{IsMediaOf, flow_in, heard_after, no_flow, peer_of_event};
 ghost use Rattle.rtcp_show.specs.Listings.{if_listed, lists};
 ghost use Rattle.rtcp_show.specs.Notes.{noted_after, noted_in, nothing};
+ghost use Rattle.rtcp_show.specs.ShortRows.{rows_text};
+ghost use Rattle.rtcp_show.specs.Times.{told_by, when_text};
 ghost use Rattle.rtcp_show.specs.Watchers.{news_text};
 
 use crate::by_source::BySource;
 use crate::flows::{Flow, looked_at};
 use crate::notes::Note;
-use crate::numbers::push_moment;
-use crate::rows::push_sources;
+use crate::rows::{Rows, push_sources};
+use crate::short_rows::push_short_sources;
+use crate::terms::Terms;
+use crate::times::{When, push_when};
 use rtcp_engine::{Event, Participant};
 use rtcp_guarded::GuardedAnswer;
 use rtcp_members::MemberTable;
@@ -63,6 +69,13 @@ impl Board {
         }
     }
 
+    /// The counts and the rows that were written last.
+    pub(crate) fn last_rows(&self) -> &[u8]
+        ensures { result.now ≡ self.now.rows.items }
+    {
+        &self.rows
+    }
+
     /// Keeps what an event tells of sources that the participant lists. It came at this moment, by the middle 32 bits
     /// of an NTP timestamp.
     pub(crate) fn note<T: MemberTable>(
@@ -91,18 +104,20 @@ impl Board {
         noted.and(flowing)
     }
 
-    /// Appends who is there, where that is due and is not as it was written last. What is kept of sources that are not
-    /// listed is then forgotten.
+    /// Appends who is there, by these terms, where that is due and is not as it was written last. What is kept of
+    /// sources that are not listed is then forgotten.
     pub(crate) fn compose<T: MemberTable>(
         &mut self,
         out: &mut Vec<u8>,
+        terms: Terms,
         now: u64,
         participant: &Participant<T>,
     ) -> Result<(), AllocError>
         ensures written { OnOk result (out.new.items ≡ out.old.items
-            ++ news_text (is_due self.old.second now) now self.old.rows.items self.new.rows.items) }
+            ++ news_text (is_due self.old.second now) (told_by terms.clock now) self.old.rows.items
+            self.new.rows.items) }
         ensures keeps { (history : History) → StandsAt participant.now history →
-            OnOk result (KeepsRows (is_due self.old.second now) history self.new self.old.rows.items
+            OnOk result (KeepsRows terms (is_due self.old.second now) history self.new self.old.rows.items
             self.new.rows.items) }
         ensures looks { (history : History) → StandsAt participant.now history →
             OnOk result (LooksIf (is_due self.old.second now) now history self.old self.new) }
@@ -114,8 +129,19 @@ impl Board {
         self.second = now / SECOND;
         self.look(now, participant)?;
         self.next_rows.clear();
-        push_sources(&mut self.next_rows, participant, &self.notes, &self.flows)?;
-        push_news(out, now, &self.rows, &self.next_rows)?;
+        push_rows(
+            self.alloc,
+            &mut self.next_rows,
+            terms,
+            participant,
+            &self.notes,
+            &self.flows,
+        )?;
+        let when = When {
+            clock: terms.clock,
+            moment: now,
+        };
+        push_news(out, when, &self.rows, &self.next_rows)?;
         mem::swap(&mut self.rows, &mut self.next_rows);
         Ok(())
     }
@@ -146,19 +172,41 @@ impl Board {
     }
 }
 
+/// Appends the members, the senders and the rows of the sources, by these terms.
+fn push_rows<T: MemberTable>(
+    alloc: Global,
+    out: &mut Vec<u8>,
+    terms: Terms,
+    participant: &Participant<T>,
+    notes: &BySource<Note>,
+    flows: &BySource<Flow>,
+) -> Result<(), AllocError>
+    ensures { (history : History) → StandsAt participant.now history →
+        OnOk result ((states : List StateValue) × WalksInLife (setup_at history) (life_at history) states
+        × (out.new.items ≡ out.old.items ++ rows_text terms.rows (told_by terms.clock)
+        (members_in_life (setup_at history) (life_at history)) (senders_in_life (setup_at history) (life_at history))
+        (noted_in notes.now) (flow_in flows.now) states)) }
+{
+    match terms.rows {
+        Rows::Full => push_sources(out, terms.clock, participant, notes, flows),
+        Rows::Short(most) => push_short_sources(alloc, out, most, participant, notes, flows),
+    }
+}
+
 /// Appends the rows with their moment, where they are not those before.
 fn push_news(
     out: &mut Vec<u8>,
-    now: u64,
+    when: When,
     before: &Vec<u8>,
     after: &Vec<u8>,
 ) -> Result<(), AllocError>
-    ensures { OnOk result (out.new.items ≡ out.old.items ++ news_text true now before.now.items after.now.items) }
+    ensures { OnOk result (out.new.items ≡ out.old.items
+        ++ news_text true (when_text when) before.now.items after.now.items) }
 {
     if after == before {
         return Ok(());
     }
-    push_moment(out, now)?;
+    push_when(out, when)?;
     out.push(b' ')?;
     out.extend_from_slice(after)
 }

@@ -9,9 +9,11 @@ ghost use Rattle.rtcp_listing.specs.Differences.{changes, listed_of, rises_from}
 ghost use Rattle.rtcp_members.specs.ListViews.{state_value};
 ghost use Rattle.rtcp_engine.specs.state.Views.{event_value};
 ghost use Rattle.rtcp_guarded.specs.Views.{guarded_value};
+ghost use Rattle.rtcp_show.specs.Numbers.{moment_text};
+ghost use Rattle.rtcp_show.specs.Times.{when_text};
 ghost use Rattle.rtcp_show.specs.Changes.{KeepsListing, ShowsChanges, change_text, changes_text, is_forgetting, is_leave, line_where, lists_anew, shows_others, shown_changes};
 
-use crate::numbers::push_moment;
+use crate::times::{Clock, When, push_when};
 use rtcp_engine::{Event, Participant};
 use rtcp_guarded::GuardedAnswer;
 use rtcp_listing::{Change, Changes, is_rising};
@@ -46,18 +48,18 @@ impl Roles {
         &mut self,
         out: &mut Vec<u8>,
         told: bool,
-        moment: u64,
+        when: When,
         participant: &Participant<T>,
     ) -> Result<(), AllocError>
         ensures composed { (history : History) → StandsAt participant.now history →
-            OnOk result ((changes : List ℕ) × ShowsChanges told moment history (listed_in self.old) changes
+            OnOk result ((changes : List ℕ) × ShowsChanges told (when_text when) history (listed_in self.old) changes
             × (out.new.items ≡ out.old.items ++ changes)) }
         ensures keeps { (history : History) → StandsAt participant.now history →
             OnOk result (KeepsListing true history (listed_in self.old) (listed_in self.new)) }
     {
         self.next.clear();
         push_listing(&mut self.next, participant)?;
-        push_if_shown(out, told, moment, &self.listing, &self.next)?;
+        push_if_shown(out, told, when, &self.listing, &self.next)?;
         mem::swap(&mut self.listing, &mut self.next);
         Ok(())
     }
@@ -96,7 +98,7 @@ fn is_forgetting(event: &Event<'_>) -> bool
 }
 
 /// Appends the sources that the participant tells of to a list.
-fn push_listing<T: MemberTable>(
+pub(crate) fn push_listing<T: MemberTable>(
     listing: &mut Vec<SourceState>,
     participant: &Participant<T>,
 ) -> Result<(), AllocError>
@@ -114,16 +116,16 @@ fn push_listing<T: MemberTable>(
 fn push_if_shown(
     out: &mut Vec<u8>,
     told: bool,
-    moment: u64,
+    when: When,
     before: &[SourceState],
     after: &[SourceState],
 ) -> Result<(), AllocError>
     ensures { OnOk result (out.new.items ≡ out.old.items
-        ++ shown_changes told moment (map (λ state. listed_of (state_value state)) before.now)
+        ++ shown_changes told (when_text when) (map (λ state. listed_of (state_value state)) before.now)
         (map (λ state. listed_of (state_value state)) after.now)) }
 {
     if told {
-        push_changes(out, moment, before, after)
+        push_changes(out, when, before, after)
     } else {
         Ok(())
     }
@@ -138,16 +140,16 @@ fn push_if_shown(
 /// - `4.500000 timed-out=00000007`: it was a member, and was dropped without a BYE.
 fn push_changes(
     out: &mut Vec<u8>,
-    moment: u64,
+    when: When,
     before: &[SourceState],
     after: &[SourceState],
 ) -> Result<(), AllocError>
     ensures { OnOk result (out.new.items ≡ out.old.items
-        ++ changes_text moment (map (λ state. listed_of (state_value state)) before.now)
+        ++ changes_text (when_text when) (map (λ state. listed_of (state_value state)) before.now)
         (map (λ state. listed_of (state_value state)) after.now)) }
 {
     if is_rising(before) && is_rising(after) {
-        push_all(out, moment, before, after)
+        push_all(out, when, before, after)
     } else {
         Ok(())
     }
@@ -156,44 +158,49 @@ fn push_changes(
 /// The same of listings that rise.
 fn push_all(
     out: &mut Vec<u8>,
-    moment: u64,
+    when: When,
     before: &[SourceState],
     after: &[SourceState],
 ) -> Result<(), AllocError>
     requires before { rises_from 0 (map (λ state. listed_of (state_value state)) before.now) ≡ true }
     requires after { rises_from 0 (map (λ state. listed_of (state_value state)) after.now) ≡ true }
     ensures { OnOk result (out.new.items ≡ out.old.items
-        ++ flat_map (change_text moment) (changes (map (λ state. listed_of (state_value state)) before.now)
+        ++ flat_map (change_text (when_text when)) (changes (map (λ state. listed_of (state_value state)) before.now)
         (map (λ state. listed_of (state_value state)) after.now))) }
 {
     for change in Changes::of(before, after) {
-        push_change(out, moment, &change)?;
+        push_change_at(out, when, &change)?;
     }
     Ok(())
 }
 
-/// Appends the lines of what changed of a source.
+/// Appends the lines of what changed of a source, with the moment in seconds.
 pub fn push_change(out: &mut Vec<u8>, moment: u64, change: &Change) -> Result<(), AllocError>
-    ensures { OnOk result (out.new.items ≡ out.old.items ++ change_text moment change.now) }
+    ensures { OnOk result (out.new.items ≡ out.old.items ++ change_text (moment_text moment) change.now) }
+{
+    let when = When {
+        clock: Clock::Session,
+        moment,
+    };
+    push_change_at(out, when, change)
+}
+
+/// Appends the lines of what changed of a source, with this moment.
+fn push_change_at(out: &mut Vec<u8>, when: When, change: &Change) -> Result<(), AllocError>
+    ensures { OnOk result (out.new.items ≡ out.old.items ++ change_text (when_text when) change.now) }
 {
     let ssrc = change.ssrc;
-    push_where(out, change.joined(), moment, b" joined=", ssrc)?;
-    push_where(
-        out,
-        change.began_to_send(),
-        moment,
-        b" began-sending=",
-        ssrc,
-    )?;
+    push_where(out, change.joined(), when, b" joined=", ssrc)?;
+    push_where(out, change.began_to_send(), when, b" began-sending=", ssrc)?;
     push_where(
         out,
         change.stopped_sending(),
-        moment,
+        when,
         b" stopped-sending=",
         ssrc,
     )?;
-    push_where(out, change.left(), moment, b" bye=", ssrc)?;
-    push_where(out, change.went_without_bye(), moment, b" timed-out=", ssrc)?;
+    push_where(out, change.left(), when, b" bye=", ssrc)?;
+    push_where(out, change.went_without_bye(), when, b" timed-out=", ssrc)?;
     Ok(())
 }
 
@@ -201,16 +208,16 @@ pub fn push_change(out: &mut Vec<u8>, moment: u64, change: &Change) -> Result<()
 fn push_where(
     out: &mut Vec<u8>,
     so: bool,
-    moment: u64,
+    when: When,
     word: &[u8],
     ssrc: u32,
 ) -> Result<(), AllocError>
-    ensures { OnOk result (out.new.items ≡ out.old.items ++ line_where so moment word.now ssrc) }
+    ensures { OnOk result (out.new.items ≡ out.old.items ++ line_where so (when_text when) word.now ssrc) }
 {
     if !so {
         return Ok(());
     }
-    push_moment(out, moment)?;
+    push_when(out, when)?;
     out.extend_from_slice(word)?;
     push_word(out, ssrc)?;
     out.push(b'\n')?;

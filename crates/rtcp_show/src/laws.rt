@@ -1,13 +1,20 @@
 //! Laws of what a printer tells and knows. Each is an empty function whose postcondition is the law.
 
-ghost use Rattle.std.specs.Prelude.{◌≡◌, ◌∷◌, ℕ, List, None, Ok, true};
+ghost use Rattle.std.specs.Prelude.{◌≡◌, ◌≤◌, ◌∷◌, ℕ, List, None, Ok, length, map, true};
 ghost use Rattle.rtcp_engine.specs.answers.Acts.{Act, EventValue, IsActOfEvent, left};
 ghost use Rattle.rtcp_engine.specs.answers.Answers.{step_by};
 ghost use Rattle.rtcp_engine.specs.answers.Histories.{History, life_at, with_act};
+ghost use Rattle.rtcp_engine.specs.answers.Leaving.{Life};
+ghost use Rattle.rtcp_engine.specs.answers.Lives.{WalksInLife};
+ghost use Rattle.rtcp_engine.specs.answers.Setups.{Setup};
+ghost use Rattle.rtcp_members.specs.Listings.{StateValue};
 ghost use Rattle.rtcp_show.specs.Changes.{lists_anew};
 ghost use Rattle.rtcp_show.specs.Listings.{takes_part, state_at};
+ghost use Rattle.rtcp_show.specs.Notes.{NoteValue};
 ghost use Rattle.rtcp_show.specs.Observations.{IsRead, Knows, Observation, heard_of, newest_note, note_of};
+ghost use Rattle.rtcp_show.specs.ShortRows.{rank_of, short_row_text, shown_count};
 ghost use Rattle.rtcp_show.specs.Watchers.{Watches};
+ghost use Rattle.rtcp_show.specs.declared.flows.Flow.{Flow};
 ghost use Rattle.rtcp_show.specs.declared.printer.Printer.{Printer};
 
 use std::io::Write;
@@ -38,4 +45,15 @@ pub fn printers_know_what_they_saw<W: Write>()
 pub fn notes_hold_the_newest()
     ensures { (ntp_base ssrc : ℕ) (all : List Observation) →
         note_of ntp_base all ssrc ≡ newest_note ntp_base (heard_of all ssrc) ssrc }
+{}
+
+/// A short row has at most 100 octets, and a line feed.
+pub fn short_rows_fit()
+    ensures { (state : StateValue) (note : NoteValue) (flow : Flow) → length (short_row_text state note flow) ≤ 101 }
+{}
+
+/// Of the sources of a session so many at most are shown in short rows.
+pub fn few_sources_are_shown()
+    ensures { (setup : Setup) (life : Life) (states : List StateValue) (most : ℕ) → WalksInLife setup life states →
+        shown_count most (map rank_of states) ≤ most }
 {}

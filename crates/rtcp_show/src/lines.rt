@@ -6,12 +6,13 @@ ghost use Rattle.rtcp_wire.specs.Values.{RtcpPacket};
 ghost use Rattle.rtcp_engine.specs.state.Views.{event_value, out_value, step_value};
 ghost use Rattle.rtcp_guarded.specs.Views.{guarded_value};
 ghost use Rattle.rtcp_text.specs.Check.{IsAnswerBy};
-ghost use Rattle.rtcp_show.specs.Numbers.{moment_text};
 ghost use Rattle.rtcp_show.specs.Silences.{silence_text};
+ghost use Rattle.rtcp_show.specs.Times.{told_by, when_text};
 ghost use Rattle.rtcp_show.specs.Wordings.{shown_in};
 ghost use Rattle.rtcp_show.specs.Lines.{ArePackets, HasPackets, ReadsAs, ShowsAnswer, ShowsBoth, ShowsBothBy, ShowsEvent, ShowsOut, ShowsRtcp, changed_text, moment_of_event as moment_in, passing_text, rtp_text, told_text, unsent_text};
 
-use crate::numbers::{push_moment, push_peer};
+use crate::numbers::push_peer;
+use crate::times::{Clock, When, push_when};
 use crate::wording::{Wording, push_compound, push_octets};
 use rtcp_engine::{Event, Out};
 use rtcp_guarded::GuardedAnswer;
@@ -42,12 +43,21 @@ pub fn push_lines(
     ensures { OnOk result ((text : List ℕ) × ShowsBoth to (event_value event.now) (guarded_value answer.now) text
         × (out.new.items ≡ out.old.items ++ text)) }
 {
-    push_read_lines(out, Wording::Brief, to, event, answer, &None)
+    push_read_lines(
+        out,
+        Clock::Session,
+        Wording::Brief,
+        to,
+        event,
+        answer,
+        &None,
+    )
 }
 
-/// The same in a wording, with the compound of the datagram where it is read already.
+/// The same by a clock and in a wording, with the compound of the datagram where it is read already.
 pub(crate) fn push_read_lines(
     out: &mut Vec<u8>,
+    clock: Clock,
     wording: Wording,
     to: u64,
     event: &Event<'_>,
@@ -56,11 +66,15 @@ pub(crate) fn push_read_lines(
 ) -> Result<(), AllocError>
     requires { IfSome compound.now (ReadsAs (event_value event.now)) }
     ensures { OnOk result ((text : List ℕ)
-        × ShowsBothBy (shown_in wording) to (event_value event.now) (guarded_value answer.now) text
+        × ShowsBothBy (told_by clock) (shown_in wording) to (event_value event.now) (guarded_value answer.now) text
         × (out.new.items ≡ out.old.items ++ text)) }
 {
-    push_event(out, wording, event, answer, compound)?;
-    push_answered(out, wording, moment_of(event), to, answer)
+    push_event(out, clock, wording, event, answer, compound)?;
+    let when = When {
+        clock,
+        moment: moment_of(event),
+    };
+    push_answered(out, wording, when, to, answer)
 }
 
 /// The compound of an event, where it brought a datagram that was taken.
@@ -113,6 +127,7 @@ pub(crate) fn moment_of(event: &Event<'_>) -> u64
 /// Appends what is shown of an event.
 fn push_event(
     out: &mut Vec<u8>,
+    clock: Clock,
     wording: Wording,
     event: &Event<'_>,
     answer: &GuardedAnswer,
@@ -120,22 +135,23 @@ fn push_event(
 ) -> Result<(), AllocError>
     requires { IfSome compound.now (ReadsAs (event_value event.now)) }
     ensures { OnOk result ((text : List ℕ)
-        × ShowsEvent (shown_in wording) (event_value event.now) (guarded_value answer.now) text
+        × ShowsEvent (told_by clock) (shown_in wording) (event_value event.now) (guarded_value answer.now) text
         × (out.new.items ≡ out.old.items ++ text)) }
 {
+    let when = When {
+        clock,
+        moment: moment_of(event),
+    };
     match event {
-        Event::ArriveRtcp {
-            now,
-            peer,
-            bytes,
-            ..
-        } => push_rtcp(out, wording, *now, *peer, bytes, answer, compound),
-        Event::ArriveRtp { now, peer, .. } => push_rtp(out, *now, *peer, answer),
-        Event::SentRtp { now, .. }
-        | Event::Tick { now, .. }
-        | Event::Leave { now, .. }
-        | Event::Configure { now, .. }
-        | Event::Forget { now, .. } => push_told(out, *now, answer),
+        Event::ArriveRtcp { peer, bytes, .. } => {
+            push_rtcp(out, wording, when, *peer, bytes, answer, compound)
+        }
+        Event::ArriveRtp { peer, .. } => push_rtp(out, when, *peer, answer),
+        Event::SentRtp { .. }
+        | Event::Tick { .. }
+        | Event::Leave { .. }
+        | Event::Configure { .. }
+        | Event::Forget { .. } => push_told(out, when, answer),
     }
 }
 
@@ -143,7 +159,7 @@ fn push_event(
 fn push_rtcp(
     out: &mut Vec<u8>,
     wording: Wording,
-    now: u64,
+    when: When,
     peer: u64,
     bytes: &[u8],
     answer: &GuardedAnswer,
@@ -151,10 +167,10 @@ fn push_rtcp(
 ) -> Result<(), AllocError>
     requires { IfSome compound.now (IsAccepted bytes.now) }
     ensures { OnOk result ((text : List ℕ)
-        × ShowsRtcp (shown_in wording) now peer bytes.now (guarded_value answer.now) text
+        × ShowsRtcp (shown_in wording) (when_text when) peer bytes.now (guarded_value answer.now) text
         × (out.new.items ≡ out.old.items ++ text)) }
 {
-    push_passing(out, now, b" in ", peer)?;
+    push_passing(out, when, b" in ", peer)?;
     match answer {
         Ok(_) => push_datagram(out, wording, bytes, compound),
         Err(untaken) => push_untaken(out, untaken),
@@ -181,29 +197,29 @@ fn push_datagram(
 /// Appends the line of an RTP datagram, where it was refused.
 fn push_rtp(
     out: &mut Vec<u8>,
-    now: u64,
+    when: When,
     peer: u64,
     answer: &GuardedAnswer,
 ) -> Result<(), AllocError>
-    ensures { OnOk result (out.new.items ≡ out.old.items ++ rtp_text now peer (guarded_value answer.now)) }
+    ensures { OnOk result (out.new.items ≡ out.old.items ++ rtp_text (when_text when) peer (guarded_value answer.now)) }
 {
     match answer {
         Ok(_) => Ok(()),
         Err(untaken) => {
-            push_passing(out, now, b" rtp ", peer)?;
+            push_passing(out, when, b" rtp ", peer)?;
             push_untaken(out, untaken)
         }
     }
 }
 
 /// Appends the line of another call, where it was refused.
-fn push_told(out: &mut Vec<u8>, now: u64, answer: &GuardedAnswer) -> Result<(), AllocError>
-    ensures { OnOk result (out.new.items ≡ out.old.items ++ told_text now (guarded_value answer.now)) }
+fn push_told(out: &mut Vec<u8>, when: When, answer: &GuardedAnswer) -> Result<(), AllocError>
+    ensures { OnOk result (out.new.items ≡ out.old.items ++ told_text (when_text when) (guarded_value answer.now)) }
 {
     match answer {
         Ok(_) => Ok(()),
         Err(untaken) => {
-            push_moment(out, now)?;
+            push_when(out, when)?;
             out.push(b' ')?;
             push_untaken(out, untaken)
         }
@@ -214,30 +230,31 @@ fn push_told(out: &mut Vec<u8>, now: u64, answer: &GuardedAnswer) -> Result<(), 
 fn push_answered(
     out: &mut Vec<u8>,
     wording: Wording,
-    now: u64,
+    when: When,
     to: u64,
     answer: &GuardedAnswer,
 ) -> Result<(), AllocError>
-    ensures { OnOk result ((text : List ℕ) × ShowsAnswer (shown_in wording) now to (guarded_value answer.now) text
+    ensures { OnOk result ((text : List ℕ)
+        × ShowsAnswer (shown_in wording) (when_text when) to (guarded_value answer.now) text
         × (out.new.items ≡ out.old.items ++ text)) }
 {
     match answer {
         Ok(step) => {
-            push_changed(out, now, step.changed)?;
-            push_out(out, wording, now, to, &step.out)
+            push_changed(out, when, step.changed)?;
+            push_out(out, wording, when, to, &step.out)
         }
         Err(_) => Ok(()),
     }
 }
 
 /// Appends the line of a change of the SSRC, where there is one.
-fn push_changed(out: &mut Vec<u8>, now: u64, changed: Option<u32>) -> Result<(), AllocError>
-    ensures { OnOk result (out.new.items ≡ out.old.items ++ changed_text now changed) }
+fn push_changed(out: &mut Vec<u8>, when: When, changed: Option<u32>) -> Result<(), AllocError>
+    ensures { OnOk result (out.new.items ≡ out.old.items ++ changed_text (when_text when) changed) }
 {
     let Some(ssrc) = changed else {
         return Ok(());
     };
-    push_moment(out, now)?;
+    push_when(out, when)?;
     out.extend_from_slice(b" ssrc=")?;
     push_word(out, ssrc)?;
     out.push(b'\n')?;
@@ -248,16 +265,17 @@ fn push_changed(out: &mut Vec<u8>, now: u64, changed: Option<u32>) -> Result<(),
 fn push_out(
     out: &mut Vec<u8>,
     wording: Wording,
-    now: u64,
+    when: When,
     to: u64,
     sent: &Option<Out>,
 ) -> Result<(), AllocError>
-    ensures { OnOk result ((text : List ℕ) × ShowsOut (shown_in wording) now to (option_map out_value sent.now) text
+    ensures { OnOk result ((text : List ℕ)
+        × ShowsOut (shown_in wording) (when_text when) to (option_map out_value sent.now) text
         × (out.new.items ≡ out.old.items ++ text)) }
 {
     match sent {
         Some(sent) => {
-            push_passing(out, now, b" out ", to)?;
+            push_passing(out, when, b" out ", to)?;
             push_octets(out, &sent.bytes, wording)
         }
         None => Ok(()),
@@ -265,10 +283,10 @@ fn push_out(
 }
 
 /// Appends the line of a compound that was not handed to the network.
-pub(crate) fn push_unsent(out: &mut Vec<u8>, now: u64, to: u64) -> Result<(), AllocError>
-    ensures { OnOk result (out.new.items ≡ out.old.items ++ unsent_text now to) }
+pub(crate) fn push_unsent(out: &mut Vec<u8>, when: When, to: u64) -> Result<(), AllocError>
+    ensures { OnOk result (out.new.items ≡ out.old.items ++ unsent_text (when_text when) to) }
 {
-    push_moment(out, now)?;
+    push_when(out, when)?;
     out.extend_from_slice(b" unsent ")?;
     push_peer(out, to)?;
     out.push(b'\n')?;
@@ -276,31 +294,31 @@ pub(crate) fn push_unsent(out: &mut Vec<u8>, now: u64, to: u64) -> Result<(), Al
 }
 
 /// Appends the line that nothing was heard so far, if that is said.
-pub(crate) fn push_silence(out: &mut Vec<u8>, says: bool, now: u64) -> Result<(), AllocError>
-    ensures { OnOk result (out.new.items ≡ out.old.items ++ (if says then silence_text now else [])) }
+pub(crate) fn push_silence(out: &mut Vec<u8>, says: bool, when: When) -> Result<(), AllocError>
+    ensures { OnOk result (out.new.items ≡ out.old.items ++ (if says then silence_text (when_text when) else [])) }
 {
     if says {
-        push_words(out, now, b" nothing heard yet")
+        push_words(out, when, b" nothing heard yet")
     } else {
         Ok(())
     }
 }
 
 /// Appends a line with a moment and these words.
-fn push_words(out: &mut Vec<u8>, now: u64, words: &[u8]) -> Result<(), AllocError>
-    ensures { OnOk result (out.new.items ≡ out.old.items ++ (moment_text now ++ words.now ++ 10 ∷ [])) }
+fn push_words(out: &mut Vec<u8>, when: When, words: &[u8]) -> Result<(), AllocError>
+    ensures { OnOk result (out.new.items ≡ out.old.items ++ (when_text when ++ words.now ++ 10 ∷ [])) }
 {
-    push_moment(out, now)?;
+    push_when(out, when)?;
     out.extend_from_slice(words)?;
     out.push(b'\n')?;
     Ok(())
 }
 
 /// Appends a moment, a word and a peer.
-fn push_passing(out: &mut Vec<u8>, now: u64, word: &[u8], peer: u64) -> Result<(), AllocError>
-    ensures { OnOk result (out.new.items ≡ out.old.items ++ passing_text now word.now peer) }
+fn push_passing(out: &mut Vec<u8>, when: When, word: &[u8], peer: u64) -> Result<(), AllocError>
+    ensures { OnOk result (out.new.items ≡ out.old.items ++ passing_text (when_text when) word.now peer) }
 {
-    push_moment(out, now)?;
+    push_when(out, when)?;
     out.extend_from_slice(word)?;
     push_peer(out, peer)?;
     out.push(b' ')?;

@@ -9,11 +9,14 @@ ghost use Rattle.rtcp_guarded.specs.Views.{guarded_value};
 ghost use Rattle.rtcp_show.specs.Changes.{KeepsListing, ShowsChanges, lists_anew, shows_others};
 ghost use Rattle.rtcp_show.specs.Lines.{ReadsAs, ShowsBothBy, moment_of_event, unsent_text};
 ghost use Rattle.rtcp_show.specs.Silences.{silence_text};
+ghost use Rattle.rtcp_show.specs.Times.{told_by, when_text};
 ghost use Rattle.rtcp_show.specs.Wordings.{shown_in};
 
 use crate::board::Board;
 use crate::changes::{Roles, lists_anew, shows_others};
 use crate::lines::{moment_of, push_read_lines, push_silence, push_unsent};
+use crate::terms::Terms;
+use crate::times::{Clock, When};
 use crate::wording::Wording;
 use rtcp_engine::{Event, Participant};
 use rtcp_guarded::GuardedAnswer;
@@ -48,6 +51,7 @@ impl<W: Write> Page<W> {
     /// Writes the lines of an event and its answer.
     pub(crate) fn show_event(
         &mut self,
+        clock: Clock,
         wording: Wording,
         to: u64,
         event: &Event<'_>,
@@ -56,12 +60,12 @@ impl<W: Write> Page<W> {
     ) -> Result<(), TextFault>
         requires { IfSome compound.now (ReadsAs (event_value event.now)) }
         ensures written { OnOk result ((lines : List ℕ)
-            × ShowsBothBy (shown_in wording) to (event_value event.now) (guarded_value answer.now) lines
+            × ShowsBothBy (told_by clock) (shown_in wording) to (event_value event.now) (guarded_value answer.now) lines
             × Appends (held_on W.contents self.old) (held_on W.contents self.new) lines) }
         ensures fault { IfErr result IsOutFault }
     {
         self.text.clear();
-        match push_read_lines(&mut self.text, wording, to, event, answer, compound) {
+        match push_read_lines(&mut self.text, clock, wording, to, event, answer, compound) {
             Ok(()) => self.write(),
             Err(AllocError) => Err(TextFault::Memory),
         }
@@ -71,6 +75,7 @@ impl<W: Write> Page<W> {
     pub(crate) fn show_changes<T: MemberTable>(
         &mut self,
         roles: &mut Roles,
+        clock: Clock,
         event: &Event<'_>,
         answer: &GuardedAnswer,
         participant: &Participant<T>,
@@ -78,7 +83,7 @@ impl<W: Write> Page<W> {
         ensures written { (history : History) → StandsAt participant.now history →
             OnOk result ((changes : List ℕ)
             × ShowsChanges (shows_others (event_value event.now) (guarded_value answer.now))
-            (moment_of_event (event_value event.now)) history (listed_in roles.old) changes
+            (told_by clock (moment_of_event (event_value event.now))) history (listed_in roles.old) changes
             × Appends (held_on W.contents self.old) (held_on W.contents self.new) changes) }
         ensures keeps { (history : History) → StandsAt participant.now history →
             OnOk result (KeepsListing (lists_anew (event_value event.now) (guarded_value answer.now)) history
@@ -90,7 +95,11 @@ impl<W: Write> Page<W> {
         }
         self.text.clear();
         let told = shows_others(event, answer);
-        match roles.compose(&mut self.text, told, moment_of(event), participant) {
+        let when = When {
+            clock,
+            moment: moment_of(event),
+        };
+        match roles.compose(&mut self.text, told, when, participant) {
             Ok(()) => self.write(),
             Err(AllocError) => Err(TextFault::Memory),
         }
@@ -100,13 +109,15 @@ impl<W: Write> Page<W> {
     pub(crate) fn show_sources<T: MemberTable>(
         &mut self,
         board: &mut Board,
+        terms: Terms,
         now: u64,
         participant: &Participant<T>,
     ) -> Result<(), TextFault>
         ensures written { OnOk result (Appends (held_on W.contents self.old) (held_on W.contents self.new)
-            (news_text (is_due board.old.second now) now board.old.rows.items board.new.rows.items)) }
+            (news_text (is_due board.old.second now) (told_by terms.clock now) board.old.rows.items
+            board.new.rows.items)) }
         ensures keeps { (history : History) → StandsAt participant.now history →
-            OnOk result (KeepsRows (is_due board.old.second now) history board.new board.old.rows.items
+            OnOk result (KeepsRows terms (is_due board.old.second now) history board.new board.old.rows.items
             board.new.rows.items) }
         ensures looks { (history : History) → StandsAt participant.now history →
             OnOk result (LooksIf (is_due board.old.second now) now history board.old board.new) }
@@ -114,33 +125,33 @@ impl<W: Write> Page<W> {
         ensures fault { IfErr result IsOutFault }
     {
         self.text.clear();
-        match board.compose(&mut self.text, now, participant) {
+        match board.compose(&mut self.text, terms, now, participant) {
             Ok(()) => self.write(),
             Err(AllocError) => Err(TextFault::Memory),
         }
     }
 
     /// Writes that a compound was not handed to the network.
-    pub(crate) fn show_unsent(&mut self, moment: u64, to: u64) -> Result<(), TextFault>
+    pub(crate) fn show_unsent(&mut self, when: When, to: u64) -> Result<(), TextFault>
         ensures written { OnOk result (Appends (held_on W.contents self.old) (held_on W.contents self.new)
-            (unsent_text moment to)) }
+            (unsent_text (when_text when) to)) }
         ensures fault { IfErr result IsOutFault }
     {
         self.text.clear();
-        match push_unsent(&mut self.text, moment, to) {
+        match push_unsent(&mut self.text, when, to) {
             Ok(()) => self.write(),
             Err(AllocError) => Err(TextFault::Memory),
         }
     }
 
     /// Writes that nothing was heard so far, if that is said.
-    pub(crate) fn show_silence(&mut self, says: bool, moment: u64) -> Result<(), TextFault>
+    pub(crate) fn show_silence(&mut self, says: bool, when: When) -> Result<(), TextFault>
         ensures written { OnOk result (Appends (held_on W.contents self.old) (held_on W.contents self.new)
-            (if says then silence_text moment else [])) }
+            (if says then silence_text (when_text when) else [])) }
         ensures fault { IfErr result IsOutFault }
     {
         self.text.clear();
-        match push_silence(&mut self.text, says, moment) {
+        match push_silence(&mut self.text, says, when) {
             Ok(()) => self.write(),
             Err(AllocError) => Err(TextFault::Memory),
         }

@@ -9,12 +9,18 @@ ghost use Rattle.rtcp_guarded.specs.Views.{guarded_value};
 ghost use Rattle.rtcp_serve.specs.Links.{endpoint_number};
 ghost use Rattle.rtcp_show.specs.Watchers.{IsOutFault, arrival_at};
 ghost use Rattle.rtcp_show.specs.Lines.{unsent_text};
+ghost use Rattle.rtcp_show.specs.Times.{clock_of};
+ghost use Rattle.rtcp_show.specs.declared.rows.Rows.TheVariants.{Full, Short};
+ghost use Rattle.rtcp_show.specs.declared.times.Clock.TheVariants.{Session};
 ghost use Rattle.rtcp_show.specs.declared.wording.Wording.TheVariants.{Brief};
 
 use crate::board::Board;
 use crate::changes::Roles;
 use crate::lines::{compound_of, moment_of};
 use crate::page::Page;
+use crate::rows::Rows;
+use crate::terms::Terms;
+use crate::times::{Clock, Times, When, clock_of};
 use crate::wording::Wording;
 use rtcp_clock::ntp_of;
 use rtcp_engine::{Event, Participant};
@@ -25,17 +31,6 @@ use rtcp_text::TextFault;
 use std::alloc::{AllocError, Global};
 use std::io::Write;
 use std::net::SocketAddrV4;
-
-/// What a printer knows of a session from its start.
-#[derive(Clone, Copy, Debug)]
-pub(crate) struct Terms {
-    /// The NTP timestamp of moment 0.
-    ntp_base: u64,
-    /// The number of the peer to which compounds go.
-    to: u64,
-    /// How the packets of datagrams are shown.
-    wording: Wording,
-}
 
 /// Writes the lines of a session to a writer: those of each event and its answer ([`push_lines`](crate::push_lines)),
 /// and once a second the members, the senders and a row for each source ([`push_row`](crate::push_row)), unless they
@@ -58,6 +53,8 @@ impl<W: Drop> Printer<W> {
           ntp_base = ntp_base;
           to = endpoint_number to;
           wording = Brief;
+          rows = Full;
+          clock = Session;
         } }
         ensures writer { writer_of result ≡ writer }
         ensures listing { listing_of result ≡ [] }
@@ -69,6 +66,8 @@ impl<W: Drop> Printer<W> {
                 ntp_base,
                 to: endpoint_number(to),
                 wording: Wording::Brief,
+                rows: Rows::Full,
+                clock: Clock::Session,
             },
             page: Page::new(alloc, writer),
             roles: Roles::new(alloc),
@@ -86,10 +85,46 @@ impl<W: Drop> Printer<W> {
         };
         Printer { terms, ..self }
     }
+
+    /// The same printer, which writes short rows of so many sources at most in place of the full rows of all: one line
+    /// each, of at most 100 octets. They are of the sources of which most was lost by their last report blocks, and of
+    /// those of lower SSRCs where as much was lost. With 0 no rows are written.
+    ///
+    /// ```text
+    /// 0.250000 members=41 senders=40 shown=1
+    /// 00000007 sends loss=1.1% total-loss=0.4% jitter=0.413ms pace=50.0/s peer=10.0.0.1:5004 cname="a@b"
+    /// ```
+    pub fn with_rows(self, most: u32) -> Printer<W>
+        ensures { result ≡ record self { terms = record (terms_of self) { rows = Short most } } }
+    {
+        let mut printer = self;
+        printer.terms.rows = Rows::Short(most);
+        printer
+    }
+
+    /// The same printer, which writes moments so. The time of day is right as long as the NTP era of 1900 lasts, until
+    /// February 2036.
+    pub fn with_times(self, times: Times) -> Printer<W>
+        ensures { result ≡ record self {
+          terms = record (terms_of self) { clock = clock_of times (terms_of self).ntp_base };
+        } }
+    {
+        let mut printer = self;
+        printer.terms.clock = clock_of(times, printer.terms.ntp_base);
+        printer
+    }
+
+    /// The counts and the rows that were written last, with no moment before them: nothing where none were yet. With
+    /// the writer [`Sink`](std::io::Sink) a printer keeps them and writes nothing.
+    pub fn last_rows(&self) -> &[u8]
+        ensures { result.now ≡ rows_of self.now }
+    {
+        self.board.last_rows()
+    }
 }
 
 impl<W: Write> Printer<W> {
-    ghost use Rattle.rtcp_show.specs.Watchers.{Watches, held_by, terms_of, writer_of};
+    ghost use Rattle.rtcp_show.specs.Watchers.{Watches, held_by, terms_of, time_told, writer_of};
 
     /// The writer.
     pub fn into_inner(self) -> W
@@ -124,17 +159,24 @@ impl<W: Write> Printer<W> {
         let now = moment_of(event);
         let compound = compound_of(event, answer);
         let terms = self.terms;
-        let shown = self
-            .page
-            .show_event(terms.wording, terms.to, event, answer, &compound);
+        let shown = self.page.show_event(
+            terms.clock,
+            terms.wording,
+            terms.to,
+            event,
+            answer,
+            &compound,
+        );
         let arrived = arrival(terms.ntp_base, now);
         let noted = self
             .board
             .note(arrived, event, answer, &compound, participant);
         let changed = self
             .page
-            .show_changes(&mut self.roles, event, answer, participant);
-        let listed = self.page.show_sources(&mut self.board, now, participant);
+            .show_changes(&mut self.roles, terms.clock, event, answer, participant);
+        let listed = self
+            .page
+            .show_sources(&mut self.board, terms, now, participant);
         shown.and(or_memory(noted)).and(changed).and(listed)
     }
 
@@ -146,11 +188,15 @@ impl<W: Write> Printer<W> {
     /// - [`TextFault::Memory`] where memory is refused.
     pub fn print_unsent(&mut self, moment: u64) -> Result<(), TextFault>
         ensures written { OnOk result (Appends (held_by W.contents self.old) (held_by W.contents self.new)
-            (unsent_text moment (terms_of self.old).to)) }
+            (unsent_text (time_told self.old moment) (terms_of self.old).to)) }
         ensures fault { IfErr result IsOutFault }
         ensures terms { terms_of self.new ≡ terms_of self.old }
     {
-        self.page.show_unsent(moment, self.terms.to)
+        let when = When {
+            clock: self.terms.clock,
+            moment,
+        };
+        self.page.show_unsent(when, self.terms.to)
     }
 }
 

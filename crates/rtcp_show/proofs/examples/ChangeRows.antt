@@ -1,10 +1,9 @@
 -- When changes of others are told, and when the sources are listed anew.
-use Rattle.std.specs.Prelude.{◌≡◌, ◌++◌, Bool, true, false, [], ◌∷◌, Some, None, Ok}
+use Rattle.std.specs.Prelude.{◌≡◌, Bool, true, false, [], ◌∷◌, Some, None, Ok}
 use Rattle.rtcp_engine.specs.answers.Acts.{forget_asked, leave_asked, time_passed}
 use Rattle.rtcp_guarded.specs.Guarded.{GuardedAnswer}
 use Rattle.rtcp_show.specs.Changes.{lists_anew, shows_others}
 use Rattle.rtcp_show.specs.Watchers.{is_due, news_text, second_after}
-use Rattle.rtcp_show.specs.Numbers.{moment_text}
 
 abbrev answered : (others_changed : Bool) → GuardedAnswer
 answered others_changed = Ok (record {
@@ -32,9 +31,9 @@ record ChangesShown : Type 0 where
   too_early : is_due 0 999999 ≡ false
   same_second : is_due 1 1999999 ≡ false
   seconds_on : second_after 1 4000001 ≡ 4
-  other_rows : news_text true 1000000 (97 ∷ []) (98 ∷ []) ≡ moment_text 1000000 ++ 32 ∷ 98 ∷ []
-  same_rows : news_text true 1000000 (97 ∷ []) (97 ∷ []) ≡ []
-  not_due : news_text false 1000000 (97 ∷ []) (98 ∷ []) ≡ []
+  other_rows : news_text true (49 ∷ []) (97 ∷ []) (98 ∷ []) ≡ 49 ∷ 32 ∷ 98 ∷ []
+  same_rows : news_text true (49 ∷ []) (97 ∷ []) (97 ∷ []) ≡ []
+  not_due : news_text false (49 ∷ []) (97 ∷ []) (98 ∷ []) ≡ []
 
 changes_shown : ChangesShown
 changes_shown = search

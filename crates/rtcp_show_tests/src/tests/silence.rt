@@ -4,7 +4,7 @@ use super::{PEER, config, named, same, taken};
 use rtcp_engine::{Event, Participant};
 use rtcp_members::SortedTable;
 use rtcp_serve::Observer;
-use rtcp_show::SilenceWatcher;
+use rtcp_show::{SilenceWatcher, Times};
 use rtcp_text::TextFault;
 use std::alloc::Global;
 use std::process::Abort;
@@ -76,6 +76,29 @@ fn something_heard(rt: HostRuntime) -> Result<(), Fail> {
         bytes: &[],
     };
     says(&rt, rt.alloc(), &[tick(1), late, tick(9_000_000)], "")
+}
+
+/// The line begins with the time of day, where that is asked for, in a session that began at noon.
+#[test]
+fn nothing_heard_at_noon(rt: HostRuntime) -> Result<(), Fail> {
+    let participant: Participant<SortedTable> = match Participant::new(config(), 0) {
+        Ok(participant) => participant,
+        Err(_) => return Err("the configuration is refused")?,
+    };
+    let mut written = Vec::new(rt.alloc());
+    {
+        let watcher = SilenceWatcher::new(rt.alloc(), &mut written);
+        let mut watcher = watcher.with_times(43_200 << 32, Times::OfDay);
+        watcher.told(&tick(5_500_000), &taken(None, None), &participant);
+        assert!(rt; watcher.fault().is_none());
+    }
+    same(
+        &rt,
+        &written,
+        b"12:00:05.500000Z nothing heard yet\n",
+        "at noon",
+    );
+    Ok(())
 }
 
 /// A writer that fails is told of.

@@ -5,7 +5,7 @@ use rtcp_engine::{Answer, Event, Participant};
 use rtcp_guarded::Untaken;
 use rtcp_members::SortedTable;
 use rtcp_serve::Observer;
-use rtcp_show::{Printer, Watcher, Wording};
+use rtcp_show::{Printer, Times, Watcher, Wording};
 use rtcp_text::TextFault;
 use std::alloc::Global;
 use std::io;
@@ -67,9 +67,14 @@ impl<W: Write + Drop> Printed<W> {
 
     /// A packet of source 7, of 20 milliseconds.
     fn rtp(&mut self, now: u64, number: u8) {
+        self.rtp_of(now, 7, number);
+    }
+
+    /// A packet of a source below 256, of 20 milliseconds.
+    fn rtp_of(&mut self, now: u64, source: u8, number: u8) {
         let timestamp = u32::from(number) * 160;
         let [_, _, high, low] = timestamp.to_be_bytes();
-        let bytes = [0x80, 0, 0, number, 0, 0, high, low, 0, 0, 0, 7];
+        let bytes = [0x80, 0, 0, number, 0, 0, high, low, 0, 0, 0, source];
         let answer = self.participant.arrive_rtp(now, PEER, 0, &bytes);
         let event = Event::ArriveRtp {
             now,
@@ -127,10 +132,8 @@ total-loss=33.3% interval-loss=33.2% pace=0.0/s peer=127.0.0.1:5007
 6.000000 members=0 senders=0
 ";
 
-/// Each event has its lines, and each second its rows, unless they are as they were.
-#[test]
-fn session(rt: HostRuntime) -> Result<(), Fail> {
-    let mut printed = Printed::new(rt.alloc(), Vec::new(rt.alloc()))?;
+/// A source reports, sends, loses a packet and leaves, and the participant leaves too.
+fn play(printed: &mut Printed<Vec<u8>>) {
     printed.rtcp(100_000, &named(7));
     printed.tick(999_999);
     printed.tick(1_000_000);
@@ -146,9 +149,90 @@ fn session(rt: HostRuntime) -> Result<(), Fail> {
     printed.tick(5_000_000);
     printed.rtcp(5_500_000, &[]);
     printed.leave(6_000_000);
+}
+
+/// Each event has its lines, and each second its rows, unless they are as they were.
+#[test]
+fn session(rt: HostRuntime) -> Result<(), Fail> {
+    let mut printed = Printed::new(rt.alloc(), Vec::new(rt.alloc()))?;
+    play(&mut printed);
     assert_eq!(rt; printed.unwritten, 0);
     let text = printed.printer.into_inner();
     assert_eq!(rt; text.as_slice(), SESSION.as_bytes());
+    Ok(())
+}
+
+/// A session that begins, with so many short rows at most.
+fn in_short(alloc: Global, most: u32) -> Result<Printed<Vec<u8>>, Fail> {
+    let Printed {
+        participant,
+        printer,
+        unwritten,
+    } = Printed::new(alloc, Vec::new(alloc))?;
+    Ok(Printed {
+        participant,
+        printer: printer.with_rows(most),
+        unwritten,
+    })
+}
+
+/// The row of whom left has 118 octets before it is cut: 97 of them stay.
+const SHORT: &str = "\
+0.100000 in 127.0.0.1:5007 ok RR(00000007,[],0) SDES([00000007{1=61}])
+0.100000 joined=00000007
+1.000000 members=2 senders=0
+00000007 member peer=127.0.0.1:5007 cname=\"a\"
+2.000000 out 127.0.0.1:5007 ok RR(000000aa,[],0) SDES([000000aa{1=61}])
+3.000000 in 127.0.0.1:5007 ok RR(00000007,[000000aa/0/0/0/0/00020000/00008000],0)
+3.000000 members=2 senders=0
+00000007 member round-trip=500.000ms peer=127.0.0.1:5007 cname=\"a\"
+3.120000 began-sending=00000007
+4.000000 members=2 senders=1
+00000007 sends total-loss=33.3% jitter=0.125ms round-trip=500.000ms peer=127.0.0.1:5007 cname=\"a\"
+4.400000 out 127.0.0.1:5007 ok \
+RR(000000aa,[00000007/85/1/4/1/00000000/00000000],0) SDES([000000aa{1=61}])
+4.500000 in 127.0.0.1:5007 ok RR(00000007,[],0) BYE([00000007],-)
+4.500000 stopped-sending=00000007
+4.500000 bye=00000007
+5.000000 members=1 senders=0
+00000007 left loss=33.2% total-loss=33.3% jitter=0.125ms round-trip=500.000ms pace=0.0/s peer=127...
+5.500000 in 127.0.0.1:5007 refused E5 Wire: F1 Short at 0
+6.000000 out 127.0.0.1:5007 ok RR(000000aa,[],0) SDES([000000aa{1=61}]) BYE([000000aa],-)
+6.000000 members=0 senders=0
+";
+
+/// The same session in short rows, of which all are shown.
+#[test]
+fn short_rows(rt: HostRuntime) -> Result<(), Fail> {
+    let mut printed = in_short(rt.alloc(), 1)?;
+    play(&mut printed);
+    assert_eq!(rt; printed.unwritten, 0);
+    let text = printed.printer.into_inner();
+    assert_eq!(rt; text.as_slice(), SHORT.as_bytes());
+    Ok(())
+}
+
+/// The end of what is written of ten sources, of which 9 lost a packet of three.
+const WORST: &str = "\
+10.000000 members=11 senders=1 shown=2
+00000001 member peer=127.0.0.1:5007 cname=\"a\"
+00000009 sends loss=33.2% total-loss=33.3% jitter=0.125ms peer=127.0.0.1:5007 cname=\"a\"
+";
+
+/// Of many sources the worst are shown, and of those that lost as much the ones of lower SSRCs.
+#[test]
+fn worst_rows(rt: HostRuntime) -> Result<(), Fail> {
+    let mut printed = in_short(rt.alloc(), 2)?;
+    for source in 1..11 {
+        printed.rtcp(100_000, &named(source));
+    }
+    printed.tick(2_000_000);
+    printed.rtp_of(9_900_000, 9, 1);
+    printed.rtp_of(9_920_000, 9, 2);
+    printed.rtp_of(9_962_000, 9, 4);
+    printed.tick(10_000_000);
+    let text = printed.printer.into_inner();
+    assert!(rt; text.ends_with(WORST.as_bytes()));
     Ok(())
 }
 
@@ -257,6 +341,65 @@ fn plain(rt: HostRuntime) -> Result<(), Fail> {
     assert_eq!(rt; printed.unwritten, 0);
     let text = printed.printer.into_inner();
     assert_eq!(rt; text.as_slice(), PLAIN.as_bytes());
+    Ok(())
+}
+
+/// What was written last is kept, though the writer keeps nothing.
+#[test]
+fn last_rows(rt: HostRuntime) -> Result<(), Fail> {
+    let mut printed = Printed::new(rt.alloc(), io::sink())?;
+    same(&rt, printed.printer.last_rows(), b"", "none yet");
+    printed.rtcp(100_000, &named(7));
+    printed.tick(1_000_000);
+    printed.tick(2_000_000);
+    let want = "members=2 senders=0\nsource=00000007 sends=no cname=\"a\" peer=127.0.0.1:5007\n";
+    same(
+        &rt,
+        printed.printer.last_rows(),
+        want.as_bytes(),
+        "the last",
+    );
+    Ok(())
+}
+
+/// Half a second before a midnight: 45,000 days less one second after the era began, and half a second.
+const BEFORE_MIDNIGHT: u64 = (45_000 * 86_400 - 1) << 32 | 1 << 31;
+
+const MIDNIGHT: &str = "\
+23:59:59.750000Z in 127.0.0.1:5007 ok RR(00000007,[],0) SDES([00000007{1=61}])
+23:59:59.750000Z joined=00000007
+00:00:00.500000Z members=2 senders=0
+source=00000007 sends=no cname=\"a\" peer=127.0.0.1:5007
+00:00:01.500000Z out 127.0.0.1:5007 ok RR(000000aa,[],0) SDES([000000aa{1=61}])
+00:00:02.500000Z in 127.0.0.1:5007 ok RR(00000007,[],0) BYE([00000007],-)
+00:00:02.500000Z bye=00000007
+00:00:02.500000Z members=1 senders=0
+source=00000007 sends=no left=00:00:02.500000Z cname=\"a\" peer=127.0.0.1:5007
+00:00:02.750000Z unsent 127.0.0.1:5007
+";
+
+/// The time of day goes on across midnight, in each line that begins with a moment and where a source left.
+#[test]
+fn midnight(rt: HostRuntime) -> Result<(), Fail> {
+    let to = SocketAddrV4::new(Ipv4Addr::LOCALHOST, 5_007);
+    let printer = Printer::new(rt.alloc(), BEFORE_MIDNIGHT, to, Vec::new(rt.alloc()));
+    let Ok(participant) = Participant::new(config(), 0) else {
+        return Err("the configuration is refused")?;
+    };
+    let mut printed = Printed {
+        participant,
+        printer: printer.with_times(Times::OfDay),
+        unwritten: 0,
+    };
+    printed.rtcp(250_000, &named(7));
+    printed.tick(1_000_000);
+    printed.tick(2_000_000);
+    printed.rtcp(3_000_000, &GOODBYE);
+    let written = printed.printer.print_unsent(3_250_000);
+    assert!(rt; written.is_ok());
+    assert_eq!(rt; printed.unwritten, 0);
+    let text = printed.printer.into_inner();
+    same(&rt, &text, MIDNIGHT.as_bytes(), "midnight");
     Ok(())
 }
 

@@ -2,6 +2,7 @@ use Rattle.std.proofs.Common.{◌≡◌, ◌++◌, ℕ, List, codes}
 use Rattle.std.proofs.lemmas.Result.{on_ok_weaker}
 use Rattle.rtcp_text.specs.Check.{IsAnswerBy}
 use Rattle.rtcp_show.specs.Lines.{passing_text}
+use Rattle.rtcp_show.specs.Times.{when_text}
 use Rattle.rtcp_show.proofs.LineLemmas.{passed}
 use Rattle.rtcp_show.specs.Wordings.{shown_in}
 use Rattle.rtcp_show.proofs.lines.push_rtcp.Goals as goal
@@ -12,7 +13,7 @@ returns-in-Ok c =
     let before = c.args.out.now.items in
     let middle = c.push_passing.new.out.items in
     let after = c.push_datagram.new.out.items in
-    let head = passing_text c.args.now (codes " in ") c.args.peer in
+    let head = passing_text (when_text c.args.when) (codes " in ") c.args.peer in
     let IsText : List ℕ → Type 0 = λ text. (checked : List ℕ) × IsAnswerBy (shown_in c.args.wording) octets checked
     × (text ≡ head ++ checked) in
     let first : middle ≡ before ++ head = c.in_ok-push_passing.ensures in

@@ -7,10 +7,10 @@ use Rattle.rtcp_listing.specs.Differences.{ListedValue}
 use Rattle.rtcp_show.specs.Changes.{ShowsChanges, is_forgetting}
 use Rattle.rtcp_show.proofs.page.Page.show_changes.Goals as goal
 
-untold : (told : Bool) → (moment : ℕ) → (history : History) → (before : List ListedValue) → told ≡ false
-    → ShowsChanges told moment history before []
-untold told moment history before none =
-    subst (λ told. ShowsChanges told moment history before []) (sym none) refl
+untold : (told : Bool) → (time : List ℕ) → (history : History) → (before : List ListedValue) → told ≡ false
+    → ShowsChanges told time history before []
+untold told time history before none =
+    subst (λ told. ShowsChanges told time history before []) (sym none) refl
 
 pub returns-then-not-lists_anew-clause-written : goal.returns-then-not-lists_anew-clause-written
 returns-then-not-lists_anew-clause-written g c = λ history stands. (
