@@ -3,6 +3,7 @@ use Rattle.std.proofs.Common.{◌≡◌, ◌≢◌, ℕ, ◌⊎◌, ◌↔◌, i
 use Rattle.std.specs.Io.KnownBytes.{Keeps}
 use Rattle.std.proofs.lemmas.Result.{err_from_is_err_and}
 use Rattle.rtcp_wire.specs.Values.{RtcpPacket}
+use Rattle.rtcp_plain.specs.Blocks.{blocks_text}
 use Rattle.rtcp_plain.specs.Plain.{plain_text}
 use Rattle.rtcp_engine.specs.answers.Refused.{error_in}
 use Rattle.rtcp_engine.specs.state.Taken.{begun}
@@ -29,7 +30,7 @@ use Rattle.rtcp_text.specs.Counted.{inner_of}
 use Rattle.rtcp_command.specs.declared.fault.RunFault.{RunFault}
 use Rattle.rtcp_command.specs.declared.fault.RunFault.TheVariants.{Config, Text, Link, Record, NoRegularFile, Random, Read, Write, Memory}
 use Rattle.rtcp_command.specs.declared.orders.TextOrder.{TextOrder}
-use Rattle.rtcp_command.specs.declared.orders.TextOrder.TheVariants.{Check, CheckPlain, CheckJson, Replay, ReplayGuarded, ReplayJson, ReplayGuardedJson}
+use Rattle.rtcp_command.specs.declared.orders.TextOrder.TheVariants.{Check, CheckPlain, CheckBlocks, CheckJson, Replay, ReplayGuarded, ReplayJson, ReplayGuardedJson}
 use Rattle.rtcp_command.specs.Orders.{AnswersOrder, IsTextOfOrder, RefusesConfig}
 use Rattle.rtcp_command.specs.Status.{fault_status, replay_fault, text_fault}
 
@@ -126,6 +127,12 @@ module _ (order : TextOrder) {left : Option (List ℕ)} {Leaves : (List ℕ → 
       Checks (plain_text None) lines r left Leaves → AnswersOrder order (checked r) Leaves
   check_plain_answers lines is r h =
       subst (λ o. AnswersOrder o (checked r) Leaves) (sym is) (answers_checked (CheckPlain lines) r h.whole h.refused)
+
+  pub check_blocks_answers : (lines : ℕ) → order ≡ CheckBlocks lines → (r : Result (Unit {0}) TextFault) →
+      Checks blocks_text lines r left Leaves → AnswersOrder order (checked r) Leaves
+  check_blocks_answers lines is r h =
+      subst (λ o. AnswersOrder o (checked r) Leaves) (sym is)
+      (answers_checked (CheckBlocks lines) r h.whole h.refused)
 
   pub check_json_answers : (lines : ℕ) → order ≡ CheckJson lines → (r : Result (Unit {0}) TextFault) →
       ChecksInJson lines r left Leaves → AnswersOrder order (checked r) Leaves

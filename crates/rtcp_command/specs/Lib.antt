@@ -1,9 +1,11 @@
 pub mod EndText
 pub mod Guards
+pub mod Numbers
 pub mod Options
 pub mod Endpoints
 pub mod Groups
 pub mod Ports
+pub mod Watches
 pub mod Listening
 pub mod ReplayCommand
 pub mod Orders

@@ -1,5 +1,5 @@
 -- What the options of `rtcp listen` say, and the first of them that is refused.
-use Rattle.std.specs.Prelude.{◌≡◌, ℕ, ◌≤◌, ◌⊎◌, nat_le, ◌&&◌, ◌||◌, not, Bool, true, false, is_some, List, if◌then◌else◌, Option, Some, None, option_and_then, option_map, string_bytes, Result, Ok, Err, codes}
+use Rattle.std.specs.Prelude.{◌≡◌, ℕ, ◌≤◌, ◌⊎◌, Bool, true, false, List, if◌then◌else◌, Option, Some, None, option_map, string_bytes, Result, Ok, Err, codes}
 use Rattle.std.specs.Option.{ok_or}
 use Rattle.std.specs.Str.{bytes_eq}
 use Rattle.rtcp_engine.specs.answers.Setups.{Setup}
@@ -11,11 +11,14 @@ use Rattle.rtcp_command.specs.declared.orders.Order.{Order}
 use Rattle.rtcp_command.specs.declared.orders.Order.TheVariants.{Text, Listen, Version}
 use Rattle.rtcp_command.specs.declared.orders.OrderFault.{OrderFault}
 use Rattle.rtcp_command.specs.declared.orders.OrderFault.TheVariants.{Clap, Option as BadOption, Memory}
+use Rattle.rtcp_command.specs.declared.orders.Watch.{Watch}
 use Rattle.rtcp_command.specs.Endpoints.{Endpoint, endpoint_in, endpoint_of}
 use Rattle.rtcp_text.specs.Numerals.{decimal_in}
 use Rattle.rtcp_guarded_text.specs.declared.limits.GuardLimits.{GuardLimits}
 use Rattle.rtcp_command.specs.Guards.{guard_given}
-use Rattle.rtcp_command.specs.Options.{setup_in, text_found}
+use Rattle.rtcp_command.specs.Numbers.{number_in}
+use Rattle.rtcp_command.specs.Options.{is_set, setup_in, text_found}
+use Rattle.rtcp_command.specs.Watches.{counts_turns, seconds_given, watch_in}
 use Rattle.rtcp_text.specs.Results.{◌>>=◌}
 
 -- what stands for a draw from the system's generator
@@ -39,35 +42,10 @@ abbrev pub seed_in : List ℕ → Option (ℕ × Bool)
 seed_in text =
     if is_random text then Some (1, true) else option_map (λ seed. (seed, false)) (decimal_in 64 text)
 
--- 1 to 1,000,000 turns
-abbrev pub turns_in : List ℕ → Option ℕ
-turns_in text =
-    option_and_then (λ turns. if nat_le 1 turns && nat_le turns 1000000 then Some turns else None)
-    (decimal_in 32 text)
-
--- 1,000 if none are given
+-- 1 to 1,000,000 turns: 1,000 if none are given
 abbrev pub turns_given : Option (List ℕ) → Option ℕ
 turns_given None = Some 1000
-turns_given (Some text) = turns_in text
-
--- 1 to 1,000,000,000 seconds
-abbrev pub seconds_in : List ℕ → Option ℕ
-seconds_in text =
-    option_and_then (λ seconds. if nat_le 1 seconds && nat_le seconds 1000000000 then Some seconds else None)
-    (decimal_in 32 text)
-
--- those of an option that need not be given
-abbrev pub seconds_given : Option (List ℕ) → Option (Option ℕ)
-seconds_given None = Some None
-seconds_given (Some text) = option_map Some (seconds_in text)
-
--- Turns end a session if they are given, or nothing else ends it.
-abbrev pub counts_turns : (turns seconds stop : Option (List ℕ)) → Bool
-counts_turns turns seconds stop = is_some turns || not (is_some seconds) && not (is_some stop)
-
--- whether a flag is given
-abbrev pub is_set : Found → (name : List ℕ) → Bool
-is_set found name = bytes_eq (text_found found name) (codes "true")
+turns_given (Some text) = number_in 1 1000000 text
 
 -- a session over UDP
 pub record Listening : Type 0 where
@@ -101,6 +79,8 @@ pub record Listening : Type 0 where
   pub json : Bool
   -- what an origin may do before it is held back, if a guard stands before the participant
   pub guard : Option GuardLimits
+  -- what it is watched for, and how its sources are shown
+  pub watch : Watch
 
 -- The session, or the name of the first option that is refused.
 abbrev pub listen_in : Found → Result Listening (List ℕ)
@@ -113,6 +93,7 @@ listen_in found = do
   turns ← ok_or (turns_given (first_value found (codes "turns"))) (codes "turns")
   seconds ← ok_or (seconds_given (first_value found (codes "seconds"))) (codes "seconds")
   guard ← ok_or (guard_given (first_value found (codes "guard"))) (codes "guard")
+  watch ← watch_in found
   Ok (record {
     setup = setup;
     draws_ssrc = is_random (text_found found (codes "ssrc"));
@@ -123,9 +104,7 @@ listen_in found = do
     seed = seed.0;
     draws_seed = seed.1;
     turns = turns;
-    counts_turns =
-        counts_turns (first_value found (codes "turns")) (first_value found (codes "seconds"))
-        (first_value found (codes "stop"));
+    counts_turns = counts_turns found;
     seconds = seconds;
     recording = first_value found (codes "record");
     overwrites = is_set found (codes "force");
@@ -134,6 +113,7 @@ listen_in found = do
     plain = is_set found (codes "plain");
     json = is_set found (codes "json");
     guard = guard;
+    watch = watch;
   })
 
 -- ---- Orders
@@ -159,6 +139,7 @@ listening_of order recording stop = record {
   plain = order.plain;
   json = order.json;
   guard = order.guard;
+  watch = order.watch;
 }
 
 -- The options come to this order.

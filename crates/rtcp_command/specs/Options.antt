@@ -3,13 +3,14 @@ use Rattle.std.specs.Prelude.{◌≡◌, ℕ, ◌/◌, ◌^◌, ◌-◌, Bool, t
 use Rattle.std.specs.Borrow.{Bor}
 use Rattle.std.specs.Int.{w32, w64}
 use Rattle.std.specs.Option.{ok_or}
+use Rattle.std.specs.Str.{bytes_eq}
 use Rattle.clap.specs.declared.parser.matches.Found.{Found}
 use Rattle.clap.specs.Matches.{first_value, matched_of, raw_values}
 use Rattle.rtcp_wire.specs.Values.{ItemValue}
 use Rattle.rtcp_engine.specs.answers.Setups.{ClockValue, Setup}
 use Rattle.rtcp_engine.specs.state.Views.{setup_of}
 use Rattle.rtcp_command.specs.declared.orders.TextOrder.{TextOrder}
-use Rattle.rtcp_command.specs.declared.orders.TextOrder.TheVariants.{Check, CheckPlain, CheckJson, Replay, ReplayGuarded, ReplayJson, ReplayGuardedJson}
+use Rattle.rtcp_command.specs.declared.orders.TextOrder.TheVariants.{Check, CheckPlain, CheckBlocks, CheckJson, Replay, ReplayGuarded, ReplayJson, ReplayGuardedJson}
 use Rattle.rtcp_command.specs.declared.orders.OrderFault.{OrderFault}
 use Rattle.rtcp_command.specs.declared.orders.OrderFault.TheVariants.{Clap, Option as BadOption, Memory}
 use Rattle.rtcp_text.specs.Numerals.{decimal_in, hex_in, hex_text_in}
@@ -33,6 +34,10 @@ texts_given (Some given) = texts_in given
 -- the text that a command line gives an option, by the option's name (an empty one where it gives none)
 abbrev pub text_found : Found → (name : List ℕ) → List ℕ
 text_found found name = unwrap_or (first_value found name) []
+
+-- whether a flag is given
+abbrev pub is_set : Found → (name : List ℕ) → Bool
+is_set found name = bytes_eq (text_found found name) (codes "true")
 
 -- all texts that it gives an option
 abbrev pub values_found : Found → (name : List ℕ) → List (List ℕ)
@@ -156,21 +161,26 @@ IsReplayOrder (Ok (ReplayGuardedJson config word lines limits)) json expected =
     (expected ≡ Ok (setup_of config, word, lines, Some limits)) × (json ≡ true)
 IsReplayOrder (Ok (Check lines)) json expected = ⊥
 IsReplayOrder (Ok (CheckPlain lines)) json expected = ⊥
+IsReplayOrder (Ok (CheckBlocks lines)) json expected = ⊥
 IsReplayOrder (Ok (CheckJson lines)) json expected = ⊥
 IsReplayOrder (Err (BadOption name)) json expected = expected ≡ Err name.now
 IsReplayOrder (Err (Clap text)) json expected = ⊥
 IsReplayOrder (Err Memory) json expected = ⊥
 
--- The number of lines is this order's, or refused; and so is whether plain words or JSON are asked for. JSON comes
--- before plain words: a command line that asks for both is refused by `clap`.
-abbrev pub IsCheckOrder : Result TextOrder OrderFault → (plain json : Bool) → Option ℕ → Type 0
-IsCheckOrder (Ok (Check lines)) plain json expected = (expected ≡ Some lines) × (plain ≡ false) × (json ≡ false)
-IsCheckOrder (Ok (CheckPlain lines)) plain json expected = (expected ≡ Some lines) × (plain ≡ true) × (json ≡ false)
-IsCheckOrder (Ok (CheckJson lines)) plain json expected = (expected ≡ Some lines) × (json ≡ true)
-IsCheckOrder (Ok (Replay config word lines)) plain json expected = ⊥
-IsCheckOrder (Ok (ReplayGuarded config word lines limits)) plain json expected = ⊥
-IsCheckOrder (Ok (ReplayJson config word lines)) plain json expected = ⊥
-IsCheckOrder (Ok (ReplayGuardedJson config word lines limits)) plain json expected = ⊥
-IsCheckOrder (Err (BadOption name)) plain json expected = (expected ≡ None) × (name.now ≡ codes "lines")
-IsCheckOrder (Err (Clap text)) plain json expected = ⊥
-IsCheckOrder (Err Memory) plain json expected = ⊥
+-- The number of lines is this order's, or refused; and so is whether plain words, blocks or JSON are asked for. JSON
+-- comes first, and blocks before plain words: a command line that asks for two is refused by `clap`.
+abbrev pub IsCheckOrder : Result TextOrder OrderFault → (plain blocks json : Bool) → Option ℕ → Type 0
+IsCheckOrder (Ok (Check lines)) plain blocks json expected =
+    (expected ≡ Some lines) × (plain ≡ false) × (blocks ≡ false) × (json ≡ false)
+IsCheckOrder (Ok (CheckPlain lines)) plain blocks json expected =
+    (expected ≡ Some lines) × (plain ≡ true) × (blocks ≡ false) × (json ≡ false)
+IsCheckOrder (Ok (CheckBlocks lines)) plain blocks json expected =
+    (expected ≡ Some lines) × (blocks ≡ true) × (json ≡ false)
+IsCheckOrder (Ok (CheckJson lines)) plain blocks json expected = (expected ≡ Some lines) × (json ≡ true)
+IsCheckOrder (Ok (Replay config word lines)) plain blocks json expected = ⊥
+IsCheckOrder (Ok (ReplayGuarded config word lines limits)) plain blocks json expected = ⊥
+IsCheckOrder (Ok (ReplayJson config word lines)) plain blocks json expected = ⊥
+IsCheckOrder (Ok (ReplayGuardedJson config word lines limits)) plain blocks json expected = ⊥
+IsCheckOrder (Err (BadOption name)) plain blocks json expected = (expected ≡ None) × (name.now ≡ codes "lines")
+IsCheckOrder (Err (Clap text)) plain blocks json expected = ⊥
+IsCheckOrder (Err Memory) plain blocks json expected = ⊥

@@ -8,7 +8,8 @@ use Rattle.rtcp_text.specs.declared.fault.LineFault.{LineFault}
 use Rattle.rtcp_command.specs.declared.fault.RunFault.{RunFault}
 use Rattle.rtcp_command.specs.declared.fault.RunFault.TheVariants.{Config, Text}
 use Rattle.rtcp_command.specs.declared.orders.TextOrder.{TextOrder}
-use Rattle.rtcp_command.specs.declared.orders.TextOrder.TheVariants.{Check, CheckPlain, CheckJson, Replay, ReplayGuarded, ReplayJson, ReplayGuardedJson}
+use Rattle.rtcp_command.specs.declared.orders.TextOrder.TheVariants.{Check, CheckPlain, CheckBlocks, CheckJson, Replay, ReplayGuarded, ReplayJson, ReplayGuardedJson}
+use Rattle.rtcp_plain.specs.Blocks.{blocks_text}
 use Rattle.rtcp_plain.specs.Plain.{plain_text}
 use Rattle.rtcp_text.specs.Check.{IsTextOfBy}
 use Rattle.rtcp_text.specs.Text.{accepted_text}
@@ -22,6 +23,7 @@ use Rattle.rtcp_json.specs.ReplayJson.{IsSessionJsonOf}
 abbrev pub IsTextOfOrder : TextOrder → Option (ℕ × LineFault) → List ℕ → List ℕ → Type 0
 IsTextOfOrder (Check lines) end = IsTextOfBy accepted_text lines end
 IsTextOfOrder (CheckPlain lines) end = IsTextOfBy (plain_text None) lines end
+IsTextOfOrder (CheckBlocks lines) end = IsTextOfBy blocks_text lines end
 IsTextOfOrder (CheckJson lines) end = IsJsonOf lines end
 IsTextOfOrder (Replay config word lines) end = IsSessionOf lines (begun (setup_of config) word) end
 IsTextOfOrder (ReplayGuarded config word lines limits) end =
@@ -34,6 +36,7 @@ IsTextOfOrder (ReplayGuardedJson config word lines limits) end =
 abbrev pub RefusesConfig : TextOrder → ConfigError → Type 0
 RefusesConfig (Check lines) error = ⊥
 RefusesConfig (CheckPlain lines) error = ⊥
+RefusesConfig (CheckBlocks lines) error = ⊥
 RefusesConfig (CheckJson lines) error = ⊥
 RefusesConfig (Replay config word lines) error = error_in (setup_of config) ≡ Some error
 RefusesConfig (ReplayGuarded config word lines limits) error = error_in (setup_of config) ≡ Some error

@@ -1,5 +1,5 @@
 -- The statuses that the program ends with.
-use Rattle.std.specs.Prelude.{ℕ, Result, Ok, Err}
+use Rattle.std.specs.Prelude.{ℕ, ◌==◌, ◌&&◌, Bool, if◌then◌else◌, Result, Ok, Err}
 use Rattle.rtcp_serve.specs.declared.serving.Cause.{Cause}
 use Rattle.rtcp_serve.specs.declared.serving.Cause.TheVariants.{Done, LinkDown, Limit}
 use Rattle.rtcp_serve.specs.declared.serving.End.{End}
@@ -53,3 +53,7 @@ end_status Limit = 0
 abbrev pub listen_status : Result End RunFault → ℕ
 listen_status (Ok ended) = end_status ended.cause
 listen_status (Err fault) = fault_status fault
+
+-- 3 in place of 0 where an alarm was raised
+abbrev pub watched_status : (alarm : Bool) → (status : ℕ) → ℕ
+watched_status alarm status = if alarm && status == 0 then 3 else status

@@ -12,7 +12,7 @@ use crate::fault::{RunFault, fail};
 use crate::orders::TextOrder;
 use rtcp_guarded_text::replay::replay_guarded;
 use rtcp_json::{check_json, replay_guarded_json, replay_json};
-use rtcp_plain::check_plain;
+use rtcp_plain::{check_blocks, check_plain};
 use rtcp_text::Counted;
 use rtcp_text::check::check_up_to;
 use rtcp_text::replay::replay_up_to;
@@ -76,8 +76,8 @@ fn run<R: Read, W: Write>(
 ///
 /// # Errors
 ///
-/// Those of [`check_up_to`], [`check_plain`], [`check_json`], [`replay_up_to`], [`replay_guarded`], [`replay_json`] or
-/// [`replay_guarded_json`].
+/// Those of [`check_up_to`], [`check_plain`], [`check_blocks`], [`check_json`], [`replay_up_to`], [`replay_guarded`],
+/// [`replay_json`] or [`replay_guarded_json`].
 fn answer<R: Read, W: Write>(
     alloc: Global,
     order: TextOrder,
@@ -91,6 +91,7 @@ fn answer<R: Read, W: Write>(
     match order {
         TextOrder::Check { lines } => Ok(check_up_to(alloc, lines, reader, writer)?),
         TextOrder::CheckPlain { lines } => Ok(check_plain(alloc, lines, reader, writer)?),
+        TextOrder::CheckBlocks { lines } => Ok(check_blocks(alloc, lines, reader, writer)?),
         TextOrder::CheckJson { lines } => Ok(check_json(alloc, lines, reader, writer)?),
         TextOrder::Replay {
             config,

@@ -3,7 +3,7 @@
 ghost use Rattle.std.specs.Prelude.{◌≡◌, ◌++◌, IfOk, OnOk};
 ghost use Rattle.std.specs.Fmt.{decimal};
 ghost use Rattle.rtcp_command.specs.EndText.{arrivals_text, cause_text, end_text, sendings_text, yes_or_no};
-ghost use Rattle.rtcp_command.specs.Status.{listen_status};
+ghost use Rattle.rtcp_command.specs.Status.{listen_status, watched_status};
 
 use crate::fault::{RunFault, fail};
 use rtcp_serve::{Cause, End};
@@ -23,6 +23,13 @@ pub fn conclude<F: Write>(outcome: &Result<End, RunFault>, faults: &mut F) -> u8
         },
         Err(fault) => fail(*fault, faults),
     }
+}
+
+/// The status to end with where a session was watched: 3 in place of 0, if an alarm was raised.
+pub fn watched(is_raised: bool, status: u8) -> u8
+    ensures { result ≡ watched_status is_raised status }
+{
+    if is_raised && status == 0 { 3 } else { status }
 }
 
 /// The line for the end of a session.

@@ -18,7 +18,7 @@
 //! assert_eq!(rt; faults.as_slice(), b"line 1: X4 Hex\n".as_slice());
 //! ```
 //!
-//! `specs/` defines the meaning of options (`Options`, `Listening`, `Endpoints`), what is written (`Orders`), the lines
+//! `specs/` defines the meaning of options (`Options`, `Listening`, `Watches`, `Endpoints`), what is written (`Orders`), the lines
 //! before and after a session (`Groups`, `Ports`, `EndText`) and the exit statuses (`Status`). `laws` states that an
 //! endpoint has one text.
 #![tactic(auto)]
@@ -31,11 +31,13 @@ mod fault;
 pub mod groups;
 mod guard;
 pub mod laws;
+mod numbers;
 mod options;
 mod orders;
 pub mod ports;
 pub mod replay_command;
 pub mod session_recorder;
+mod watch;
 
 pub use fault::RunFault;
-pub use orders::{ListenOrder, Order, OrderFault, TextOrder};
+pub use orders::{ListenOrder, Order, OrderFault, TextOrder, Watch};

@@ -4,13 +4,15 @@ ghost use Rattle.std.specs.Prelude.{◌≡◌, ◌≤◌, ◌<◌, ◌+◌, ◌+
 ghost use Rattle.clap.specs.Matches.{found_of, first_value};
 ghost use Rattle.rtcp_wire.specs.Values.{ItemValue};
 ghost use Rattle.rtcp_engine.specs.state.Views.{clock_value, setup_of};
-ghost use Rattle.rtcp_command.specs.Listening.{HasTurns, IsListenOrder, is_set as is_set_in, listen_in, listening_of, seconds_given, seconds_in, seed_in, settled as settled_text, settled_ntp as settled_time, turns_given, turns_in};
-ghost use Rattle.rtcp_command.specs.Options.{bandwidth_in, clock_given, clocks_given, extras_in, item_in, lines_in, replay_in, setup_in, text_found, text_given, text_in, texts_given, texts_in, with_extras};
+ghost use Rattle.rtcp_command.specs.Listening.{HasTurns, IsListenOrder, listen_in, listening_of, seed_in, settled as settled_text, settled_ntp as settled_time, turns_given};
+ghost use Rattle.rtcp_command.specs.Options.{bandwidth_in, clock_given, clocks_given, extras_in, is_set as is_set_in, item_in, lines_in, replay_in, setup_in, text_found, text_given, text_in, texts_given, texts_in, with_extras};
 ghost use Rattle.rtcp_text.specs.Numerals.{hex_text_in};
 
 use crate::endpoint::read_endpoint;
 use crate::guard::read_given_guard;
+use crate::numbers::read_number;
 use crate::orders::{ListenOrder, Order, OrderFault};
+use crate::watch::{counts_turns, read_seconds, read_watch};
 use arrayvec::ArrayVec;
 use clap::ArgMatches;
 use rtcp_engine::{Clock, Config, Item, rtcp_bw_of, shares_of};
@@ -31,9 +33,6 @@ const MAX_TURNS: u32 = 1_000_000;
 
 /// The turns of a session that is given neither these nor another end.
 const TURNS: u32 = 1_000;
-
-/// The most seconds of a session: they stay below the greatest moment of a participant.
-const MAX_SECONDS: u32 = 1_000_000_000;
 
 /// The text of an option that is required or has a default.
 pub(crate) fn given<'a>(matches: &ArgMatches<'a>, name: &str) -> &'a str
@@ -119,11 +118,10 @@ fn read_session(matches: &ArgMatches<'_>) -> Result<ListenOrder, &'static str>
     let rtcp = read_endpoint(given(matches, "rtcp")).ok_or("rtcp")?;
     let peer = read_endpoint(given(matches, "peer")).ok_or("peer")?;
     let (seed, draws_seed) = read_seed(given(matches, "seed")).ok_or("seed")?;
-    let (turns, seconds) = (matches.get_str("turns"), matches.get_str("seconds"));
-    let counts_turns = turns.is_some() || (seconds.is_none() && matches.get_str("stop").is_none());
-    let turns = read_given_turns(turns).ok_or("turns")?;
-    let seconds = read_given_seconds(seconds).map_err(|()| "seconds")?;
+    let turns = read_given_turns(matches.get_str("turns")).ok_or("turns")?;
+    let seconds = read_seconds(matches).map_err(|()| "seconds")?;
     let guard = read_given_guard(matches.get_str("guard")).map_err(|()| "guard")?;
+    let watch = read_watch(matches)?;
     Ok(ListenOrder {
         config,
         draws_ssrc: ssrc == RANDOM,
@@ -134,7 +132,7 @@ fn read_session(matches: &ArgMatches<'_>) -> Result<ListenOrder, &'static str>
         seed,
         draws_seed,
         turns,
-        counts_turns,
+        counts_turns: counts_turns(matches),
         seconds,
         recording: None,
         overwrites: is_set(matches, "force"),
@@ -143,6 +141,7 @@ fn read_session(matches: &ArgMatches<'_>) -> Result<ListenOrder, &'static str>
         plain: is_set(matches, "plain"),
         json: is_set(matches, "json"),
         guard,
+        watch,
     })
 }
 
@@ -211,51 +210,8 @@ fn read_given_turns(given: Option<&str>) -> Option<u32>
     ensures within { IfSome result (λ turns. (1 ≤ turns) × (turns ≤ 1000000)) }
 {
     match given {
-        Some(text) => read_turns(text),
+        Some(text) => read_number(text, 1, MAX_TURNS),
         None => Some(TURNS),
-    }
-}
-
-/// How many turns a session has: 1 to 1,000,000.
-fn read_turns(text: &str) -> Option<u32>
-    ensures read { result ≡ turns_in text.now }
-    ensures within { IfSome result (λ turns. (1 ≤ turns) × (turns ≤ 1000000)) }
-{
-    let turns = read_short_decimal(text.as_bytes())?;
-    if (1..=MAX_TURNS).contains(&turns) {
-        Some(turns)
-    } else {
-        None
-    }
-}
-
-/// How many seconds a session lasts, if it is told.
-///
-/// # Errors
-///
-/// `()` where it is told, but is refused.
-fn read_given_seconds(given: Option<&str>) -> Result<Option<u32>, ()>
-    ensures read { IfOk result (λ seconds. seconds_given (text_given given.entry) ≡ Some seconds) }
-    ensures refused { IfErr result (λ _. seconds_given (text_given given.entry) ≡ None) }
-{
-    let Some(text) = given else {
-        return Ok(None);
-    };
-    match read_seconds(text) {
-        Some(seconds) => Ok(Some(seconds)),
-        None => Err(()),
-    }
-}
-
-/// How many seconds a session lasts: 1 to 1,000,000,000.
-fn read_seconds(text: &str) -> Option<u32>
-    ensures read { result ≡ seconds_in text.now }
-{
-    let seconds = read_short_decimal(text.as_bytes())?;
-    if (1..=MAX_SECONDS).contains(&seconds) {
-        Some(seconds)
-    } else {
-        None
     }
 }
 

@@ -28,6 +28,11 @@ pub enum TextOrder {
         /// The most lines that are answered, at least 1.
         lines: u32,
     },
+    /// Shows the report blocks of each datagram, a row each.
+    CheckBlocks {
+        /// The most lines that are answered, at least 1.
+        lines: u32,
+    },
     /// Shows what each datagram is, in JSON.
     CheckJson {
         /// The most lines that are answered, at least 1.
@@ -114,6 +119,21 @@ pub struct ListenOrder {
     pub json: bool,
     /// What an origin may do before it is held back, if a guard stands before the participant.
     pub guard: Option<GuardLimits>,
+    /// What the session is watched for, and how its sources are shown.
+    pub watch: Watch,
+}
+
+/// What a session over UDP is watched for, and how its sources are shown.
+#[derive(Clone, Copy, Debug, PartialEq, Eq)]
+pub struct Watch {
+    /// How many per cent a report may say that were lost of a source, 0 to 99, if more end the session.
+    pub loss: Option<u32>,
+    /// After how many seconds without an RTP packet the session ends, 1 to 1,000,000,000, if that ends it.
+    pub silence: Option<u32>,
+    /// How many sources have a row, 1 to 1,024, if rows are short.
+    pub rows: Option<u32>,
+    /// Whether the rows that came last are written at the end.
+    pub summary: bool,
 }
 
 /// Why a command line gives no order.

@@ -10,42 +10,41 @@ ghost use Rattle.std.specs.Prelude.{◌≡◌, ◌≤◌, ◌<◌, ◌*◌, ◌^
 ghost use Rattle.rtcp_command.specs.Listening.{HasTurns};
 ghost use Rattle.rtcp_members.specs.Tables.{no_members};
 
+mod observers;
 mod record_file;
+mod recording;
 mod stop_file;
 
+use observers::Observers;
 use rand_core::{Rng, SeedableRng};
 use rand_pcg::Pcg32;
-use record_file::RecordFile;
+use recording::closing;
+use rtcp_alarm::{Bell, Raised, push_alarm};
 use rtcp_clock::ntp_of;
 use rtcp_command::arguments::{refuse, tell};
-use rtcp_command::ends::{conclude, end_line};
+use rtcp_command::ends::{conclude, end_line, watched};
 use rtcp_command::groups::group_warnings;
 use rtcp_command::ports::picked_ports;
-use rtcp_command::replay_command::{replay_guarded_line, replay_line};
-use rtcp_command::session_recorder::SessionRecorder;
 pub use rtcp_command::{
     ListenOrder, Order, OrderFault, RunFault, TextOrder, arguments, command, ends, laws,
 };
 use rtcp_engine::Participant;
 use rtcp_guard::Guard;
 use rtcp_guarded::GuardedParticipant;
-use rtcp_json::{JsonWatcher, push_end_json};
+use rtcp_json::push_end_json;
 use rtcp_members::HeapTable;
 pub use rtcp_serve::{
     Cause, End, Ending, Link, LinkFault, MOST_TURNS, Observer, Port, Received, Until, serve,
     serve_guarded_until, serve_laws, serve_until,
 };
-use rtcp_show::{Printer, SilenceWatcher, Watcher, Wording, push_header};
-use rtcp_text::record::Recorder;
 pub use rtcp_text::{Counted, LineFault, ReplayFault, TextFault, check, replay};
 use rtcp_udp::{BindFault, UdpLink};
 use std::alloc::{AllocError, Global};
-use std::env;
-use std::fs::{self, File};
-use std::io::{BufWriter, Read, Stderr, Stdout, Write};
+use std::io::{BufWriter, Read, Write};
 use std::net::SocketAddrV4;
 use std::process::ExitCode;
 use std::time::{Duration, SystemTime, UNIX_EPOCH};
+use std::{env, fs};
 use stop_file::StopFile;
 
 /// The NTP timestamp of the first moment of 1970, in which the system's clock begins: 2,208,988,800 seconds since 1900.
@@ -54,7 +53,7 @@ const UNIX_IN_NTP: u64 = 2_208_988_800 << 32;
 fn main(rt: HostRuntime) -> ExitCode {
     let status = match asked(&rt) {
         Ok(Order::Text(order)) => run_text(&rt, order),
-        Ok(Order::Listen(order)) => conclude(&run_listen(&rt, order), &mut rt.stderr()),
+        Ok(Order::Listen(order)) => listen(&rt, order),
         Ok(Order::Version(line)) => tell(&line, &mut rt.stdout(), &mut rt.stderr()),
         Err(fault) => refuse(&fault, &mut rt.stderr()),
     };
@@ -99,15 +98,47 @@ fn run_text(rt: &HostRuntime, order: TextOrder) -> u8 {
     command::command(alloc, order, rt.stdin(), writer, &mut faults)
 }
 
-/// Runs a session over UDP, between the ports of RTP and of RTCP and a peer, and writes its end to standard
-/// output. It is recorded if a file is named for that, and shown on standard error, or written as lines of JSON on
-/// standard output, if that is asked for.
+/// Runs a session over UDP, writes the line of its alarm to standard error, if one was raised, and returns the status to
+/// end with.
+fn listen(rt: &HostRuntime, order: ListenOrder) -> u8
+    requires { (1 ≤ order.turns) × (order.turns ≤ 1000000) }
+{
+    let mut faults = rt.stderr();
+    let bell = Bell::new();
+    match run_listen(rt, order, &bell) {
+        Ok((end, raised)) => {
+            tell_alarm(rt, raised);
+            watched(raised.is_some(), conclude(&Ok(end), &mut faults))
+        }
+        Err(fault) => conclude(&Err(fault), &mut faults),
+    }
+}
+
+/// Writes the line of an alarm to standard error, if one was raised. A failed write is ignored, and so is want of
+/// memory.
+fn tell_alarm(rt: &HostRuntime, raised: Option<Raised>) {
+    let Some(raised) = raised else {
+        return;
+    };
+    let mut line = Vec::new(rt.alloc());
+    if push_alarm(&mut line, &raised).is_ok() {
+        let _ = rt.stderr().write_all(&line);
+    }
+}
+
+/// Runs a session over UDP, between the ports of RTP and of RTCP and a peer, writes its end to standard output, and
+/// gives it with the alarm that was raised, for which this bell rings. The session is recorded if a file is named for that, and shown on standard
+/// error, or written as lines of JSON on standard output, if that is asked for.
 ///
 /// # Errors
 ///
 /// Each of [`RunFault`]. A generator or a clock that cannot be read is found first, then a refused configuration, both
 /// before a port is bound, and that before the file is created. No line is written before.
-fn run_listen(rt: &HostRuntime, order: ListenOrder) -> Result<End, RunFault>
+fn run_listen<'s>(
+    rt: &'s HostRuntime,
+    order: ListenOrder,
+    bell: &'s Bell,
+) -> Result<(End, Option<Raised>), RunFault>
     requires { (1 ≤ order.turns) × (order.turns ≤ 1000000) }
 {
     let alloc = rt.alloc();
@@ -121,89 +152,46 @@ fn run_listen(rt: &HostRuntime, order: ListenOrder) -> Result<End, RunFault>
     let table = table_of(alloc, order.config.capacity)?;
     let link = bound(rt, &order)?;
     tell_ports(rt, &order, link.endpoints())?;
-    let recorder = recorder_of(rt, &order, word)?;
     let closing = closing(rt, &order, word)?;
-    let shown = shown_of(rt, &order, link.endpoints())?;
+    let mut observers = Observers::of(rt, &order, word, link.endpoints(), bell)?;
     let guard = guard_of(alloc, &order)?;
     let participant = Participant::with_table(order.config, table, word);
-    let warnings = group_warnings(alloc, order.rtp, order.rtcp).map_err(|_| RunFault::Memory)?;
-    let _ = rt.stderr().write_all(&warnings);
-    let is_json = order.json;
-    let mut observer = ((recorder, shown), json_of(rt, is_json));
-    let ending = (order.seconds.map(until), StopFile::of(rt, order.stop));
+    warn_of_groups(rt, order.rtp, order.rtcp)?;
+    let (is_shown, is_json) = (order.show, order.json);
+    let asked = (order.seconds.map(until), StopFile::of(rt, order.stop));
+    let ending = (asked, bell);
     let end = match guard {
-        None => serve_on(link, &mut observer, participant, rng, ending, turns),
+        None => serve_on(link, &mut observers, participant, rng, ending, turns),
         Some(guard) => {
             let guarded = GuardedParticipant::new(participant, guard);
-            serve_guarded_on(link, &mut observer, guarded, rng, ending, turns)
+            serve_guarded_on(link, &mut observers, guarded, rng, ending, turns)
         }
     };
-    let _ = rt.stderr().write_all(&closing);
-    write_end(rt, is_json, &end)?;
-    match lost_lines(&observer.1) {
+    close(rt, &closing, is_shown && observers.has_failed());
+    write_end(rt, is_json, observers.rows(), &end)?;
+    match observers.lost_lines() {
         Some(fault) => Err(RunFault::from(fault)),
-        None => Ok(end),
+        None => Ok((end, observers.raised())),
     }
 }
 
-/// What shows a session.
-type Shown = (Watcher<Stderr>, SilenceWatcher<Stderr>);
-
-/// What records the session of an order, if a file is named for that.
+/// Writes to standard error which endpoints are addresses of groups. A failed write is ignored.
 ///
 /// # Errors
 ///
-/// Those of [`begin_record`].
-fn recorder_of(
-    rt: &HostRuntime,
-    order: &ListenOrder,
-    word: u32,
-) -> Result<Option<SessionRecorder<RecordFile, Stderr>>, RunFault> {
-    let Some(file) = &order.recording else {
-        return Ok(None);
-    };
-    let recorder = begin_record(rt, order, word, file)?;
-    Ok(Some(SessionRecorder {
-        recorder,
-        faults: rt.stderr(),
-    }))
+/// [`RunFault::Memory`] where memory is refused.
+fn warn_of_groups(rt: &HostRuntime, rtp: SocketAddrV4, rtcp: SocketAddrV4) -> Result<(), RunFault> {
+    let warnings = group_warnings(rt.alloc(), rtp, rtcp).map_err(|_| RunFault::Memory)?;
+    let _ = rt.stderr().write_all(&warnings);
+    Ok(())
 }
 
-/// What shows the session of an order, if that is asked for, between the endpoints that were bound. The line before
-/// those of the session is written.
-///
-/// # Errors
-///
-/// Those of [`write_header`].
-fn shown_of(
-    rt: &HostRuntime,
-    order: &ListenOrder,
-    bound: (SocketAddrV4, SocketAddrV4),
-) -> Result<Option<Shown>, RunFault> {
-    if !order.show {
-        return Ok(None);
-    }
-    write_header(rt, order, bound)?;
-    let printer = Printer::new(rt.alloc(), order.config.ntp_base, order.peer, rt.stderr());
-    let watcher = Watcher::new(printer.with_wording(wording(order)));
-    let silence = SilenceWatcher::new(rt.alloc(), rt.stderr());
-    Ok(Some((watcher, silence)))
-}
-
-/// What writes a session as lines of JSON, if that is asked for.
-fn json_of(rt: &HostRuntime, is_asked: bool) -> Option<JsonWatcher<Stdout>> {
-    if is_asked {
-        Some(JsonWatcher::new(rt.alloc(), rt.stdout()))
-    } else {
-        None
-    }
-}
-
-/// Why lines of JSON were lost, if some were.
-fn lost_lines(json: &Option<JsonWatcher<Stdout>>) -> Option<TextFault> {
-    match json {
-        Some(watcher) => watcher.fault(),
-        None => None,
+/// Writes to standard error what comes after a session that is shown, and the word of a record that failed meanwhile.
+/// A failed write is ignored.
+fn close(rt: &HostRuntime, closing: &[u8], has_failed: bool) {
+    let _ = rt.stderr().write_all(closing);
+    if has_failed {
+        let _ = rt.stderr().write_all(b"record\n");
     }
 }
 
@@ -237,67 +225,6 @@ fn guard_of(alloc: Global, order: &ListenOrder) -> Result<Option<Guard>, RunFaul
     match Guard::new(alloc, limits.settings(order.config.capacity as u16)) {
         Ok(guard) => Ok(Some(guard)),
         Err(_) => Err(RunFault::Memory),
-    }
-}
-
-/// Writes the line before those of a session that is shown to standard error, with the endpoints that were bound. A
-/// failed write is ignored.
-///
-/// # Errors
-///
-/// [`RunFault::Memory`] where memory is refused.
-fn write_header(
-    rt: &HostRuntime,
-    order: &ListenOrder,
-    bound: (SocketAddrV4, SocketAddrV4),
-) -> Result<(), RunFault> {
-    let mut line = Vec::new(rt.alloc());
-    let (ssrc, cname) = (order.config.ssrc, &order.config.cname);
-    push_header(&mut line, ssrc, cname, bound.0, bound.1, order.peer).map_err(
-        |_| RunFault::Memory,
-    )?;
-    let _ = rt.stderr().write_all(&line);
-    Ok(())
-}
-
-/// What is written to standard error after a session: where it is recorded and shown, the command that plays the record
-/// again, which by then stands far above.
-///
-/// # Errors
-///
-/// [`RunFault::Memory`] where memory is refused.
-fn closing(rt: &HostRuntime, order: &ListenOrder, word: u32) -> Result<Vec<u8>, RunFault> {
-    match &order.recording {
-        Some(file) if order.show => command_again(rt.alloc(), order, word, file),
-        _ => Ok(Vec::new(rt.alloc())),
-    }
-}
-
-/// The command that plays the record of a session again.
-///
-/// # Errors
-///
-/// [`RunFault::Memory`] where memory is refused.
-fn command_again(
-    alloc: Global,
-    order: &ListenOrder,
-    word: u32,
-    file: &str,
-) -> Result<Vec<u8>, RunFault> {
-    let line = match order.guard {
-        None => replay_line(alloc, &order.config, word, file),
-        Some(limits) => replay_guarded_line(alloc, &order.config, word, limits, file),
-    };
-    line.map_err(|_| RunFault::Memory)
-}
-
-/// How the datagrams of a session are shown. In plain words the jitter of report blocks has the rate of the one clock,
-/// where there is no other.
-fn wording(order: &ListenOrder) -> Wording {
-    match (order.plain, order.config.clocks.is_empty()) {
-        (false, _) => Wording::Brief,
-        (true, true) => Wording::Plain(Some(order.config.rate)),
-        (true, false) => Wording::Plain(None),
     }
 }
 
@@ -464,15 +391,17 @@ fn serve_guarded_on<L: Link + Drop, O: Observer, E: Ending + Drop>(
     )
 }
 
-/// Writes the line of an end to standard output, in JSON or as text.
+/// Writes the rows that came last and the line of an end to standard output, that in JSON or as text.
 ///
 /// # Errors
 ///
 /// - [`RunFault::Memory`] where memory is refused.
 /// - [`RunFault::Write`] where it cannot be written.
-fn write_end(rt: &HostRuntime, is_json: bool, end: &End) -> Result<(), RunFault> {
+fn write_end(rt: &HostRuntime, is_json: bool, rows: &[u8], end: &End) -> Result<(), RunFault> {
     let line = end_of(rt.alloc(), is_json, end).map_err(|_| RunFault::Memory)?;
-    rt.stdout().write_all(&line).map_err(|_| RunFault::Write)
+    let mut writer = rt.stdout();
+    writer.write_all(rows).map_err(|_| RunFault::Write)?;
+    writer.write_all(&line).map_err(|_| RunFault::Write)
 }
 
 /// The line of an end, in JSON or as text.
@@ -483,42 +412,6 @@ fn end_of(alloc: Global, is_json: bool, end: &End) -> Result<Vec<u8>, AllocError
     let mut line = Vec::new(alloc);
     push_end_json(&mut line, end)?;
     Ok(line)
-}
-
-/// Creates the file of a record, and writes to standard error the command that plays it again. A failed write there is
-/// ignored.
-///
-/// # Errors
-///
-/// - Those of [`created`].
-/// - [`RunFault::Memory`] where memory is refused.
-fn begin_record(
-    rt: &HostRuntime,
-    order: &ListenOrder,
-    word: u32,
-    file: &str,
-) -> Result<Recorder<RecordFile>, RunFault> {
-    let writer = RecordFile::new(created(rt, file, order.overwrites)?);
-    let line = command_again(rt.alloc(), order, word, file)?;
-    let _ = rt.stderr().write_all(&line);
-    Ok(Recorder::new(rt.alloc(), writer))
-}
-
-/// The file of a record, which begins empty. A pipe or a device is not opened: that of a pipe waits for its reader, and
-/// a write to it may wait too.
-///
-/// # Errors
-///
-/// - [`RunFault::NoRegularFile`] where something is to be overwritten that is no regular file.
-/// - [`RunFault::Record`] where the file cannot be created, or is there already and is not to be overwritten.
-fn created(rt: &HostRuntime, file: &str, overwrites: bool) -> Result<File, RunFault> {
-    if !overwrites {
-        return File::create_new(rt, file).map_err(|_| RunFault::Record);
-    }
-    match fs::metadata(rt, file) {
-        Ok(there) if !there.is_file() => Err(RunFault::NoRegularFile),
-        _ => fs::create(rt, file).map_err(|_| RunFault::Record),
-    }
 }
 
 /// The fault of a session whose link was not bound.

@@ -24,8 +24,9 @@ datagrams, and at most eight times; later ones are refused.
 So turns measure no time. 1000 of them last 20 seconds where nothing comes. A packet takes two or
 three where it comes alone, and less where packets come together, but never less than one. An hour
 of audio in packets of 20 milliseconds takes 360000 to 540000 turns. The most, 1000000, last for
-two to three hours of it, and for 14 to 25 minutes of video of 600 packets a second. With --seconds
-or --stop turns are not counted, unless --turns is given too: what comes first ends the session.
+two to three hours of it, and for 14 to 25 minutes of video of 600 packets a second. With --seconds,
+--stop or an option that begins with --until turns are not counted, unless --turns is given too:
+what comes first ends the session.
 
 The random words are those of a generator that --seed begins: with the default, 1, they are the same
 each time, so that listeners which are started together report together, in clumps. Give each
@@ -82,6 +83,21 @@ come the loss of the whole and of the latest interval, the packets a second, and
 
 With --plain too, datagrams are shown in the plain words of rtcp check --plain: with --clock the
 jitter of report blocks is in units of the RTP timestamp, and otherwise in milliseconds by --rate.
+With --ntp moments are times of day in UTC, as 08:05:22.123456Z.
+
+With --rows N rows are short, of at most 100 columns, and only the N sources have one of which most
+was lost by the latest report; loss= is that part. With --summary the rows that came last are
+written to standard output before the line at the end, also without --show:
+
+    members=41 senders=40 shown=1
+    5efa318e sends loss=12.5% total-loss=1.2% jitter=0.413ms pace=50.0/s peer=127.0.0.1:5004
+
+With --until-loss PERCENT the session ends once a report says that more was lost of a source since
+the one before, with --until-silence SECONDS once no RTP packet came for so long. A line on standard
+error says so at the end, and the status is 3:
+
+    alarm 12.403000 loss=5efa318e 12.5%
+    alarm 65.000411 silence
 
 With --json lines of JSON go to standard output, for scripts: one for each RTCP datagram that comes
 in, one for each other event of which the answer says something, and one for the end:
@@ -96,15 +112,17 @@ at the start, and with --show once more at the end. A file that is there already
 
 With --guard NAMES[,SECONDS] a source belongs to the address that named it first, until it was silent
 for so long, 60 seconds unless told. What another address says of it is held back, and so is what
-would give an address more than NAMES sources. It is shown, and counted, as refused:
+would give an address more than NAMES sources, or more than NAMES of their BYEs in that time. It is
+shown, and counted, as refused:
 
     4.120733 in 198.51.100.9:5005 refused H1 Stranger
 
-The status is 0 at Done and Limit, 2 if the command line, an option or the configuration was
-refused, and 1 at LinkDown and if a port could not be bound, or writing or memory failed.";
+The status is 0 at Done and Limit, 3 there if an alarm was raised, 2 if the command line, an option
+or the configuration was refused, and 1 at LinkDown and if a port could not be bound, or writing or
+memory failed.";
 
 /// The options after those of the participant, in the order in which they are looked at.
-const OWN: [Row; 13] = [
+const OWN: [Row; 17] = [
     (
         "rtp",
         "ADDRESS:PORT",
@@ -173,6 +191,30 @@ const OWN: [Row; 13] = [
         "Write lines of JSON on standard output while it runs, and at the end",
     ),
     GUARD,
+    (
+        "until-loss",
+        "PERCENT",
+        Absent::Nothing,
+        "End with status 3 once more than 0 to 99 per cent of a source were lost between reports",
+    ),
+    (
+        "until-silence",
+        "SECONDS",
+        Absent::Nothing,
+        "End with status 3 once no RTP packet came for 1 to 1000000000 seconds",
+    ),
+    (
+        "rows",
+        "N",
+        Absent::Nothing,
+        "Show short rows, of the 1 to 1024 sources of which most was lost",
+    ),
+    (
+        "summary",
+        "",
+        Absent::IsFlag,
+        "Write the last row of each source to standard output at the end",
+    ),
 ];
 
 /// The subcommand, as `clap` reads it.

@@ -3,8 +3,7 @@
 ghost use Rattle.std.specs.Prelude.{Ok, true, false, codes};
 ghost use Rattle.rtcp_engine.specs.state.Views.{setup_of};
 ghost use Rattle.clap.specs.Matches.{found_of};
-ghost use Rattle.rtcp_command.specs.Listening.{is_set as is_set_in};
-ghost use Rattle.rtcp_command.specs.Options.{IsReplayOrder, replay_in};
+ghost use Rattle.rtcp_command.specs.Options.{IsReplayOrder, is_set as is_set_in, replay_in};
 
 use super::rows::{Absent, GUARD, JSON, LINES, PARTICIPANT, Row, with_options};
 use crate::options::{is_set, read_replay};
@@ -56,7 +55,8 @@ These are the answers of --ssrc 000000aa --cname a.
 
 With --guard NAMES[,SECONDS] a source belongs to the origin that named it first, until it was silent
 for so long, 60 seconds unless told. The origin is PEER without its lower 16 bits, the port. What
-another origin says of it is held back, and so is what would give an origin more than NAMES sources:
+another origin says of it is held back, and so is what would give an origin more than NAMES sources,
+or more than NAMES of their BYEs in that time:
 
     refused H1 Stranger
     refused H2 Crowd

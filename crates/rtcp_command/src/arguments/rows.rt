@@ -16,8 +16,8 @@ pub(super) enum Absent {
     IsEmpty,
     /// The option takes no value: it is a flag, whose text is `true` where it is given, and else `false`.
     IsFlag,
-    /// The same of a flag that is refused beside the flag of this name.
-    IsFlagBeside(&'static str),
+    /// The same of a flag that is refused beside the flags of these names.
+    IsFlagBeside(&'static [&'static str]),
 }
 
 /// An option: the name, the value, what stands for it, and the help.
@@ -122,12 +122,19 @@ pub(super) fn with_options<'a>(
             Absent::Nothing => valued(option, value),
             Absent::IsEmpty => option.value_name(value).action(ArgAction::Append),
             Absent::IsFlag => option.action(ArgAction::SetTrue),
-            Absent::IsFlagBeside(other) => {
-                option.action(ArgAction::SetTrue).conflicts_with(other)?
-            }
+            Absent::IsFlagBeside(others) => flag_beside(option, others)?,
         })?;
     }
     Ok(command)
+}
+
+/// A flag that is refused beside others.
+fn flag_beside<'a>(option: Arg<'a>, others: &[&'a str]) -> Result<Arg<'a>, AllocError> {
+    let mut flag = option.action(ArgAction::SetTrue);
+    for other in others {
+        flag = flag.conflicts_with(other)?;
+    }
+    Ok(flag)
 }
 
 /// An option that takes a value.

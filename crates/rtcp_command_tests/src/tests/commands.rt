@@ -187,6 +187,34 @@ fn plain(rt: HostRuntime) -> Result<(), Fail> {
     Ok(())
 }
 
+/// Rows of report blocks, where they are asked for, but not beside another form.
+#[test]
+fn blocks(rt: HostRuntime) -> Result<(), Fail> {
+    let alloc = rt.alloc();
+    let asked = order(alloc, &["rtcp", "check", "--blocks", "--lines", "2"]);
+    assert!(rt; matches!(asked, Ok(Order::Text(TextOrder::CheckBlocks { lines: 2 }))));
+    for other in ["--plain", "--json"] {
+        let (status, _) = refused(alloc, &["rtcp", "check", "--blocks", other])?;
+        assert_eq!(rt; status, 2, "{other}");
+    }
+    let mut faults = Vec::new(alloc);
+    let mut written = [0; 120];
+    let text = "81c9000700000007000000080000000000000000000000000000000000000000\n\n";
+    let check = TextOrder::CheckBlocks { lines: 2 };
+    let ended = command(
+        alloc,
+        check,
+        text.as_bytes(),
+        written.as_mut_slice(),
+        &mut faults,
+    );
+    assert_eq!(rt; ended, 0);
+    let want = b"by=00000007 about=00000008 loss=0.0% lost=0 highest=0 jitter=0units lsr=none dlsr=0.000000s\n\
+        F1 Short at 0\n";
+    same(&rt, written.split_at(want.len()).0, want, "blocks");
+    Ok(())
+}
+
 /// The version goes to standard output, unless that is full.
 #[test]
 fn version(rt: HostRuntime) -> Result<(), Fail> {

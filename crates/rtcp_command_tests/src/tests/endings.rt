@@ -1,8 +1,8 @@
 //! When a session of `listen` is left.
 
 use super::{refused, same};
-use rtcp_command::Order;
 use rtcp_command::arguments::order;
+use rtcp_command::{Order, Watch};
 use std::test::Fail;
 
 /// The words of a command line that has all that is required.
@@ -27,7 +27,7 @@ type Ends = (u32, bool, Option<u32>, Option<&'static str>);
 /// Options, and what they ask for.
 type Asked = (&'static [&'static str], Ends);
 
-static ASKED: [Asked; 10] = [
+static ASKED: [Asked; 13] = [
     (&[], (1_000, true, None, None)),
     (&["--turns", "1000"], (1_000, true, None, None)),
     (&["--seconds", "1"], (1_000, false, Some(1), None)),
@@ -53,6 +53,12 @@ static ASKED: [Asked; 10] = [
         &["--stop=x", "--seconds=3"],
         (1_000, false, Some(3), Some("x")),
     ),
+    (&["--until-loss", "0"], (1_000, false, None, None)),
+    (
+        &["--until-silence", "5", "--turns", "7"],
+        (7, true, None, None),
+    ),
+    (&["--rows", "5", "--summary"], (1_000, true, None, None)),
 ];
 
 /// Turns are counted where they are asked for, or nothing else ends the session.
@@ -72,7 +78,7 @@ fn endings(rt: HostRuntime) -> Result<(), Fail> {
 }
 
 /// Options of which one is refused, and its line: of two the first in the order of the tables.
-static REFUSED: [(&[&str], &str); 8] = [
+static REFUSED: [(&[&str], &str); 15] = [
     (&["--seconds", "0"], "option seconds\n"),
     (&["--seconds", "1000000001"], "option seconds\n"),
     (&["--seconds", "4294967297"], "option seconds\n"),
@@ -81,7 +87,82 @@ static REFUSED: [(&[&str], &str); 8] = [
     (&["--seconds", "0", "--turns", "0"], "option turns\n"),
     (&["--seconds", "0", "--seed", "a"], "option seed\n"),
     (&["--turns", "0", "--seconds", "1"], "option turns\n"),
+    (&["--until-loss", "100"], "option until-loss\n"),
+    (&["--until-loss", "5%"], "option until-loss\n"),
+    (&["--until-silence", "0"], "option until-silence\n"),
+    (&["--until-silence", "1000000001"], "option until-silence\n"),
+    (&["--rows", "0"], "option rows\n"),
+    (&["--rows", "1025"], "option rows\n"),
+    (
+        &["--rows", "0", "--until-silence", "0", "--until-loss", ""],
+        "option until-loss\n",
+    ),
 ];
+
+/// Options, and the per cent, the seconds, the rows and the summary that they ask for.
+type Watched = (&'static [&'static str], Watch);
+
+const UNWATCHED: Watch = Watch {
+    loss: None,
+    silence: None,
+    rows: None,
+    summary: false,
+};
+
+static WATCHED: [Watched; 6] = [
+    (&[], UNWATCHED),
+    (
+        &["--until-loss", "0"],
+        Watch {
+            loss: Some(0),
+            ..UNWATCHED
+        },
+    ),
+    (
+        &["--until-silence=1000000000", "--until-loss=99"],
+        Watch {
+            loss: Some(99),
+            silence: Some(1_000_000_000),
+            ..UNWATCHED
+        },
+    ),
+    (
+        &["--rows", "1"],
+        Watch {
+            rows: Some(1),
+            ..UNWATCHED
+        },
+    ),
+    (
+        &["--rows", "1024", "--until-silence", "1"],
+        Watch {
+            silence: Some(1),
+            rows: Some(1_024),
+            ..UNWATCHED
+        },
+    ),
+    (
+        &["--summary"],
+        Watch {
+            summary: true,
+            ..UNWATCHED
+        },
+    ),
+];
+
+/// What a session is watched for is what the options say.
+#[test]
+fn watches(rt: HostRuntime) -> Result<(), Fail> {
+    for (row, (options, wanted)) in WATCHED.iter().enumerate() {
+        let mut words = Vec::from_slice(rt.alloc(), &REQUIRED)?;
+        words.extend_from_slice(options)?;
+        let Ok(Order::Listen(order)) = order(rt.alloc(), &words) else {
+            return Err("it was refused")?;
+        };
+        assert_eq!(rt; order.watch, *wanted, "row {row}");
+    }
+    Ok(())
+}
 
 #[test]
 fn refusals(rt: HostRuntime) -> Result<(), Fail> {

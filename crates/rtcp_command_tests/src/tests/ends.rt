@@ -2,7 +2,7 @@
 
 use super::same;
 use rtcp_command::RunFault;
-use rtcp_command::ends::{conclude, end_line};
+use rtcp_command::ends::{conclude, end_line, watched};
 use rtcp_engine::ConfigError;
 use rtcp_serve::{Cause, End};
 use std::alloc::AllocError;
@@ -64,5 +64,19 @@ fn statuses(rt: HostRuntime) {
         let status = conclude(&Err(fault), &mut faults);
         assert_eq!(rt; status, want, "{line}");
         same(&rt, &faults, line.as_bytes(), line);
+    }
+}
+
+/// An alarm changes the status of what ended well alone.
+#[test]
+fn alarms(rt: HostRuntime) {
+    for (is_raised, status, want) in [
+        (false, 0, 0),
+        (false, 1, 1),
+        (true, 0, 3),
+        (true, 1, 1),
+        (true, 2, 2),
+    ] {
+        assert_eq!(rt; watched(is_raised, status), want);
     }
 }

@@ -1,7 +1,7 @@
 -- What a check or a replay promises, the run of its order does.
 use Rattle.std.proofs.Common.{Ok, Err}
 use Rattle.rtcp_command.specs.Status.{text_fault, replay_fault}
-use Rattle.rtcp_command.proofs.StatusLemmas.{at_exit, check_answers, check_json_answers, check_plain_answers, replay_answers, replay_guarded_answers, replay_guarded_json_answers, replay_json_answers}
+use Rattle.rtcp_command.proofs.StatusLemmas.{at_exit, check_answers, check_blocks_answers, check_json_answers, check_plain_answers, replay_answers, replay_guarded_answers, replay_guarded_json_answers, replay_json_answers}
 use Rattle.rtcp_command.proofs.command.answer.Goals as goal
 
 pub returns-in_err-check_up_to-in-Check-clause-answers : goal.returns-in_err-check_up_to-in-Check-clause-answers
@@ -24,6 +24,18 @@ returns-in_err-check_plain-in-CheckPlain-clause-answers g c =
 pub returns-in_ok-check_plain-in-CheckPlain-clause-answers : goal.returns-in_ok-check_plain-in-CheckPlain-clause-answers
 returns-in_ok-check_plain-in-CheckPlain-clause-answers g c =
     check_plain_answers _ _ c.in-CheckPlain.is (Ok _) c.in_ok-check_plain-in-CheckPlain.ensures.checks
+
+pub returns-in_err-check_blocks-in-CheckBlocks-clause-answers :
+    goal.returns-in_err-check_blocks-in-CheckBlocks-clause-answers
+returns-in_err-check_blocks-in-CheckBlocks-clause-answers g c =
+    let found = c.in_err-check_blocks-in-CheckBlocks.field-0.0 in
+    at_exit _ _ (text_fault found) c.from_residual-in_err-check_blocks-in-CheckBlocks.ensures.1
+    (check_blocks_answers _ _ c.in-CheckBlocks.is (Err found) c.in_err-check_blocks-in-CheckBlocks.ensures.checks)
+
+pub returns-in_ok-check_blocks-in-CheckBlocks-clause-answers :
+    goal.returns-in_ok-check_blocks-in-CheckBlocks-clause-answers
+returns-in_ok-check_blocks-in-CheckBlocks-clause-answers g c =
+    check_blocks_answers _ _ c.in-CheckBlocks.is (Ok _) c.in_ok-check_blocks-in-CheckBlocks.ensures.checks
 
 pub returns-in_err-check_json-in-CheckJson-clause-answers : goal.returns-in_err-check_json-in-CheckJson-clause-answers
 returns-in_err-check_json-in-CheckJson-clause-answers g c =
