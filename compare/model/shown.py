@@ -10,10 +10,23 @@ ESCAPES = {9: r"\t", 10: r"\n", 13: r"\r", 34: r"\"", 39: r"\'", 92: r"\\"}
 CNAME = 1
 BLOCK = 24  # octets
 PATIENCE = 5 * SECOND  # without a datagram
+COLUMNS = 100  # of a short row
 
 
 def moment_text(moment):
     return f"{moment // SECOND}.{moment % SECOND:06}"
+
+
+def of_day(base, moment):
+    """The time of day in UTC, by the NTP timestamp of moment 0."""
+    whole, part = divmod(participant.ntp_timestamp(base, moment), 1 << 32)
+    clock = (whole % 86400) * SECOND + (part * SECOND >> 32)
+    minutes, micros = divmod(clock, 60 * SECOND)
+    return f"{minutes // 60:02}:{minutes % 60:02}:{micros // SECOND:02}.{micros % SECOND:06}Z"
+
+
+def tenths_text(tenths):
+    return f"{tenths // 10}.{tenths % 10}"
 
 
 def time_text(microseconds):
@@ -99,14 +112,29 @@ def plain_answer(octets, rate=None):
     return "ok " + " ".join(plain_packet(*packet, rate) for packet in decoder.packets(octets))
 
 
+def block_rows(octets):
+    """The lines of `rtcp check --blocks` for a datagram."""
+    answer = decoder.answer(octets)
+    if not answer.startswith("ok "):
+        return [answer]
+    rows = []
+    for packet in decoder.packets(octets):
+        reporter, blocks = blocks_of(*packet)
+        rows += [f"by={reporter.hex()}{plain_block(block, None).removeprefix(' block')}" for block in blocks]
+    return rows
+
+
 # ---- A session
 
 class Shown:
     """A session of `rtcp listen` with these options of a participant, whose compounds go to this peer. In plain words
     the jitter of report blocks is by the clock of `--rate`, and in units if there is a `--clock`."""
 
-    def __init__(self, options, to, is_plain=False):
+    def __init__(self, options, to, is_plain=False, most=None):
         self.participant, self.to = participant.begun(participant.configuration(options)), to
+        base = self.participant.options["ntp"]
+        self.when = (lambda moment: of_day(base, moment)) if is_plain and base else moment_text
+        self.most = most  # rows, of `--rows`
         rate = None if "--clock" in options else int(options[options.index("--rate") + 1])
         self.answer = (lambda octets: plain_answer(octets, rate)) if is_plain else decoder.answer
         self.cnames, self.trips = {}, {}  # of the sources that are listed
@@ -114,6 +142,7 @@ class Shown:
         self.counted, self.before, self.looked, self.elapsed = {}, {}, 0, 1
         self.second, self.last, self.roles = 0, None, {}
         self.waits = True  # for a first datagram
+        self.summary = None  # the rows that came last before it was asked to leave
         self.lines = []
 
     def header(self, rtp, rtcp):
@@ -125,8 +154,10 @@ class Shown:
     def tell(self, line):
         """Tells it a line of the record."""
         kind, moment, *fields = line.split(b" ")
+        if kind == b"leave" and self.summary is None:
+            self.summary = self.last or []
         moment, answer = int(moment), participant.answer(self.participant, line)
-        taken, now = answer.startswith("ok "), moment_text(moment)
+        taken, now = answer.startswith("ok "), self.when(moment)
         if kind == b"rtcp":
             octets = b"" if fields[2] == b"-" else bytes.fromhex(fields[2].decode())
             text = self.answer(octets) if taken else answer
@@ -149,6 +180,7 @@ class Shown:
         if self.waits and kind not in (b"rtcp", b"rtp") and moment >= PATIENCE:
             self.lines.append(f"{now} nothing heard yet")
         self.waits = self.waits and kind not in (b"rtcp", b"rtp") and moment < PATIENCE
+        return answer
 
     def tell_answer(self, now, answer):
         if changed := re.search(r" ssrc=[0-9a-f]{8}$", answer):
@@ -179,16 +211,25 @@ class Shown:
 
     def flow(self, ssrc):
         """How the packets of a source come."""
+        return self.losses(ssrc) + self.interval(ssrc, "interval-loss") + self.pace(ssrc)
+
+    def losses(self, ssrc):
+        source = self.listed()[ssrc]
+        if not source.integers:
+            return ""
+        received, lost = source.reception()[:2]
+        lost = max(0, lost)
+        return f" total-loss={tenths_text(lost * 1000 // max(1, received + lost))}%"
+
+    def interval(self, ssrc, word):
+        block = self.listed()[ssrc].last_block
+        return f" {word}={tenths_text(block[0] * 1000 // 256)}%" if block else ""
+
+    def pace(self, ssrc):
         source, text = self.listed()[ssrc], ""
-        tenths = lambda number: f"{number // 10}.{number % 10}"
-        if source.integers:
-            received, lost = source.reception()[:2]
-            lost = max(0, lost)
-            text += f" total-loss={tenths(lost * 1000 // max(1, received + lost))}%"
-        if source.last_block:
-            text += f" interval-loss={tenths(source.last_block[0] * 1000 // 256)}%"
+        received = source.reception()[0] if source.integers else 0
         if source.integers and ssrc in self.before and self.before[ssrc] <= received:
-            text += f" pace={tenths((received - self.before[ssrc]) * 10 * SECOND // self.elapsed)}/s"
+            text = f" pace={tenths_text((received - self.before[ssrc]) * 10 * SECOND // self.elapsed)}/s"
         peer = self.rtp_peers.get(ssrc, self.rtcp_peers.get(ssrc))
         return text + (f" peer={peer_text(peer)}" if peer is not None else "")
 
@@ -209,18 +250,47 @@ class Shown:
         source, text = self.listed()[ssrc], f"source={ssrc:08x}"
         text += " sends=" + ("yes" if source.counts_as_sender() else "no")
         if source.left is not None:
-            text += f" left={moment_text(source.left)}"
+            text += f" left={self.when(source.left)}"
         elif not source.is_member():
             text += " valid=no"
         if source.integers:
-            received, lost, _, jitter, rate = source.reception()
-            jitter = time_text(jitter * SECOND // rate)
-            text += f" packets={received} lost={lost} jitter={jitter}"
+            received, lost = source.reception()[:2]
+            text += f" packets={received} lost={lost}"
+        return text + self.delays(ssrc) + self.name(ssrc) + self.flow(ssrc)
+
+    def delays(self, ssrc):
+        source, text = self.listed()[ssrc], ""
+        if source.integers:
+            _, _, _, jitter, rate = source.reception()
+            text += f" jitter={time_text(jitter * SECOND // rate)}"
         if ssrc in self.trips:
             text += f" round-trip={time_text(self.trips[ssrc] * SECOND // 65536)}"
-        if ssrc in self.cnames:
-            text += f" cname=\"{escaped(self.cnames[ssrc])}\""
-        return text + self.flow(ssrc)
+        return text
+
+    def name(self, ssrc):
+        return f" cname=\"{escaped(self.cnames[ssrc])}\"" if ssrc in self.cnames else ""
+
+    def short_row(self, ssrc):
+        """The row of `--rows`, cut to so many columns."""
+        source = self.listed()[ssrc]
+        word = ("sends" if source.counts_as_sender() else "left" if source.left is not None
+                else "member" if source.is_member() else "invalid")
+        text = (f"{ssrc:08x} {word}{self.interval(ssrc, 'loss')}{self.losses(ssrc)}{self.delays(ssrc)}"
+                f"{self.pace(ssrc)}{self.name(ssrc)}")
+        return text if len(text) <= COLUMNS else text[:COLUMNS - 3] + "..."
+
+    def worst(self, listed):
+        """So many sources of which most was lost by the latest report, in the order of their SSRCs."""
+        fraction = lambda ssrc: self.listed()[ssrc].last_block[0] if self.listed()[ssrc].last_block else 0
+        return sorted(sorted(listed, key=lambda ssrc: (-fraction(ssrc), ssrc))[:self.most])
+
+    def rows(self, listed):
+        """The counts, and the rows after them."""
+        counts = f"members={self.participant.members()} senders={self.participant.senders()}"
+        if self.most is None:
+            return [counts, *map(self.row, listed)]
+        worst = self.worst(listed)
+        return [counts + (f" shown={len(worst)}" if len(worst) < len(listed) else ""), *map(self.short_row, worst)]
 
     def show_sources(self, now):
         listed = sorted(self.listed())
@@ -231,17 +301,44 @@ class Shown:
                 del peers[ssrc]
         counted = {ssrc: source.reception()[0] for ssrc, source in self.listed().items() if source.integers}
         self.before, self.counted = self.counted, counted
-        shown = [f"members={self.participant.members()} senders={self.participant.senders()}", *map(self.row, listed)]
+        shown = self.rows(listed)
         if shown != self.last:
             self.last = shown
             self.lines += [f"{now} {shown[0]}", *shown[1:]]
 
 
-def text_of(options, rtp, rtcp, to, record, is_plain=False):
-    """What a session with this record wrote, where datagrams are shown in plain words or not. `rtp`, `rtcp` and `to`
-    are the numbers of where it receives and sends."""
-    shown = Shown(options, to, is_plain)
+class Alarm:
+    """The first alarm of a session with these limits, if one was raised."""
+
+    def __init__(self, loss, silence):
+        self.loss, self.silence, self.heard, self.text = loss, silence, 0, None
+
+    def tell(self, listed, is_present, line, answer):
+        kind, moment = line.split(b" ")[:2]
+        taken = answer.startswith("ok ")
+        if taken and kind == b"rtp":
+            self.heard = int(moment)
+        found = self.found(listed, taken and " out=-" not in answer)
+        if not found and self.silence is not None and is_present and int(moment) >= self.heard + self.silence * SECOND:
+            found = "silence"
+        if found and not self.text:
+            self.text = f"alarm {moment_text(int(moment))} {found}"
+
+    def found(self, listed, is_report):
+        for ssrc, source in sorted(listed.items()) if self.loss is not None and is_report else []:
+            if source.last_block and source.last_block[0] * 100 > self.loss * 256:
+                return f"loss={ssrc:08x} {tenths_text(source.last_block[0] * 1000 // 256)}%"
+        return None
+
+
+def text_of(options, rtp, rtcp, to, record, is_plain=False, most=None, alarm=None):
+    """What a session with this record wrote, where datagrams are shown in plain words or not, with so many short rows at
+    most, and the rows that came last before its leave. `rtp`, `rtcp` and `to` are the numbers of where it receives and sends. An alarm
+    is told each line."""
+    shown = Shown(options, to, is_plain, most)
     shown.lines.append(shown.header(rtp, rtcp))
     for line in record.splitlines():
-        shown.tell(line)
-    return "".join(line + "\n" for line in shown.lines)
+        answer = shown.tell(line)
+        if alarm:
+            alarm.tell(shown.listed(), shown.participant.is_present(), line, answer)
+    return "".join(line + "\n" for line in shown.lines), "".join(line + "\n" for line in shown.summary or [])
