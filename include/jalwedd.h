@@ -48,7 +48,7 @@
  * that came, this one counts as lost.
  *
  * jalwedd_new takes at most 12,288 octets of stack, and no other call more than 8,192; of those that a participant is
- * told by, none but jalwedd_configure takes more than 1,024 (as measured, at 1,000 members).
+ * told by, none but jalwedd_configure takes more than 1,024, or 4,096 with a guard (as measured, at 1,000 members).
  *
  * Moments are those of the host's clock, in microseconds: of any that does not go back, whatever it counts from. A
  * session starts with jalwedd_new, at the moment config.start, 0 to 2^63 - 1. All moments that are passed in lie

@@ -8,11 +8,11 @@ use crate::sys;
 pub struct HeldBack {
     /// How many datagrams named a source of another origin.
     pub strangers: u64,
-    /// How many datagrams named too many sources.
+    /// How many datagrams named too many sources, or brought a BYE too many.
     pub crowds: u64,
     /// The origin of the last datagram that named a source of another origin.
     pub last_stranger: Option<u64>,
-    /// The origin of the last datagram that named too many sources.
+    /// The origin of the last datagram that named too many sources, or brought a BYE too many.
     pub last_crowd: Option<u64>,
 }
 

@@ -12,7 +12,7 @@
 //! configuration that is refused, by C1 to C8, of which 14 to 16 are also settings that are refused, by E8; 19 a
 //! session without a guard; 20 a handle that holds no participant; 21 one that already holds one; 22 no memory; 23 an
 //! RTP datagram of more octets than UDP carries; 24 a datagram that the guard holds back, as it names a source of
-//! another origin; 25 one by which its origin would have too many sources.
+//! another origin; 25 one by which its origin would have too many sources or goodbyes.
 //!
 //! Time is what a clock of the host's shows, in microseconds. It may count from anywhere, and must not go back. A
 //! session begins at the `start` of its [`Config`], and a call before that is refused as one that comes too early.

@@ -22,11 +22,12 @@ pub const NOWHERE: u64 = u64::MAX;
 pub struct HostCounts {
     /// How many datagrams named a source of another origin.
     pub strangers: u64,
-    /// How many datagrams named too many sources.
+    /// How many datagrams named too many sources, or brought a BYE too many.
     pub crowds: u64,
     /// Where the last datagram came from that named a source of another origin; 2^64 - 1 if there was none.
     pub last_stranger: u64,
-    /// Where the last datagram came from that named too many sources; 2^64 - 1 if there was none.
+    /// Where the last datagram came from that named too many sources, or brought a BYE too many; 2^64 - 1 if there was
+    /// none.
     pub last_crowd: u64,
 }
 

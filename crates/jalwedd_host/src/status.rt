@@ -71,7 +71,8 @@ pub const TOO_LONG: u32 = 23;
 /// The guard holds the datagram back: it names a source of another origin.
 const STRANGER: u32 = 24;
 
-/// The guard holds the datagram back, or does not expect the source: its origin would have too many.
+/// The guard holds the datagram back, or does not expect the source: its origin would have too many sources, or too
+/// many goodbyes.
 pub const CROWD: u32 = 25;
 
 /// The status of a call that a guarded participant did not take.
