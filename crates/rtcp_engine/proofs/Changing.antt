@@ -3,7 +3,7 @@ use Rattle.std.proofs.Common.{◌≡◌, ℕ, List, [], ◌∷◌, Option, Some,
 use Rattle.std.specs.Option.{option_or}
 use Rattle.rtcp_engine.specs.declared.config.ConfigError.{ConfigError}
 use Rattle.rtcp_engine.specs.declared.refusal.Refusal.TheVariants.{Settings}
-use Rattle.rtcp_engine.specs.answers.Setups.{Setup, IsUsable, settings_of, with_settings}
+use Rattle.rtcp_engine.specs.answers.Setups.{Setup, SettingsValue, IsUsable, settings_of, with_settings}
 use Rattle.rtcp_engine.specs.answers.Acts.{Act, arrived, configured}
 use Rattle.rtcp_engine.specs.answers.Identities.{with_ssrc}
 use Rattle.rtcp_engine.specs.answers.Leaving.{Life, present, backing_off, finished}
@@ -11,6 +11,7 @@ use Rattle.rtcp_engine.specs.answers.Lives.{out_by, own_bye}
 use Rattle.rtcp_engine.specs.answers.Changes.{NewIdentifier, Session, change_by, changed_by, changed_to}
 use Rattle.rtcp_engine.specs.answers.Histories.{session_of, settings_after, setup_after}
 use Rattle.rtcp_engine.specs.answers.Refusals.{refusal_of_content}
+use Rattle.rtcp_engine.specs.bounds.OwnClock.{latest_settings}
 use Rattle.rtcp_engine.specs.state.Taken.{AllTaken}
 use Rattle.rtcp_engine.proofs.AnswerLemmas.{unrefused}
 use Rattle.rtcp_engine.proofs.Usable.{usable_with_settings}
@@ -40,6 +41,29 @@ same_but_name_and_settings setup word (act ∷ earlier) =
     let change = change_by before act in
     set_again setup act (changed_by change before).setup
     (ssrc_again setup before change (same_but_name_and_settings setup word earlier))
+
+-- The settings of a session are those that were given last.
+pub latest_of : (setup : Setup) (word : ℕ) (acts : List Act) →
+    settings_of (session_of setup word acts).setup ≡ latest_settings (settings_of setup) acts
+latest_of setup word [] = refl
+latest_of setup word (act ∷ earlier) =
+    let before = session_of setup word earlier in
+    let change = change_by before act in
+    by_act act (changed_by change before).setup (by_change before change (latest_of setup word earlier))
+  where
+    first : SettingsValue
+    first = settings_of setup
+
+    by_change : (session : Session) (change : Option NewIdentifier) →
+        settings_of session.setup ≡ latest_settings first earlier →
+        settings_of (changed_by change session).setup ≡ latest_settings first earlier
+    by_change session None same = same
+    by_change session (Some new) same = same
+
+    by_act : (act : Act) (now : Setup) → settings_of now ≡ latest_settings first earlier →
+        settings_of (setup_after act now) ≡ latest_settings first (act ∷ earlier)
+    by_act (configured t settings) now same = refl
+    by_act act now same = same
 
 -- A setup under another identifier is as usable.
 pub usable_with_ssrc : (ssrc : ℕ) (setup : Setup) → IsUsable setup → IsUsable (with_ssrc ssrc setup)

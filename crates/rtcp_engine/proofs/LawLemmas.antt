@@ -10,22 +10,24 @@ use Rattle.rtcp_members.specs.Pending.{EntryRow, last_reported}
 use Rattle.rtcp_members.specs.Listings.{StateValue}
 use Rattle.rtcp_report.specs.Traced.{with_blocks}
 use Rattle.rtcp_engine.specs.declared.refusal.Refusal.{Refusal}
-use Rattle.rtcp_engine.specs.answers.Setups.{Setup, SettingsValue, IsUsable, with_settings}
+use Rattle.rtcp_engine.specs.answers.Setups.{Setup, SettingsValue, IsUsable, settings_of, with_settings}
 use Rattle.rtcp_engine.specs.answers.Refused.{error_in}
 use Rattle.rtcp_engine.specs.answers.Acts.{Act, configured, moment_of, IsReading, IsRtpReading, IsTotal, IsUnique}
 use Rattle.rtcp_engine.specs.answers.Leaving.{Life, present}
 use Rattle.rtcp_engine.specs.answers.Lives.{ListsInLife, lived, out_by, own_bye, with_pace_in, next_in_life}
 use Rattle.rtcp_engine.specs.answers.Changes.{NewIdentifier, Session, bye_of_change, change_by, changed_by}
 use Rattle.rtcp_engine.specs.answers.OwnStreams.{OwnStep, packet_sent, check_passed, report_sent, counts_anew, sending_since}
+use Rattle.rtcp_engine.specs.bounds.OwnClock.{latest_settings, told_by}
 use Rattle.rtcp_engine.specs.bounds.OwnSending.{OutlastsChecks, IsSendingSince}
-use Rattle.rtcp_engine.specs.answers.Reporting.{last_reported_in}
+use Rattle.rtcp_engine.specs.answers.Outcomes.{Outcome}
+use Rattle.rtcp_engine.specs.answers.Reporting.{last_reported_in, reporter_at}
 use Rattle.rtcp_engine.specs.answers.Histories.{History, brought_by, last_moment, life_at, session_at, setup_at, with_act}
 use Rattle.rtcp_engine.specs.answers.Refusals.{refusal_after}
 use Rattle.rtcp_engine.specs.answers.Steps.{OutValue, answer_unless}
 use Rattle.rtcp_engine.specs.answers.Answers.{step_by, answer_of, followed_by}
 use Rattle.rtcp_engine.specs.state.Taken.{IsHistory}
 use Rattle.rtcp_engine.specs.bounds.Sent.{reports_in, deciding_interval, sent_at, sent_with, handed_out, reports_of, counted_report}
-use Rattle.rtcp_engine.proofs.Changing.{bye_alone}
+use Rattle.rtcp_engine.proofs.Changing.{bye_alone, latest_of}
 use Rattle.rtcp_engine.proofs.Past.{latest_in_range, listed_after}
 use Rattle.rtcp_engine.proofs.Usable.{usable_of_unrefused, unrefused_of_usable}
 use Rattle.rtcp_engine.proofs.Counting.{reports_counted}
@@ -244,6 +246,16 @@ settings_touch_the_setup_alone-sent history moment settings =
 pub settings_touch_the_setup_alone-setup : (history : History) (moment : ℕ) (settings : SettingsValue) →
     setup_at (with_act history (configured moment settings)) ≡ with_settings settings (setup_at history)
 settings_touch_the_setup_alone-setup history moment settings = refl
+
+pub reports_go_by_the_latest_settings-latest : (history : History) → settings_of (setup_at history)
+    ≡ latest_settings (settings_of history.setup) history.acts
+reports_go_by_the_latest_settings-latest history = latest_of history.setup history.word history.acts
+
+pub reports_go_by_the_latest_settings-told : (history : History) (outcome : Outcome) (t : ℕ) →
+    life_at history ≡ present outcome → (reporter_at (setup_at history) t outcome).sent
+    ≡ told_by (latest_settings (settings_of history.setup) history.acts) t outcome.own
+reports_go_by_the_latest_settings-told history outcome t is =
+    ap (λ (settings : SettingsValue). told_by settings t outcome.own) (reports_go_by_the_latest_settings-latest history)
 
 -- ---- What is told of sources
 

@@ -23,7 +23,6 @@ use Rattle.rtcp_engine.specs.answers.Lives.{lived, with_new_ssrc}
 use Rattle.rtcp_engine.specs.answers.Outcomes.{Outcome}
 use Rattle.rtcp_engine.specs.answers.Reporting.{reported_at}
 use Rattle.rtcp_engine.specs.answers.Ticks.{checked}
-use Rattle.rtcp_engine.proofs.Changing.{same_but_name_and_settings}
 use Rattle.rtcp_engine.proofs.LifeLemmas.{of_check, of_leave, of_wait}
 
 -- ---- Facts
@@ -115,21 +114,24 @@ changed_has rate session (Some new) has = renamed_has rate session.setup session
 -- ---- Sessions
 
 -- Nothing is said of the clocks of payload types, as long as no act says something.
-no_clocks : (setup : Setup) (word : ℕ) (acts : List Act) → setup.clocks ≡ [] → AllByRecursion GivesNoClocks acts →
-    (session_of setup word acts).setup.clocks ≡ []
-no_clocks setup word [] none gives = none
+no_clocks : (setup : Setup) (word : ℕ) (acts : List Act) → setup.clocks ≡ [] →
+    AllByRecursion (GivesNoClocks setup.rate) acts → let now = (session_of setup word acts).setup in
+    (now.clocks ≡ []) × (now.rate ≡ setup.rate)
+no_clocks setup word [] none gives = (none, refl)
 no_clocks setup word (act ∷ earlier) none gives =
     let before = session_of setup word earlier in
     let change = change_by before act in
     by_act act (changed_by change before).setup gives.0
     (by_change before change (no_clocks setup word earlier none gives.1))
   where
-    by_change : (session : Session) (change : Option NewIdentifier) → session.setup.clocks ≡ [] →
-        (changed_by change session).setup.clocks ≡ []
+    by_change : (session : Session) (change : Option NewIdentifier) →
+        (session.setup.clocks ≡ []) × (session.setup.rate ≡ setup.rate) →
+        ((changed_by change session).setup.clocks ≡ []) × ((changed_by change session).setup.rate ≡ setup.rate)
     by_change session None none = none
     by_change session (Some new) none = none
 
-    by_act : (act : Act) (now : Setup) → GivesNoClocks act → now.clocks ≡ [] → (setup_after act now).clocks ≡ []
+    by_act : (act : Act) (now : Setup) → GivesNoClocks setup.rate act → (now.clocks ≡ []) × (now.rate ≡ setup.rate) →
+        ((setup_after act now).clocks ≡ []) × ((setup_after act now).rate ≡ setup.rate)
     by_act (configured t settings) now gives none = gives
     by_act act now gives none = none
 
@@ -138,15 +140,15 @@ changed_clock : (rate : ℕ) (session : Session) (change : Option NewIdentifier)
 changed_clock rate session None is = is
 changed_clock rate session (Some new) is = is
 
-one_clock_at : (setup : Setup) (word : ℕ) (acts : List Act) → setup.clocks ≡ [] → AllByRecursion GivesNoClocks acts →
-    IsOfOneClock (session_of setup word acts).setup setup.rate
+one_clock_at : (setup : Setup) (word : ℕ) (acts : List Act) → setup.clocks ≡ [] →
+    AllByRecursion (GivesNoClocks setup.rate) acts → IsOfOneClock (session_of setup word acts).setup setup.rate
 one_clock_at setup word acts none gives payload_type =
     let now = (session_of setup word acts).setup in
-    ap (λ (clocks : List ClockValue). rate_among clocks now.rate payload_type) (no_clocks setup word acts none gives)
-    ∙ ap (λ (s : Setup). s.rate) (same_but_name_and_settings setup word acts)
+    let same = no_clocks setup word acts none gives in
+    ap (λ (clocks : List ClockValue). rate_among clocks now.rate payload_type) same.0 ∙ same.1
 
-session_has : (setup : Setup) (word : ℕ) (acts : List Act) → setup.clocks ≡ [] → AllByRecursion GivesNoClocks acts →
-    HasIn setup.rate (session_of setup word acts).life
+session_has : (setup : Setup) (word : ℕ) (acts : List Act) → setup.clocks ≡ [] →
+    AllByRecursion (GivesNoClocks setup.rate) acts → HasIn setup.rate (session_of setup word acts).life
 session_has setup word [] none gives = tt
 session_has setup word (act ∷ earlier) none gives =
     let before = session_of setup word earlier in
@@ -157,6 +159,6 @@ session_has setup word (act ∷ earlier) none gives =
     (changed_has setup.rate before change (session_has setup word earlier none gives.1))
 
 pub one_clock : (setup : Setup) (word : ℕ) (acts : List Act) (outcome : Outcome) → setup.clocks ≡ [] →
-    AllByRecursion GivesNoClocks acts → (session_of setup word acts).life ≡ present outcome →
+    AllByRecursion (GivesNoClocks setup.rate) acts → (session_of setup word acts).life ≡ present outcome →
     HasOneClock setup.rate outcome.trace
 one_clock setup word acts outcome none gives is = subst (HasIn setup.rate) is (session_has setup word acts none gives)

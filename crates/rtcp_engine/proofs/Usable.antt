@@ -1,5 +1,5 @@
 -- A setup is usable exactly where it is not refused.
-use Rattle.std.proofs.Common.{◌≡◌, ℕ, ◌^◌, ◌%◌, ◌==◌, ◌&&◌, Bool, true, false, not, length, Option, Some, None, if◌then◌else◌, nat_le, refl, sym, ap, ◌∙◌}
+use Rattle.std.proofs.Common.{◌≡◌, ℕ, ◌^◌, ◌%◌, ◌==◌, ◌&&◌, Bool, true, false, not, length, Option, Some, None, if◌then◌else◌, nat_le, refl, sym, ◌∙◌}
 use Rattle.std.specs.List.{list_all}
 use Rattle.std.specs.Cmp.Derive.{both_true}
 use Rattle.std.proofs.lemmas.Bool.{leb-true, le-leb, eqb-true, eq-eqb, and_parts, false≢true}
@@ -105,12 +105,7 @@ settings_refused settings setup h =
     sym (passed_by (is_within 1 255 (length setup.cname)) Cname _ (is_within_of 1 255 (length setup.cname) h.cname)
     ∙ passed_by (is_within 1 1024 setup.capacity) Capacity _ (is_within_of 1 1024 setup.capacity h.capacity)
     ∙ passed_by (is_limit setup.limit) Limit _
-    (both_true (is_within_of 576 1472 setup.limit h.limit) (eq-eqb (setup.limit % 4) 0 h.words))
-    ∙ ap (λ (b : Bool). if not
-    (is_bandwidth settings.sender_bw && is_bandwidth settings.receiver_bw) then Some Bandwidth else
-    (if not (b && list_all is_clock settings.clocks) then Some Rate else
-    (if not (are_extras settings.extras) then Some Item else None)))
-    (is_within_of 1 (2 ^ 20) setup.rate h.rate))
+    (both_true (is_within_of 576 1472 setup.limit h.limit) (eq-eqb (setup.limit % 4) 0 h.words)))
 
 pub usable_with_settings : (settings : SettingsValue) (setup : Setup) → IsUsable setup →
     settings_error settings ≡ None → IsUsable (with_settings settings setup)

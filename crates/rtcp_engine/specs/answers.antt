@@ -10,6 +10,7 @@ pub mod Arrivals
 pub mod Steps
 pub mod Leaving
 pub mod Lives
+pub mod OwnCounts
 pub mod Changes
 pub mod Histories
 pub mod Refusals

@@ -1,3 +1,4 @@
+pub mod OwnClock
 pub mod OwnSending
 pub mod Changed
 pub mod Hearing

@@ -1,6 +1,6 @@
 //! How a participant is configured.
 
-ghost use Rattle.std.specs.Prelude.{◌≡◌, ◌≤◌, ◌-◌, ◌/◌, ℕ, List, map, Option, Some, None};
+ghost use Rattle.std.specs.Prelude.{◌≡◌, ◌≤◌, ◌-◌, ◌/◌, ◌^◌, ℕ, List, map, Option, Some, None};
 ghost use Rattle.rtcp_report.specs.Views.{item_value};
 ghost use Rattle.rtcp_engine.specs.answers.Setups.{is_within as within, is_extra_item};
 ghost use Rattle.rtcp_engine.specs.answers.Refused.{error_in, is_bandwidth as is_bandwidth_for, is_limit as is_limit_for, are_extras as extras_are};
@@ -105,7 +105,7 @@ impl Config {
         if !is_bandwidth(self.sender_bw) || !is_bandwidth(self.receiver_bw) {
             return Some(ConfigError::Bandwidth);
         }
-        if !is_within(1, 1 << 20, self.rate) || !are_clocks(&self.clocks) {
+        if !is_rate(self.rate) || !are_clocks(&self.clocks) {
             return Some(ConfigError::Rate);
         }
         if !are_extras(&self.extras) {
@@ -138,6 +138,13 @@ pub(crate) fn is_bandwidth(bandwidth: u32) -> bool
     ensures { result ≡ is_bandwidth_for bandwidth }
 {
     is_within(16, 1 << 30, bandwidth)
+}
+
+/// Whether a clock may have this rate.
+pub(crate) fn is_rate(rate: u32) -> bool
+    ensures { result ≡ within 1 (2 ^ 20) rate }
+{
+    is_within(1, 1 << 20, rate)
 }
 
 /// Whether a limit is one for compounds.

@@ -14,7 +14,8 @@ ghost use Rattle.rtcp_engine.specs.answers.Refused.{error_in, settings_error};
 ghost use Rattle.rtcp_engine.specs.answers.Acts.{Datagram, Act, configured, IsReading, IsRtpReading, IsTotal, IsUnique, moment_of};
 ghost use Rattle.rtcp_engine.specs.answers.OwnStreams.{OwnStep, sending_since};
 ghost use Rattle.rtcp_engine.specs.bounds.OwnSending.{IsSendingSince};
-ghost use Rattle.rtcp_engine.specs.answers.Reporting.{extra_item, last_reported_in};
+ghost use Rattle.rtcp_engine.specs.answers.Reporting.{extra_item, last_reported_in, reporter_at};
+ghost use Rattle.rtcp_engine.specs.bounds.OwnClock.{latest_settings, told_by};
 ghost use Rattle.rtcp_engine.specs.answers.Outcomes.{Outcome, check_interval, end_of, newest_pace, receiver_interval_at, timing_of, with_pace, IsPace};
 ghost use Rattle.rtcp_engine.specs.bounds.Pacing.{IsPaced, end_by, last_end, unpaced};
 ghost use Rattle.rtcp_engine.specs.answers.Ticks.{horizons_of};
@@ -98,6 +99,17 @@ pub fn settings_touch_the_setup_alone()
         sent_at (with_act history (configured moment settings)) ≡ sent_at history }
     ensures setup { (history : History) (moment : ℕ) (settings : SettingsValue) →
         setup_at (with_act history (configured moment settings)) ≡ with_settings settings (setup_at history) }
+{}
+
+/// The settings of a session are those that were given last. So each report of a participant that sends tells its
+/// moment by these alone: in NTP time by their time of day, and in RTP time at their rate, from the newest packet on
+/// (RFC 3550, 6.4.1). No report lies between the former line and the new one.
+pub fn reports_go_by_the_latest_settings()
+    ensures latest { (history : History) → settings_of (setup_at history)
+        ≡ latest_settings (settings_of history.setup) history.acts }
+    ensures told { (history : History) (outcome : Outcome) (t : ℕ) → life_at history ≡ present outcome →
+        (reporter_at (setup_at history) t outcome).sent
+        ≡ told_by (latest_settings (settings_of history.setup) history.acts) t outcome.own }
 {}
 
 /// Other settings drop nobody sooner, however much more bandwidth they bring (RFC 3550, 6.3.5). For five intervals a
@@ -243,12 +255,12 @@ pub fn listed_moments_have_passed()
     ensures range { (history : History) → IsHistory history → last_moment history.acts ≤ 2 ^ 50 }
 {}
 
-/// Where nothing is said of the clocks of payload types, all RTP packets that came count in units of clocks of one
-/// rate, the usual one. So each source has the jitter of its whole run, in units of that clock (rtcp_members's law
+/// Where nothing is said of the clocks of payload types, and no settings change the rate, all RTP packets that came
+/// count in units of clocks of one rate, the usual one. So each source has the jitter of its whole run, in units of that clock (rtcp_members's law
 /// `one_clock_is_one_rate`): it is as if there were no payload types.
 pub fn one_clock_without_others()
     ensures { (setup : Setup) (word : ℕ) (acts : List Act) (outcome : Outcome) → setup.clocks ≡ [] →
-        AllByRecursion GivesNoClocks acts → (session_of setup word acts).life ≡ present outcome →
+        AllByRecursion (GivesNoClocks setup.rate) acts → (session_of setup word acts).life ≡ present outcome →
         HasOneClock setup.rate outcome.trace }
 {}
 

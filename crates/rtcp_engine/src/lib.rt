@@ -65,6 +65,7 @@ mod table;
 pub use clock::Clock;
 pub use config::{Config, ConfigError, rtcp_bw_of, shares_of};
 pub use event::Event;
+pub use own::OwnCounts;
 pub use participant::{InspectedRtcp, InspectedRtp, Participant};
 pub use refusal::Refusal;
 pub use rtcp_listing::{Change, Changes, Listed, Role, is_rising};

@@ -3,6 +3,7 @@
 ghost use Rattle.std.specs.Prelude.{◌≡◌, ◌≤◌, ℕ, [], IsTrue, is_some, option_map};
 ghost use Rattle.rtcp_report.specs.Views.{sent_value};
 ghost use Rattle.rtcp_engine.specs.answers.OwnStreams.{Adds, packet_sent, check_passed, report_sent, own_of, timestamp_at, sent_of};
+ghost use Rattle.rtcp_engine.specs.answers.OwnCounts.{counts_of};
 ghost use Rattle.rtcp_engine.specs.state.OwnValues.{own_anew, packet_value};
 
 use rtcp_clock::{ntp_of, rtp_units};
@@ -14,6 +15,17 @@ use std::marker::Model;
 pub(crate) struct NewestPacket {
     moment: u64,
     timestamp: u32,
+}
+
+/// What a participant has sent under its present SSRC, as a sender report of now would tell it (RFC 3550, 6.4.1).
+#[derive(Clone, Copy, Debug, PartialEq, Eq)]
+pub struct OwnCounts {
+    /// Whether it counts as a sender (RFC 3550, 6.3.8): so that a report of now would be a sender report.
+    pub sends: bool,
+    /// How many RTP packets it sent, modulo 2^32.
+    pub packets: u32,
+    /// How many octets of payload they had, without headers and padding, modulo 2^32.
+    pub octets: u32,
 }
 
 /// What the participant sent, as far as its reports go.
@@ -115,6 +127,17 @@ impl OwnStream {
         ensures { result ≡ is_some self.now.sending }
     {
         self.sending.is_some()
+    }
+
+    /// What was sent so far.
+    pub(crate) fn counts(&self) -> OwnCounts
+        ensures { result ≡ counts_of self.now }
+    {
+        OwnCounts {
+            sends: self.is_sending(),
+            packets: self.packets,
+            octets: self.octets,
+        }
     }
 
     /// What a report at the moment `t` says of the stream, where the participant is a sender. `ntp_base` is

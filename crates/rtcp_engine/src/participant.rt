@@ -7,6 +7,7 @@ ghost use Rattle.rtcp_engine.specs.declared.config.ConfigError.{ConfigError as E
 ghost use Rattle.rtcp_engine.specs.answers.Acts.{forget_asked, leave_asked, packet_sent, rtcp_arrived, rtp_arrived, settings_given, time_passed};
 ghost use Rattle.rtcp_engine.specs.answers.Histories.{History, life_at, setup_at};
 ghost use Rattle.rtcp_engine.specs.answers.Lives.{members_in_life, senders_in_life, entries_in_life, ListsInLife, WalksInLife, next_in_life, silent_in_life};
+ghost use Rattle.rtcp_engine.specs.answers.OwnCounts.{own_counts_in_life};
 ghost use Rattle.rtcp_engine.specs.answers.Refused.{error_in};
 ghost use Rattle.rtcp_engine.specs.state.States.{KeepsCapacity, StandsAt};
 ghost use Rattle.rtcp_engine.specs.state.Promises.{Answers};
@@ -15,6 +16,7 @@ ghost use Rattle.rtcp_engine.specs.state.Views.{setup_of, settings_value};
 
 use crate::changes::IdentifierChanges;
 use crate::config::{Config, ConfigError};
+use crate::own::OwnCounts;
 use crate::presence::Presence;
 use crate::settings::Settings;
 use crate::step::{Answer, answer_with};
@@ -164,6 +166,18 @@ impl<T: MemberTable> Participant<T> {
         self.standing().entries
     }
 
+    /// What the participant has sent under its present SSRC, and whether it counts as a sender: `None` once it leaves, as
+    /// it reports nothing from then on. It changes nothing.
+    pub fn own_counts(&self) -> Option<OwnCounts>
+        ensures { (history : History) → StandsAt self.now history →
+            result ≡ own_counts_in_life (life_at history) }
+    {
+        match self.phase {
+            Phase::Present => Some(self.presence.own_counts()),
+            Phase::BackingOff(_) | Phase::Finished => None,
+        }
+    }
+
     /// What is known of each source, by rising SSRC: an iterator over all answers of `source_above`.
     pub fn sources(&self) -> Sources<'_, T>
         ensures { (history : History) → StandsAt self.now history →
@@ -289,9 +303,10 @@ impl<T: MemberTable> Participant<T> {
         answer_with(reply, &octets)
     }
 
-    /// Gives the participant other settings at the moment `now`: the bandwidths of the session, and what it says of
-    /// itself beside its CNAME. They hold from then on, in a backoff too: each interval that is computed later is
-    /// computed by these bandwidths, and each report that is made later says these items.
+    /// Gives the participant other settings at the moment `now`: the bandwidths of the session, its clocks and its time
+    /// of day, and what it says of itself beside its CNAME. They hold from then on, in a backoff too: each interval that
+    /// is computed later is computed by these bandwidths, and each report that is made later says these items, and
+    /// tells its moment by this rate and this time of day.
     ///
     /// What is known of the session stays: its members, the average and the schedule, so that no report comes sooner
     /// by this call. With less bandwidth the next report is put off once its moment comes, as its interval is

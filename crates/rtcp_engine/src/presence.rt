@@ -5,6 +5,7 @@ ghost use Rattle.std.specs.FinMap as map;
 ghost use Rattle.rtcp_members.specs.Listings.{state_above, states_above};
 ghost use Rattle.rtcp_members.specs.ListViews.{state_value};
 ghost use Rattle.rtcp_members.specs.Tables.{no_members};
+ghost use Rattle.rtcp_engine.specs.answers.OwnCounts.{counts_of};
 ghost use Rattle.rtcp_engine.specs.answers.Refused.{error_in};
 ghost use Rattle.rtcp_engine.specs.state.Views.{setup_of};
 ghost use Rattle.rtcp_engine.specs.answers.Outcomes.{Outcome, one_if, member_count as member_count_of, sender_count as sender_count_of, load_of, interval_at};
@@ -14,7 +15,7 @@ ghost use Rattle.rtcp_engine.specs.answers.Refusals.{call_refusal};
 ghost use Rattle.rtcp_engine.specs.answers.Untimely.{refusal_of_moment};
 
 use crate::config::Config;
-use crate::own::OwnStream;
+use crate::own::{OwnCounts, OwnStream};
 use crate::pace::Pace;
 use crate::refusal::Refusal;
 use crate::table::member_count;
@@ -172,6 +173,13 @@ impl<T: MemberTable> Presence<T> {
         ensures { result ≡ states_above None self.now.table }
     {
         Sources::of(&self.table)
+    }
+
+    /// What the participant sent so far.
+    pub(crate) fn own_counts(&self) -> OwnCounts
+        ensures { result ≡ counts_of self.now.own }
+    {
+        self.own.counts()
     }
 
     pub(crate) fn next_moment(&self) -> u64

@@ -6,7 +6,7 @@ ghost use Rattle.rtcp_engine.specs.answers.Refused.{settings_error};
 ghost use Rattle.rtcp_engine.specs.state.Views.{settings_value};
 
 use crate::clock::{Clock, are_clocks};
-use crate::config::{ConfigError, are_extras, is_bandwidth};
+use crate::config::{ConfigError, are_extras, is_bandwidth, is_rate};
 use arrayvec::ArrayVec;
 use rtcp_report::Item;
 
@@ -17,9 +17,14 @@ pub struct Settings {
     pub sender_bw: u32,
     /// That for the RTCP of the others.
     pub receiver_bw: u32,
+    /// The units a second of the clock of its own media, and of payload types that are none of `clocks`, from 1 to
+    /// 2^20. Sender reports tell RTP timestamps by it from then on (RFC 3550, 6.4.1).
+    pub rate: u32,
     /// The clocks of payload types, as in [`Config`](crate::Config): packets that come from then on count in their
     /// units.
     pub clocks: ArrayVec<Clock, 16>,
+    /// The NTP timestamp of moment 0, as in [`Config`](crate::Config): another one where the time of day was set.
+    pub ntp_base: u64,
     /// What the participant says of itself beside its CNAME: items of types 2 to 8 (RFC 3550, 6.5.2 to 6.5.8).
     pub extras: ArrayVec<Item, 7>,
 }
@@ -32,7 +37,7 @@ impl Settings {
         if !is_bandwidth(self.sender_bw) || !is_bandwidth(self.receiver_bw) {
             return Some(ConfigError::Bandwidth);
         }
-        if !are_clocks(&self.clocks) {
+        if !is_rate(self.rate) || !are_clocks(&self.clocks) {
             return Some(ConfigError::Rate);
         }
         if !are_extras(&self.extras) {

@@ -3,14 +3,14 @@ use Rattle.std.proofs.Common.{◌≡◌, [], ◌∷◌, Err}
 use Rattle.rtcp_engine.specs.declared.config.ConfigError.TheVariants.{Bandwidth, Rate, Item}
 use Rattle.rtcp_engine.specs.declared.refusal.Refusal.TheVariants.{Settings}
 use Rattle.rtcp_engine.specs.answers.Setups.{SettingsValue}
-use Rattle.rtcp_engine.specs.answers.Acts.{configured, ticked}
+use Rattle.rtcp_engine.specs.answers.Acts.{configured, rtp_sent, ticked}
 use Rattle.rtcp_engine.specs.answers.Answers.{answers_to}
 use Rattle.rtcp_engine.specs.answers.Histories.{History}
 use Rattle.rtcp_engine.proofs.examples.Rows.{setup, start, start_of, named_came, ok, moved, sends, empty_report}
 
 -- With these the interval of one member is 3 seconds, where its minimum is less.
 abbrev slow : SettingsValue
-slow = record { sender_bw = 16; receiver_bw = 16; clocks = []; extras = [] }
+slow = record { sender_bw = 16; receiver_bw = 16; rate = 8000; clocks = []; ntp_base = 0; extras = [] }
 
 record Changes : Type 0 where
   -- The moment to ask again stays; the report is put off there, as its interval is computed anew.
@@ -24,14 +24,18 @@ record Changes : Type 0 where
   -- What no configuration may have is refused, and changes nothing.
   refused : answers_to start (configured 0 (record slow { receiver_bw = 15 })
       ∷ configured 0 (record slow { clocks = record { payload_type = 0; rate = 0 } ∷ [] })
+      ∷ configured 0 (record slow { rate = 0 })
       ∷ configured 0 (record slow { extras = record { kind = 1; text = [] } ∷ [] }) ∷ ticked 1026037 0 0 ∷ [])
-      ≡ Err (Settings Bandwidth) ∷ Err (Settings Rate) ∷ Err (Settings Item) ∷ sends 1 0 0 3078111 empty_report ∷ []
+      ≡ Err (Settings Bandwidth) ∷ Err (Settings Rate) ∷ Err (Settings Rate) ∷ Err (Settings Item)
+      ∷ sends 1 0 0 3078111 empty_report ∷ []
   -- The third report carries an item that was given after the second one.
   described : answers_to start (ticked 1026037 0 0 ∷ ticked 3078111 0 0
       ∷ configured 3078111 (record {
         sender_bw = 100;
         receiver_bw = 300;
+        rate = 8000;
         clocks = [];
+        ntp_base = 0;
         extras = record { kind = 6; text = 116 ∷ [] } ∷ [];
       })
       ∷ ticked 5130185 0 0 ∷ [])
@@ -42,6 +46,33 @@ record Changes : Type 0 where
 changes : Changes
 changes = search
 
+-- ---- The clock of the own media, and the time of day
+
+-- a rate of 48,000 units a second, and a time of day that is 10 seconds later
+abbrev later_and_faster : SettingsValue
+later_and_faster = record {
+  sender_bw = 100;
+  receiver_bw = 300;
+  rate = 48000;
+  clocks = [];
+  ntp_base = 42949672960;
+  extras = [];
+}
+
+record Clocks : Type 0 where
+  -- The first report tells 1.026037 seconds, 8,208 units after the packet; the second one 13.078111 seconds, 147,749
+  -- units after it.
+  told_anew : answers_to start (rtp_sent 0 1000 160 ∷ ticked 1026037 0 0 ∷ configured 1026037 later_and_faster
+      ∷ ticked 3078111 0 0 ∷ [])
+      ≡ ok 1 1 0 1026037 ∷ sends 1 1 0 3078111
+      (128 ∷ 200 ∷ 0 ∷ 6 ∷ 0 ∷ 0 ∷ 0 ∷ 170 ∷ 0 ∷ 0 ∷ 0 ∷ 1 ∷ 6 ∷ 170 ∷ 92 ∷ 95 ∷ 0 ∷ 0 ∷ 35 ∷ 248 ∷ 0 ∷ 0 ∷ 0 ∷ 1 ∷ 0
+      ∷ 0 ∷ 0 ∷ 160 ∷ 129 ∷ 202 ∷ 0 ∷ 2 ∷ 0 ∷ 0 ∷ 0 ∷ 170 ∷ 1 ∷ 1 ∷ 97 ∷ 0 ∷ []) ∷ ok 1 1 0 3078111 ∷ sends 1 1 0 5130185
+      (128 ∷ 200 ∷ 0 ∷ 6 ∷ 0 ∷ 0 ∷ 0 ∷ 170 ∷ 0 ∷ 0 ∷ 0 ∷ 13 ∷ 19 ∷ 255 ∷ 21 ∷ 30 ∷ 0 ∷ 2 ∷ 69 ∷ 13 ∷ 0 ∷ 0 ∷ 0 ∷ 1 ∷ 0
+      ∷ 0 ∷ 0 ∷ 160 ∷ 129 ∷ 202 ∷ 0 ∷ 2 ∷ 0 ∷ 0 ∷ 0 ∷ 170 ∷ 1 ∷ 1 ∷ 97 ∷ 0 ∷ []) ∷ []
+
+clocks : Clocks
+clocks = search
+
 -- ---- The pace of checks
 
 -- A session of this bandwidth, in which the interval of two members is 6 seconds,
@@ -50,7 +81,7 @@ slow_start = start_of (record setup { sender_bw = 16; receiver_bw = 16 })
 
 -- becomes one of the least interval, 2.5 seconds before the first report, and 5 seconds after it.
 abbrev fast : SettingsValue
-fast = record { sender_bw = 160; receiver_bw = 160; clocks = []; extras = [] }
+fast = record { sender_bw = 160; receiver_bw = 160; rate = 8000; clocks = []; ntp_base = 0; extras = [] }
 
 record PaceOfChecks : Type 0 where
   -- A source that was last heard 20 seconds ago, so less than five of the former intervals, is kept: five of the

@@ -32,6 +32,6 @@ error_in setup =
 abbrev pub settings_error : SettingsValue → Option ConfigError
 settings_error settings =
     if not (is_bandwidth settings.sender_bw && is_bandwidth settings.receiver_bw) then Some Bandwidth
-    else (if not (list_all is_clock settings.clocks) then Some Rate
+    else (if not (is_within 1 (2 ^ 20) settings.rate && list_all is_clock settings.clocks) then Some Rate
     else (if not (are_extras settings.extras) then Some Item
     else None))

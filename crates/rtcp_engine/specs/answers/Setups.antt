@@ -35,11 +35,14 @@ pub record Setup : Type 0 where
   pub ntp_base : ℕ
 
 -- What a host may change of a setup in a running session: the bandwidths of the session (RFC 3556), the clocks of its
--- payload types, and what the participant says of itself beside its CNAME (RFC 3550, 6.5).
+-- own media and of its payload types, the time of day, and what the participant says of itself beside its CNAME
+-- (RFC 3550, 6.4.1, 6.5). Each field is that of a setup.
 pub record SettingsValue : Type 0 where
   pub sender_bw : ℕ
   pub receiver_bw : ℕ
+  pub rate : ℕ
   pub clocks : List ClockValue
+  pub ntp_base : ℕ
   pub extras : List ItemValue
 
 abbrev pub settings_of : Setup → SettingsValue
@@ -47,7 +50,9 @@ settings_of setup =
     record {
       sender_bw = setup.sender_bw;
       receiver_bw = setup.receiver_bw;
+      rate = setup.rate;
       clocks = setup.clocks;
+      ntp_base = setup.ntp_base;
       extras = setup.extras;
     }
 
@@ -57,7 +62,9 @@ with_settings settings setup =
     record setup {
       sender_bw = settings.sender_bw;
       receiver_bw = settings.receiver_bw;
+      rate = settings.rate;
       clocks = settings.clocks;
+      ntp_base = settings.ntp_base;
       extras = settings.extras;
     }
 

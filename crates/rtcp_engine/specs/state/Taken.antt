@@ -19,10 +19,10 @@ HasWords (left moment word) = word < 2 ^ 32
 HasWords (configured moment settings) = Unit {0}
 HasWords (forgotten moment ssrc) = ssrc < 2 ^ 32
 
--- An act gives no clocks of payload types.
-abbrev pub GivesNoClocks : Act → Type 0
-GivesNoClocks (configured moment settings) = settings.clocks ≡ []
-GivesNoClocks act = Unit {0}
+-- An act gives no clocks of payload types, and no other rate.
+abbrev pub GivesNoClocks : (rate : ℕ) → Act → Type 0
+GivesNoClocks rate (configured moment settings) = (settings.clocks ≡ []) × (settings.rate ≡ rate)
+GivesNoClocks rate act = Unit {0}
 
 -- Each act was taken when it came.
 abbrev pub AllTaken : Setup → (word : ℕ) → List Act → Type 0

@@ -52,7 +52,9 @@ abbrev pub settings_value : Settings → SettingsValue
 settings_value settings = record {
   sender_bw = settings.sender_bw;
   receiver_bw = settings.receiver_bw;
+  rate = settings.rate;
   clocks = map clock_value settings.clocks.items;
+  ntp_base = settings.ntp_base;
   extras = map item_value settings.extras.items;
 }
 

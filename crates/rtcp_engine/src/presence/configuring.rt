@@ -14,8 +14,8 @@ use rtcp_timer::interval;
 
 impl<T: MemberTable> Presence<T> {
     /// Takes other settings at the moment of the latest call. Members, average and schedule stay as they are: the next
-    /// interval that is computed is the first by the new bandwidths, and the next RTP packet that comes the first by
-    /// the new clocks. Checks go by the former bandwidths too, until all others had time to report at the new pace.
+    /// interval that is computed is the first by the new bandwidths, the next RTP packet that comes the first by the
+    /// new clocks, and the next report the first by the new rate and time of day. Checks go by the former bandwidths too, until all others had time to report at the new pace.
     pub(crate) fn configure(&mut self, settings: &Settings)
         requires { settings_error (settings_value settings.now) ≡ None }
         ensures new { self.new ≡ with_settings_in (settings_value settings.now) self.new.pace self.old }
@@ -25,7 +25,9 @@ impl<T: MemberTable> Presence<T> {
         self.pace = self.pace_under(settings);
         self.config.sender_bw = settings.sender_bw;
         self.config.receiver_bw = settings.receiver_bw;
+        self.config.rate = settings.rate;
         self.config.clocks = copied_clocks(&settings.clocks);
+        self.config.ntp_base = settings.ntp_base;
         self.config.extras = copied(&settings.extras);
     }
 

@@ -152,7 +152,9 @@ pub(crate) fn settings(sender_bw: u32, receiver_bw: u32, has_tool: bool) -> Sett
     Settings {
         sender_bw,
         receiver_bw,
+        rate: 8_000,
         clocks: ArrayVec::new(),
+        ntp_base: 0,
         extras: tool(has_tool),
     }
 }
