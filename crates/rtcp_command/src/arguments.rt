@@ -19,7 +19,7 @@ use std::alloc::{AllocError, Global};
 use std::io::{ErrorKind, Write};
 
 /// The version of the program, which is that of the package.
-const VERSION: &str = "0.6.1";
+const VERSION: &str = "0.7.0";
 
 const ABOUT: &str = "The control half of an RTP participant (RFC 3550)";
 

@@ -1,5 +1,5 @@
 -- The line of an event is read as that event.
-use Rattle.std.proofs.Common.{option_map, ◌≡◌, ◌≢◌, ℕ, ◌+◌, ◌<◌, ◌≤◌, ◌^◌, ◌==◌, Bool, true, false, nat_lt, List, [], ◌∷◌, ◌++◌, length, All, if◌then◌else◌, Option, Some, None, Result, Ok, Err, codes, w32, refl, sym, ap, subst, ◌∙◌, arith, lit<, lit≤, map, length-append, append_assoc}
+use Rattle.std.proofs.Common.{option_map, ◌≡◌, ◌≢◌, ℕ, ◌+◌, ◌<◌, ◌≤◌, ◌^◌, ◌==◌, Bool, true, false, nat_lt, List, [], ◌∷◌, ◌++◌, length, All, if◌then◌else◌, Option, Some, None, Result, Ok, Err, codes, w32, w64, refl, sym, ap, subst, ◌∙◌, arith, lit<, lit≤, map, length-append, append_assoc}
 use Rattle.std.specs.Fmt.{decimal}
 use Rattle.std.specs.Int.{to_be_bytes, from_be_bytes}
 use Rattle.std.specs.List.{flat_map, list_all}
@@ -22,7 +22,7 @@ use Rattle.rtcp_text.specs.Numerals.{hex_in, datagram_in}
 use Rattle.rtcp_text.specs.EventLines.{fields_of, event_in, event_of, event_text, arrival_fields, event_fields, spaced, datagram_text, moment_in, peer_in, short_in, word_in, octets_in, arrival, sending, tick, leave, configuring, forgetting, settings_in, kind_named, event_with, datagram_in_event, IsCallable}
 use Rattle.rtcp_text.specs.Lines.{lines_of, HasNoLineFeed}
 use Rattle.rtcp_text.specs.SettingsFields.{clocks_text, items_text}
-use Rattle.rtcp_text.specs.Text.{hex_word}
+use Rattle.rtcp_text.specs.Text.{hex_word, hex_long}
 use Rattle.rtcp_text.proofs.FieldTextLemmas.{IsField, EachIsField, fields_of-spaced, decimal_field, decimal_read_back, word_read_back, word_field, datagram_read_back, datagram_field, bind_ok, ok_inside, read_below}
 use Rattle.rtcp_text.proofs.SettingsLemmas.{settings_read, settings_are, clocks_short, items_short, settings_callable}
 use Rattle.rtcp_text.proofs.LinesLemmas.{lines_of-line}
@@ -136,6 +136,9 @@ decimal_short n small = length-decimal-le 20 n (lit< tt) (omega (arith, small)) 
 word_short : (n : ℕ) → length (hex_word n) ≤ 8
 word_short n = omega (arith, length-encode_with lower_digits (to_be_bytes w32 n))
 
+long_short : (n : ℕ) → length (hex_long n) ≤ 16
+long_short n = omega (arith, length-encode_with lower_digits (to_be_bytes w64 n))
+
 datagram_short : (octets : List ℕ) → length octets ≤ 65535 → length (datagram_text octets) ≤ 131070
 datagram_short [] h = lit< tt
 datagram_short (octet ∷ octets) h = omega (arith, h, length-encode_with lower_digits (octet ∷ octets))
@@ -171,15 +174,18 @@ short_line (leave_asked moment word) h few = within 35 _ (lit≤ tt)
     (longer 29 5 (codes "leave") _ _ (lit< tt)
     (longer 8 20 (decimal moment) (hex_word word) _ (decimal_short moment h.0)
     (last_short 8 (hex_word word) (word_short word))))
-short_line (settings_given moment settings) h few = within 4472 _ (lit≤ tt)
-    (longer 4462 9 (codes "configure") _ _ (lit< tt)
-    (longer 4441 20 (decimal moment) (decimal settings.sender_bw) _ (decimal_short moment h.0)
-    (longer 4420 20 (decimal settings.sender_bw) (decimal settings.receiver_bw) _
+short_line (settings_given moment settings) h few = within 4510 _ (lit≤ tt)
+    (longer 4500 9 (codes "configure") _ _ (lit< tt)
+    (longer 4479 20 (decimal moment) (decimal settings.sender_bw) _ (decimal_short moment h.0)
+    (longer 4458 20 (decimal settings.sender_bw) (decimal settings.receiver_bw) _
     (decimal_short settings.sender_bw (omega (arith, h.1.for_senders)))
-    (longer 4399 20 (decimal settings.receiver_bw) (clocks_text settings.clocks) _
+    (longer 4437 20 (decimal settings.receiver_bw) (clocks_text settings.clocks) _
     (decimal_short settings.receiver_bw (omega (arith, h.1.for_others)))
-    (longer 3725 673 (clocks_text settings.clocks) (items_text settings.extras) _ (clocks_short settings h.1)
-    (last_short 3725 (items_text settings.extras) (items_short settings h.1)))))))
+    (longer 3763 673 (clocks_text settings.clocks) (items_text settings.extras) _ (clocks_short settings h.1)
+    (longer 37 3725 (items_text settings.extras) (decimal settings.rate) _ (items_short settings h.1)
+    (longer 16 20 (decimal settings.rate) (hex_long settings.ntp_base) _
+    (decimal_short settings.rate (omega (arith, h.1.rate)))
+    (last_short 16 (hex_long settings.ntp_base) (long_short settings.ntp_base)))))))))
 short_line (forget_asked moment ssrc) h few = within 36 _ (lit≤ tt)
     (longer 29 6 (codes "forget") _ _ (lit< tt)
     (longer 8 20 (decimal moment) (hex_word ssrc) _ (decimal_short moment h.0)
@@ -278,11 +284,11 @@ leave_callable (a ∷ b ∷ []) event h =
 leave_callable fields event h = cc h
 
 configuring_callable : (fields : List (List ℕ)) (event : EventValue) → configuring fields ≡ Ok event → IsCallable event
-configuring_callable (a ∷ b ∷ c ∷ d ∷ e ∷ []) event h =
+configuring_callable (a ∷ b ∷ c ∷ d ∷ e ∷ f ∷ g ∷ []) event h =
     let moment = bind_ok (moment_in a) _ event h in
-    let settings = bind_ok (settings_in b c d e) _ event moment.2 in
+    let settings = bind_ok (settings_in b c d e f g) _ event moment.2 in
     subst IsCallable (ok_inside (settings_given moment.0 settings.0) event settings.2)
-    (read_below 64 a Number moment.0 moment.1, settings_callable b c d e settings.0 settings.1)
+    (read_below 64 a Number moment.0 moment.1, settings_callable b c d e f g settings.0 settings.1)
 configuring_callable fields event h = cc h
 
 forgetting_callable : (fields : List (List ℕ)) (event : EventValue) → forgetting fields ≡ Ok event → IsCallable event

@@ -1,5 +1,5 @@
 -- Numbers and octets as fields of a line: they are read back.
-use Rattle.std.proofs.Common.{option_map, ◌≡◌, ℕ, suc, ◌*◌, ◌<◌, ◌≤◌, ◌^◌, ◌==◌, ◌&&◌, Bool, true, false, nat_le, nat_lt, List, [], ◌∷◌, length, All, if◌then◌else◌, Some, None, Result, Ok, Err, codes, w32, refl, sym, ap, subst, ◌∙◌, arith, lit<, zero}
+use Rattle.std.proofs.Common.{option_map, ◌≡◌, ℕ, suc, ◌*◌, ◌<◌, ◌≤◌, ◌^◌, ◌==◌, ◌&&◌, Bool, true, false, nat_le, nat_lt, List, [], ◌∷◌, length, All, if◌then◌else◌, Some, None, Result, Ok, Err, codes, w32, w64, refl, sym, ap, subst, ◌∙◌, arith, lit<, zero}
 use Rattle.std.specs.Fmt.{decimal}
 use Rattle.std.specs.Char.{is_digit}
 use Rattle.std.specs.Int.{to_be_bytes, from_be_bytes}
@@ -13,7 +13,7 @@ use Rattle.std.proofs.lemmas.Fmt.{decimal_is_IsNumeral, length-decimal-le}
 use Rattle.std.proofs.lemmas.Bool.Decides.{nat_tests}
 use Rattle.std.proofs.lemmas.List.Elements.{All-weaker, All-cons, All-nil}
 use Rattle.std.proofs.lemmas.List.Splits.{slice_split_at, slice_split_none}
-use Rattle.std.proofs.lemmas.Nat.{from_be_bytes-to_be_bytes_4}
+use Rattle.std.proofs.lemmas.Nat.{from_be_bytes-to_be_bytes_4, from_be_bytes-to_be_bytes_8}
 use Rattle.std.proofs.lemmas.Str.Parse.{digit_from_value}
 use Rattle.std.proofs.lemmas.Slice.Eq.{bytes_eq-Decides}
 use Rattle.hex.specs.Hex.{IsBytes, decode_of, encode_lower, is_hex_digit, lower_digits}
@@ -22,7 +22,7 @@ use Rattle.rtcp_text.specs.declared.fault.LineFault.{LineFault}
 use Rattle.rtcp_text.specs.Numerals.{is_decimal, decimal_in, hex_in, datagram_in}
 use Rattle.rtcp_text.specs.EventLines.{fields_of, spaced, datagram_text}
 use Rattle.rtcp_text.specs.Results.{◌>>=◌}
-use Rattle.rtcp_text.specs.Text.{hex_word}
+use Rattle.rtcp_text.specs.Text.{hex_word, hex_long}
 use Rattle.rtcp_text.proofs.NumeralLemmas.{test-from_AllDigits}
 
 -- ---- Fields
@@ -97,6 +97,26 @@ word_read_back n small =
 
 pub word_field : (n : ℕ) → IsField (hex_word n)
 word_field n = hex_field (to_be_bytes w32 n) (word_bytes n)
+
+pub long_bytes : (n : ℕ) → IsBytes (to_be_bytes w64 n)
+long_bytes n zero = omega arith
+long_bytes n (suc zero) = omega arith
+long_bytes n (suc (suc zero)) = omega arith
+long_bytes n (suc (suc (suc zero))) = omega arith
+long_bytes n (suc (suc (suc (suc zero)))) = omega arith
+long_bytes n (suc (suc (suc (suc (suc zero))))) = omega arith
+long_bytes n (suc (suc (suc (suc (suc (suc zero)))))) = omega arith
+long_bytes n (suc (suc (suc (suc (suc (suc (suc zero))))))) = omega arith
+long_bytes n (suc (suc (suc (suc (suc (suc (suc (suc i)))))))) = omega arith
+
+pub long_read_back : (n : ℕ) → n < 2 ^ 64 → hex_in w64 (hex_long n) ≡ Some n
+long_read_back n small =
+    ap (λ r. option_map (from_be_bytes w64) (result_ok r))
+    (decode_sized-encode_lower (to_be_bytes w64 n) 8 refl (long_bytes n))
+    ∙ ap Some (from_be_bytes-to_be_bytes_8 n small)
+
+pub long_field : (n : ℕ) → IsField (hex_long n)
+long_field n = hex_field (to_be_bytes w64 n) (long_bytes n)
 
 pub datagram_read_back : (octets : List ℕ) → IsBytes octets → datagram_in (datagram_text octets) ≡ Some octets
 datagram_read_back [] bytes = refl

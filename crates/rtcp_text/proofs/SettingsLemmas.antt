@@ -1,6 +1,7 @@
 -- The settings of a line are read back, and what is read can be told.
-use Rattle.std.proofs.Common.{◌≡◌, ◌≢◌, ℕ, ◌+◌, ◌*◌, ◌<◌, ◌≤◌, ◌^◌, ◌==◌, Bool, true, false, nat_le, List, [], ◌∷◌, ◌++◌, length, map, All, if◌then◌else◌, Option, Some, None, option_map, option_and_then, Result, Ok, Err, codes, refl, ap, subst, ◌∙◌, arith, lit<, length-append}
+use Rattle.std.proofs.Common.{◌≡◌, ◌≢◌, ℕ, ◌+◌, ◌*◌, ◌<◌, ◌≤◌, ◌^◌, ◌==◌, Bool, true, false, nat_le, List, [], ◌∷◌, ◌++◌, length, map, All, if◌then◌else◌, Option, Some, None, option_map, option_and_then, Result, Ok, Err, codes, w64, refl, sym, ap, subst, ◌∙◌, arith, lit<, length-append}
 use Rattle.std.specs.Fmt.{decimal}
+use Rattle.std.specs.Int.{from_be_bytes}
 use Rattle.std.specs.List.{join_with_byte}
 use Rattle.std.specs.Option.{ok_or}
 use Rattle.std.specs.Result.{result_ok}
@@ -13,17 +14,18 @@ use Rattle.std.proofs.lemmas.List.Elements.{All-weaker, All-cons, All-nil, All-a
 use Rattle.std.proofs.lemmas.List.Splits.{slice_split_at, slice_split_none}
 use Rattle.std.proofs.lemmas.Slice.Eq.{bytes_eq-Decides}
 use Rattle.std.proofs.lemmas.Str.Parse.{digit_from_value}
-use Rattle.hex.specs.Hex.{IsBytes, decode_of, encode_lower, is_hex_digit, lower_digits}
+use Rattle.hex.specs.Hex.{IsBytes, decode_of, decode_sized, encode_lower, is_hex_digit, lower_digits}
 use Rattle.hex.specs.declared.error.FromHexError.{FromHexError}
-use Rattle.hex.proofs.HexLemmas.{decode_of-encode_lower, decode_of-ok, length-encode_with}
+use Rattle.hex.proofs.HexLemmas.{decode_of-encode_lower, decode_of-ok, decode_sized-ok, decode_sized-twice, length-encode_with}
 use Rattle.rtcp_wire.specs.Values.{ItemValue}
 use Rattle.rtcp_engine.specs.answers.Setups.{ClockValue, SettingsValue}
 use Rattle.rtcp_text.specs.declared.fault.LineFault.{LineFault}
 use Rattle.rtcp_text.specs.declared.fault.LineFault.TheVariants.{Hex, Number}
-use Rattle.rtcp_text.specs.EventLines.{settings_in, short_in}
-use Rattle.rtcp_text.specs.Numerals.{decimal_in, hex_text_in}
+use Rattle.rtcp_text.specs.EventLines.{long_in, settings_in, short_in}
+use Rattle.rtcp_text.specs.Numerals.{decimal_in, hex_in, hex_text_in}
 use Rattle.rtcp_text.specs.SettingsFields.{parts_at, each_in, few_in, list_in, two_in, sides_in, clock_from, clock_in, clocks_in, item_from, item_in, items_in, list_text, clock_text, clocks_text, given_item_text, items_text, settings_fields, IsClockOfFields, IsItemOfFields, AreSettingsOfFields}
-use Rattle.rtcp_text.proofs.FieldTextLemmas.{IsField, EachIsField, decimal_field, decimal_read_back, bind_ok, ok_inside, read_below}
+use Rattle.rtcp_text.specs.Text.{hex_long}
+use Rattle.rtcp_text.proofs.FieldTextLemmas.{IsField, EachIsField, decimal_field, decimal_read_back, long_field, long_read_back, bind_ok, ok_inside, read_below}
 
 -- ---- Octets that separate nothing
 
@@ -332,13 +334,15 @@ items_read settings h =
 
 pub settings_read : (settings : SettingsValue) → AreSettingsOfFields settings
     → settings_in (decimal settings.sender_bw) (decimal settings.receiver_bw) (clocks_text settings.clocks)
-    (items_text settings.extras) ≡ Ok settings
+    (items_text settings.extras) (decimal settings.rate) (hex_long settings.ntp_base) ≡ Ok settings
 settings_read settings h =
     rw (
       decimal_read_back 32 settings.sender_bw (omega (arith, h.for_senders)) h.for_senders,
       decimal_read_back 32 settings.receiver_bw (omega (arith, h.for_others)) h.for_others,
       clocks_read settings h,
       items_read settings h,
+      decimal_read_back 32 settings.rate (omega (arith, h.rate)) h.rate,
+      long_read_back settings.ntp_base h.ntp_base,
     ) refl
 
 pub settings_are : (settings : SettingsValue) → AreSettingsOfFields settings → EachIsField (settings_fields settings)
@@ -348,7 +352,10 @@ settings_are settings h = (
     decimal_field settings.receiver_bw (omega (arith, h.for_others)),
     (
       list_field clock_in clock_text IsClockOfFields clock_read clock_listed settings.clocks h.clocks,
-      (list_field item_in given_item_text IsItemOfFields item_read item_listed settings.extras h.items, tt),
+      (
+        list_field item_in given_item_text IsItemOfFields item_read item_listed settings.extras h.items,
+        (decimal_field settings.rate (omega (arith, h.rate)), (long_field settings.ntp_base, tt)),
+      ),
     ),
   ),
 )
@@ -372,13 +379,26 @@ items_short settings h =
           settings.extras h.items,
     )
 
-pub settings_callable : (senders others clocks items : List ℕ) (settings : SettingsValue)
-    → settings_in senders others clocks items ≡ Ok settings → AreSettingsOfFields settings
-settings_callable senders others clocks items settings h =
+long_below : (text : List ℕ) (fault : LineFault) (n : ℕ) → ok_or (hex_in w64 text) fault ≡ Ok n → n < 2 ^ 64
+long_below text fault n h = go (decode_sized text 8) refl h
+  where
+    go : (r : Result (List ℕ) FromHexError) → decode_sized text 8 ≡ r
+        → ok_or (option_map (from_be_bytes w64) (result_ok r)) fault ≡ Ok n → n < 2 ^ 64
+    go (Ok bytes) is same =
+        let long = decode_sized-ok text 8 bytes is in
+        let b = (decode_of-ok text bytes (sym (decode_sized-twice text 8 long) ∙ is)).3 in
+        omega (arith, ok_inside (from_be_bytes w64 bytes) n same, b 0, b 1, b 2, b 3, b 4, b 5, b 6, b 7)
+    go (Err e) is same = cc same
+
+pub settings_callable : (senders others clocks items rate ntp : List ℕ) (settings : SettingsValue)
+    → settings_in senders others clocks items rate ntp ≡ Ok settings → AreSettingsOfFields settings
+settings_callable senders others clocks items rate ntp settings h =
     let for_senders = bind_ok (short_in senders) _ settings h in
     let for_others = bind_ok (short_in others) _ settings for_senders.2 in
     let rates = bind_ok (ok_or (clocks_in clocks) Number) _ settings for_others.2 in
     let extras = bind_ok (ok_or (items_in items) Hex) _ settings rates.2 in
+    let units = bind_ok (short_in rate) _ settings extras.2 in
+    let base = bind_ok (long_in ntp) _ settings units.2 in
     let c = list_are clock_in IsClockOfFields clock_is 16 clocks rates.0
     (was_some (clocks_in clocks) Number rates.0 rates.1) in
     let i = list_are item_in IsItemOfFields item_is 7 items extras.0
@@ -387,9 +407,11 @@ settings_callable senders others clocks items settings h =
     (ok_inside (record {
       sender_bw = for_senders.0;
       receiver_bw = for_others.0;
+      rate = units.0;
       clocks = rates.0;
+      ntp_base = base.0;
       extras = extras.0;
-    }) settings extras.2)
+    }) settings base.2)
     (record {
       for_senders = read_below 32 senders Number for_senders.0 for_senders.1;
       for_others = read_below 32 others Number for_others.0 for_others.1;
@@ -397,6 +419,8 @@ settings_callable senders others clocks items settings h =
       clocks = c.1;
       few_items = i.0;
       items = i.1;
+      rate = read_below 32 rate Number units.0 units.1;
+      ntp_base = long_below ntp Hex base.0 base.1;
     })
   where
     was_some : {A : Type 0} (o : Option A) (fault : LineFault) (x : A) → ok_or o fault ≡ Ok x → o ≡ Some x

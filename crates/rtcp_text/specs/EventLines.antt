@@ -2,7 +2,7 @@
 use Rattle.std.specs.Prelude.{ℕ, ◌<◌, ◌^◌, List, [], ◌∷◌, ◌++◌, if◌then◌else◌, Option, Some, None, Result, Ok, Err, codes}
 use Rattle.std.specs.Borrow.{Bor}
 use Rattle.std.specs.Fmt.{decimal}
-use Rattle.std.specs.Int.{w32}
+use Rattle.std.specs.Int.{w32, w64}
 use Rattle.std.specs.Option.{ok_or}
 use Rattle.std.specs.Str.{bytes_eq}
 use Rattle.hex.specs.Hex.{IsBytes, encode_lower}
@@ -39,6 +39,9 @@ short_in field = ok_or (decimal_in 32 field) Number
 
 abbrev pub word_in : List ℕ → Result ℕ LineFault
 word_in field = ok_or (hex_in w32 field) Hex
+
+abbrev pub long_in : List ℕ → Result ℕ LineFault
+long_in field = ok_or (hex_in w64 field) Hex
 
 abbrev pub octets_in : List ℕ → Result (List ℕ) LineFault
 octets_in field = ok_or (datagram_in field) Hex
@@ -77,19 +80,28 @@ leave (moment ∷ word ∷ []) = do
   Ok (leave_asked now random)
 leave _ = Err Words
 
--- The two bandwidths, the clocks and the items.
-abbrev pub settings_in : (senders others clocks items : List ℕ) → Result SettingsValue LineFault
-settings_in senders others clocks items = do
+-- The two bandwidths, the clocks of payload types, the items, the rate and the NTP timestamp of moment 0.
+abbrev pub settings_in : (senders others clocks items rate ntp : List ℕ) → Result SettingsValue LineFault
+settings_in senders others clocks items rate ntp = do
   for_senders ← short_in senders
   for_others ← short_in others
   rates ← ok_or (clocks_in clocks) Number
   extras ← ok_or (items_in items) Hex
-  Ok (record { sender_bw = for_senders; receiver_bw = for_others; clocks = rates; extras = extras })
+  units ← short_in rate
+  base ← long_in ntp
+  Ok (record {
+    sender_bw = for_senders;
+    receiver_bw = for_others;
+    rate = units;
+    clocks = rates;
+    ntp_base = base;
+    extras = extras;
+  })
 
 abbrev pub configuring : List (List ℕ) → Result EventValue LineFault
-configuring (moment ∷ senders ∷ others ∷ clocks ∷ items ∷ []) = do
+configuring (moment ∷ senders ∷ others ∷ clocks ∷ items ∷ rate ∷ ntp ∷ []) = do
   now ← moment_in moment
-  settings ← settings_in senders others clocks items
+  settings ← settings_in senders others clocks items rate ntp
   Ok (settings_given now settings)
 configuring _ = Err Words
 
@@ -168,7 +180,8 @@ event_fields (forget_asked moment ssrc) = codes "forget" ∷ decimal moment ∷ 
 abbrev pub event_text : EventValue → List ℕ
 event_text event = spaced (event_fields event)
 
--- The numbers of an event are those of its call: 64 bits for moments and peers, 8 for types, 32 for the rest.
+-- The numbers of an event are those of its call: 64 bits for moments, peers and NTP timestamps, 8 for types, 32 for the
+-- rest.
 abbrev pub IsCallable : EventValue → Type 0
 IsCallable (rtcp_arrived moment peer word octets) =
     (moment < 2 ^ 64) × (peer < 2 ^ 64) × (word < 2 ^ 32) × IsBytes octets

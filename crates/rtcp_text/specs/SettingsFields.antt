@@ -8,6 +8,7 @@ use Rattle.hex.specs.Hex.{IsBytes, encode_lower}
 use Rattle.rtcp_wire.specs.Values.{ItemValue}
 use Rattle.rtcp_engine.specs.answers.Setups.{ClockValue, SettingsValue}
 use Rattle.rtcp_text.specs.Numerals.{decimal_in, hex_text_in}
+use Rattle.rtcp_text.specs.Text.{hex_long}
 
 -- ---- Lists
 
@@ -98,7 +99,7 @@ items_text items = list_text given_item_text items
 abbrev pub settings_fields : SettingsValue → List (List ℕ)
 settings_fields settings =
     decimal settings.sender_bw ∷ decimal settings.receiver_bw ∷ clocks_text settings.clocks
-    ∷ items_text settings.extras ∷ []
+    ∷ items_text settings.extras ∷ decimal settings.rate ∷ hex_long settings.ntp_base ∷ []
 
 -- ---- The settings that fields can say
 
@@ -108,7 +109,7 @@ IsClockOfFields clock = (clock.payload_type < 2 ^ 8) × (clock.rate < 2 ^ 32)
 abbrev pub IsItemOfFields : ItemValue → Type 0
 IsItemOfFields item = (item.kind < 2 ^ 8) × (length item.text ≤ 255) × IsBytes item.text
 
--- The numbers of settings are those of a call: 8 bits for types, 32 for the rest.
+-- The numbers of settings are those of a call: 8 bits for types, 64 for the NTP timestamp, 32 for the rest.
 pub record AreSettingsOfFields (settings : SettingsValue) : Type 0 where
   pub for_senders : settings.sender_bw < 2 ^ 32
   pub for_others : settings.receiver_bw < 2 ^ 32
@@ -116,3 +117,5 @@ pub record AreSettingsOfFields (settings : SettingsValue) : Type 0 where
   pub clocks : All IsClockOfFields settings.clocks
   pub few_items : length settings.extras ≤ 7
   pub items : All IsItemOfFields settings.extras
+  pub rate : settings.rate < 2 ^ 32
+  pub ntp_base : settings.ntp_base < 2 ^ 64

@@ -9,7 +9,7 @@ ghost use Rattle.rtcp_text.specs.declared.fault.LineFault.{LineFault as Fault};
 
 use crate::digit_pairs::{DecodeFault, decode};
 use crate::fault::LineFault;
-use crate::numerals::{read_decimal, read_short_decimal, read_word};
+use crate::numerals::{read_decimal, read_long, read_short_decimal, read_word};
 use crate::parts::{Parts, split_part};
 use crate::settings_fields::{read_clocks, read_items};
 use arrayvec::ArrayVec;
@@ -54,7 +54,9 @@ impl EventBuffers {
             settings: Settings {
                 sender_bw: 0,
                 receiver_bw: 0,
+                rate: 0,
                 clocks: ArrayVec::new(),
+                ntp_base: 0,
                 extras: ArrayVec::new(),
             },
         }
@@ -261,7 +263,18 @@ fn read_configuring(mut fields: Fields<'_>, settings: &mut Settings) -> Result<u
         ≡ Ok (settings_given now (settings_value settings.new))) }
     ensures fault { IfErr result (λ fault. configuring (fields_left fields.entry.rest) ≡ Err fault) }
 {
-    let (Some(moment), Some(senders), Some(others), Some(clocks), Some(items), None) = (
+    let (
+        Some(moment),
+        Some(senders),
+        Some(others),
+        Some(clocks),
+        Some(items),
+        Some(rate),
+        Some(ntp),
+        None,
+    ) = (
+        fields.next(),
+        fields.next(),
         fields.next(),
         fields.next(),
         fields.next(),
@@ -277,6 +290,8 @@ fn read_configuring(mut fields: Fields<'_>, settings: &mut Settings) -> Result<u
         receiver_bw: read_short_decimal(others).ok_or(LineFault::Number)?,
         clocks: read_clocks(clocks).ok_or(LineFault::Number)?,
         extras: read_items(items).ok_or(LineFault::Hex)?,
+        rate: read_short_decimal(rate).ok_or(LineFault::Number)?,
+        ntp_base: read_long(ntp).ok_or(LineFault::Hex)?,
     };
     Ok(now)
 }

@@ -25,10 +25,11 @@ Pipe in one event a line, with its moment in microseconds since the session bega
     sent MOMENT TIMESTAMP OCTETS  the host sent an RTP packet with so many octets of payload
     tick MOMENT WORD WORD         the host asks what is due, with two random words
     leave MOMENT WORD             the host asks the participant to leave, with a random word
-    configure MOMENT SENDERS OTHERS CLOCKS ITEMS
+    configure MOMENT SENDERS OTHERS CLOCKS ITEMS RATE NTP
                                   the host gives other settings: the two bandwidths in octets a
                                   second, clocks as 96:90000, and items as 6:72617474, in hex,
-                                  each list with commas, or - where it is empty
+                                  each list with commas, or - where it is empty; and what --rate
+                                  and --ntp are from then on
     forget MOMENT SSRC            the host says that a source is gone
 
 PEER is a number below 2^64 for where a datagram came from, and its random word is for a new SSRC.

@@ -209,7 +209,8 @@ fn blocks(rt: HostRuntime) -> Result<(), Fail> {
         &mut faults,
     );
     assert_eq!(rt; ended, 0);
-    let want = b"by=00000007 about=00000008 loss=0.0% lost=0 highest=0 jitter=0units lsr=none dlsr=0.000000s\n\
+    let want =
+        b"by=00000007 about=00000008 loss=0.0% lost=0 highest=0 jitter=0units lsr=none dlsr=0.000000s\n\
         F1 Short at 0\n";
     same(&rt, written.split_at(want.len()).0, want, "blocks");
     Ok(())
@@ -223,10 +224,10 @@ fn version(rt: HostRuntime) -> Result<(), Fail> {
         Ok(Order::Version(line)) => line,
         _other => return Err("no version")?,
     };
-    assert_eq!(rt; line.as_str(), "rtcp 0.6.1\n");
+    assert_eq!(rt; line.as_str(), "rtcp 0.7.0\n");
     let (mut written, mut faults) = (Vec::new(alloc), Vec::new(alloc));
     assert_eq!(rt; tell(&line, &mut written, &mut faults), 0);
-    same(&rt, &written, b"rtcp 0.6.1\n", "the version");
+    same(&rt, &written, b"rtcp 0.7.0\n", "the version");
     same(&rt, &faults, b"", "no fault");
     assert_eq!(rt; tell(&line, &mut [0; 3].as_mut_slice(), &mut faults), 1);
     same(&rt, &faults, b"write\n", "no room");

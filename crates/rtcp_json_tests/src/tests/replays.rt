@@ -35,7 +35,7 @@ fn changes(rt: HostRuntime) {
         rtcp 0 7 000000bb 80c90001000000aa\n\
         rtcp 0 7 000000cc 80c90001000000bb\n\
         rtp 0 7 00000000 80\n\
-        configure 0 0 0 - -\n";
+        configure 0 0 0 - - 1 0000000000000000\n";
     let want = "{\"start\":{\"members\":1,\"senders\":0,\"next\":1026037}}\n\
         {\"members\":1,\"senders\":0,\"next\":1026037,\"out\":null,\"ssrc\":\"000000bb\"}\n\
         {\"members\":1,\"senders\":0,\"next\":1026037,\"out\":null,\"ssrc\":null}\n\

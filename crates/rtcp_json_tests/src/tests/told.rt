@@ -179,7 +179,9 @@ fn settings(rt: HostRuntime) -> Result<(), Fail> {
     let settings = Settings {
         sender_bw: 0,
         receiver_bw: 0,
+        rate: 0,
         clocks: ArrayVec::new(),
+        ntp_base: 0,
         extras: ArrayVec::new(),
     };
     let configured = Event::Configure {

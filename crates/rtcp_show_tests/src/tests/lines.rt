@@ -96,7 +96,9 @@ fn hosts(rt: HostRuntime) -> Result<(), Fail> {
     let settings = Settings {
         sender_bw: 16,
         receiver_bw: 0,
+        rate: 8_000,
         clocks: ArrayVec::new(),
+        ntp_base: 0,
         extras: ArrayVec::new(),
     };
     let configure = Event::Configure {

@@ -74,43 +74,65 @@ peers = search
 
 record Settings : Type 0 where
   -- Two clocks, an item and one without a text.
-  settings : event_in (codes "configure 7 16 1073741824 0:8000,127:90000 2:6A6f,3:") ≡ Ok (settings_given 7 (record {
-    sender_bw = 16;
-    receiver_bw = 1073741824;
-    clocks = record { payload_type = 0; rate = 8000 } ∷ record { payload_type = 127; rate = 90000 } ∷ [];
-    extras = record { kind = 2; text = 106 ∷ 111 ∷ [] } ∷ record { kind = 3; text = [] } ∷ [];
-  }))
+  settings : event_in (codes "configure 7 16 1073741824 0:8000,127:90000 2:6A6f,3: 8000 00000000000000ff") ≡ Ok
+      (settings_given 7 (record {
+        sender_bw = 16;
+        receiver_bw = 1073741824;
+        rate = 8000;
+        clocks = record { payload_type = 0; rate = 8000 } ∷ record { payload_type = 127; rate = 90000 } ∷ [];
+        ntp_base = 255;
+        extras = record { kind = 2; text = 106 ∷ 111 ∷ [] } ∷ record { kind = 3; text = [] } ∷ [];
+      }))
   -- No clocks and no items, and bandwidths that no session may have.
-  bare_settings : event_in (codes "configure 0 0 4294967295 - -") ≡ Ok
-      (settings_given 0 (record { sender_bw = 0; receiver_bw = 4294967295; clocks = []; extras = [] }))
+  bare_settings : event_in (codes "configure 0 0 4294967295 - - 8000 00000000000000ff") ≡ Ok
+      (settings_given 0 (record {
+        sender_bw = 0;
+        receiver_bw = 4294967295;
+        rate = 8000;
+        clocks = [];
+        ntp_base = 255;
+        extras = [];
+      }))
   -- Types that no item and no packet may have.
-  greatest_types : event_in (codes "configure 0 16 16 255:4294967295 255:00") ≡ Ok (settings_given 0 (record {
-    sender_bw = 16;
-    receiver_bw = 16;
-    clocks = record { payload_type = 255; rate = 4294967295 } ∷ [];
-    extras = record { kind = 255; text = 0 ∷ [] } ∷ [];
-  }))
-  bandwidth_too_great : event_in (codes "configure 0 16 4294967296 - -") ≡ Err Number
-  payload_type_too_great : event_in (codes "configure 0 16 16 256:8000 -") ≡ Err Number
-  rate_too_great : event_in (codes "configure 0 16 16 0:4294967296 -") ≡ Err Number
-  clock_without_rate : event_in (codes "configure 0 16 16 8000 -") ≡ Err Number
-  clock_with_two_rates : event_in (codes "configure 0 16 16 0:8000:8000 -") ≡ Err Number
-  no_clocks : event_in (codes "configure 0 16 16  -") ≡ Err Number
-  comma_at_end : event_in (codes "configure 0 16 16 0:8000, -") ≡ Err Number
-  hyphen_among_clocks : event_in (codes "configure 0 16 16 0:8000,- -") ≡ Err Number
+  greatest_types : event_in (codes "configure 0 16 16 255:4294967295 255:00 8000 00000000000000ff") ≡ Ok
+      (settings_given 0 (record {
+        sender_bw = 16;
+        receiver_bw = 16;
+        rate = 8000;
+        clocks = record { payload_type = 255; rate = 4294967295 } ∷ [];
+        ntp_base = 255;
+        extras = record { kind = 255; text = 0 ∷ [] } ∷ [];
+      }))
+  bandwidth_too_great : event_in (codes "configure 0 16 4294967296 - - 8000 00000000000000ff") ≡ Err Number
+  payload_type_too_great : event_in (codes "configure 0 16 16 256:8000 - 8000 00000000000000ff") ≡ Err Number
+  rate_too_great : event_in (codes "configure 0 16 16 0:4294967296 - 8000 00000000000000ff") ≡ Err Number
+  clock_without_rate : event_in (codes "configure 0 16 16 8000 - 8000 00000000000000ff") ≡ Err Number
+  clock_with_two_rates : event_in (codes "configure 0 16 16 0:8000:8000 - 8000 00000000000000ff") ≡ Err Number
+  no_clocks : event_in (codes "configure 0 16 16  - 8000 00000000000000ff") ≡ Err Number
+  comma_at_end : event_in (codes "configure 0 16 16 0:8000, - 8000 00000000000000ff") ≡ Err Number
+  hyphen_among_clocks : event_in (codes "configure 0 16 16 0:8000,- - 8000 00000000000000ff") ≡ Err Number
   sixteen_clocks : event_in
-      (codes "configure 0 16 16 0:1,1:1,2:1,3:1,4:1,5:1,6:1,7:1,8:1,9:1,10:1,11:1,12:1,13:1,14:1,15:1 zz") ≡ Err Hex
+      (codes "configure 0 16 16 0:1,1:1,2:1,3:1,4:1,5:1,6:1,7:1,8:1,9:1,10:1,11:1,12:1,13:1,14:1,15:1 zz"
+      ++ codes " 8000 00000000000000ff") ≡ Err Hex
   seventeen_clocks : event_in
-      (codes "configure 0 16 16 0:1,1:1,2:1,3:1,4:1,5:1,6:1,7:1,8:1,9:1,10:1,11:1,12:1,13:1,14:1,15:1,16:1 zz")
-      ≡ Err Number
-  kind_too_great : event_in (codes "configure 0 16 16 - 256:61") ≡ Err Hex
-  odd_text : event_in (codes "configure 0 16 16 - 2:616") ≡ Err Hex
-  item_without_colon : event_in (codes "configure 0 16 16 - 2") ≡ Err Hex
-  no_items : event_in (codes "configure 0 16 16 - ") ≡ Err Hex
-  eight_items : event_in (codes "configure 0 16 16 - 2:,3:,4:,5:,6:,7:,8:,2:") ≡ Err Hex
+      (codes "configure 0 16 16 0:1,1:1,2:1,3:1,4:1,5:1,6:1,7:1,8:1,9:1,10:1,11:1,12:1,13:1,14:1,15:1,16:1 zz"
+      ++ codes " 8000 00000000000000ff") ≡ Err Number
+  kind_too_great : event_in (codes "configure 0 16 16 - 256:61 8000 00000000000000ff") ≡ Err Hex
+  odd_text : event_in (codes "configure 0 16 16 - 2:616 8000 00000000000000ff") ≡ Err Hex
+  item_without_colon : event_in (codes "configure 0 16 16 - 2 8000 00000000000000ff") ≡ Err Hex
+  no_items : event_in (codes "configure 0 16 16 -  8000 00000000000000ff") ≡ Err Hex
+  eight_items : event_in (codes "configure 0 16 16 - 2:,3:,4:,5:,6:,7:,8:,2: 8000 00000000000000ff") ≡ Err Hex
   -- The clocks count before the items.
-  clocks_first : event_in (codes "configure 0 16 16 x zz") ≡ Err Number
+  clocks_first : event_in (codes "configure 0 16 16 x zz 8000 00000000000000ff") ≡ Err Number
+  -- The items count before the rate, and the rate before the time of day.
+  items_before_rate : event_in (codes "configure 0 16 16 - zz x zz") ≡ Err Hex
+  rate_before_time : event_in (codes "configure 0 16 16 - - x zz") ≡ Err Number
+  greatest_rate : event_in (codes "configure 0 16 16 - - 4294967296 0000000000000000") ≡ Err Number
+  short_time : event_in (codes "configure 0 16 16 - - 8000 000000000000000") ≡ Err Hex
   without_items : event_in (codes "configure 0 16 16 -") ≡ Err Words
+  without_time : event_in (codes "configure 0 16 16 - - 8000") ≡ Err Words
+  -- as recordings had it before
+  without_rate : event_in (codes "configure 0 16 16 - -") ≡ Err Words
 
 settings : Settings
 unfolding decode_pairs

@@ -6,7 +6,7 @@ ghost use Rattle.rtcp_engine.specs.state.Views.{clock_value, settings_value};
 ghost use Rattle.rtcp_text.specs.EventLines.{spaced};
 ghost use Rattle.rtcp_text.specs.SettingsFields.{clock_text, clocks_text, given_item_text, items_text, settings_fields};
 
-use super::digits::{push_decimal, push_octets};
+use super::digits::{push_decimal, push_long, push_octets};
 use super::joined::{Shown, push_joined};
 use rtcp_engine::{Clock, Item, Settings};
 use std::alloc::AllocError;
@@ -22,7 +22,11 @@ pub(super) fn push_settings(out: &mut Vec<u8>, settings: &Settings) -> Result<()
     out.push(b' ')?;
     push_clocks(out, &settings.clocks)?;
     out.push(b' ')?;
-    push_items(out, &settings.extras)
+    push_items(out, &settings.extras)?;
+    out.push(b' ')?;
+    push_decimal(out, u64::from(settings.rate))?;
+    out.push(b' ')?;
+    push_long(out, settings.ntp_base)
 }
 
 /// Appends clocks as a field.

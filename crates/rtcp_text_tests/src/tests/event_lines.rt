@@ -68,43 +68,112 @@ static FAULTS: [(&str, LineFault); 93] = [
     ("rtp 0 1  80", LineFault::Hex),
     // Settings.
     ("configure 0 16 16 -", LineFault::Words),
+    ("configure 0 16 16 - -", LineFault::Words),
     ("configure 0 16 16 - - -", LineFault::Words),
     ("configure 0 16 16 -  ", LineFault::Words),
-    ("CONFIGURE 0 16 16 - -", LineFault::Words),
-    ("configure x x x x zz", LineFault::Number),
-    ("configure 0 4294967296 16 - -", LineFault::Number),
-    ("configure 0 16 4294967296 - -", LineFault::Number),
-    ("configure 0  16 - -", LineFault::Number),
-    ("configure 0 16 16  -", LineFault::Number),
-    ("configure 0 16 16 -- -", LineFault::Number),
-    ("configure 0 16 16 8000 -", LineFault::Number),
-    ("configure 0 16 16 0:8000: -", LineFault::Number),
-    ("configure 0 16 16 :8000 -", LineFault::Number),
-    ("configure 0 16 16 0: -", LineFault::Number),
-    ("configure 0 16 16 256:8000 -", LineFault::Number),
-    ("configure 0 16 16 0:4294967296 -", LineFault::Number),
-    ("configure 0 16 16 0:8000, -", LineFault::Number),
-    ("configure 0 16 16 ,0:8000 -", LineFault::Number),
-    ("configure 0 16 16 0:8000,- -", LineFault::Number),
-    ("configure 0 16 16 0:8000;1:8000 -", LineFault::Number),
     (
-        "configure 0 16 16 0:1,1:1,2:1,3:1,4:1,5:1,6:1,7:1,8:1,9:1,10:1,11:1,12:1,13:1,14:1,15:1,16:1 zz",
+        "configure 0 16 16 - - 1 0000000000000000 1",
+        LineFault::Words,
+    ),
+    ("CONFIGURE 0 16 16 - - 1 0000000000000000", LineFault::Words),
+    ("configure x x x x zz 1 0000000000000000", LineFault::Number),
+    (
+        "configure 0 4294967296 16 - - 1 0000000000000000",
         LineFault::Number,
     ),
-    ("configure 0 16 16 0:x zz", LineFault::Number),
-    ("configure 0 16 16 - ", LineFault::Hex),
-    ("configure 0 16 16 - 2", LineFault::Hex),
-    ("configure 0 16 16 - :61", LineFault::Hex),
-    ("configure 0 16 16 - 256:61", LineFault::Hex),
-    ("configure 0 16 16 - 2:6", LineFault::Hex),
-    ("configure 0 16 16 - 2:6g", LineFault::Hex),
-    ("configure 0 16 16 - 2:-", LineFault::Hex),
-    ("configure 0 16 16 - 2:61:61", LineFault::Hex),
-    ("configure 0 16 16 - 2:61,", LineFault::Hex),
     (
-        "configure 0 16 16 - 2:,3:,4:,5:,6:,7:,8:,2:",
+        "configure 0 16 4294967296 - - 1 0000000000000000",
+        LineFault::Number,
+    ),
+    ("configure 0  16 - - 1 0000000000000000", LineFault::Number),
+    ("configure 0 16 16  - 1 0000000000000000", LineFault::Number),
+    (
+        "configure 0 16 16 -- - 1 0000000000000000",
+        LineFault::Number,
+    ),
+    (
+        "configure 0 16 16 8000 - 1 0000000000000000",
+        LineFault::Number,
+    ),
+    (
+        "configure 0 16 16 0:8000: - 1 0000000000000000",
+        LineFault::Number,
+    ),
+    (
+        "configure 0 16 16 :8000 - 1 0000000000000000",
+        LineFault::Number,
+    ),
+    (
+        "configure 0 16 16 0: - 1 0000000000000000",
+        LineFault::Number,
+    ),
+    (
+        "configure 0 16 16 256:8000 - 1 0000000000000000",
+        LineFault::Number,
+    ),
+    (
+        "configure 0 16 16 0:4294967296 - 1 0000000000000000",
+        LineFault::Number,
+    ),
+    (
+        "configure 0 16 16 0:8000, - 1 0000000000000000",
+        LineFault::Number,
+    ),
+    (
+        "configure 0 16 16 ,0:8000 - 1 0000000000000000",
+        LineFault::Number,
+    ),
+    (
+        "configure 0 16 16 0:8000,- - 1 0000000000000000",
+        LineFault::Number,
+    ),
+    (
+        "configure 0 16 16 0:8000;1:8000 - 1 0000000000000000",
+        LineFault::Number,
+    ),
+    (
+        "configure 0 16 16 0:1,1:1,2:1,3:1,4:1,5:1,6:1,7:1,8:1,9:1,10:1,11:1,12:1,13:1,14:1,15:1,16:1 zz \
+            1 0000000000000000",
+        LineFault::Number,
+    ),
+    (
+        "configure 0 16 16 0:x zz 1 0000000000000000",
+        LineFault::Number,
+    ),
+    ("configure 0 16 16 -  1 0000000000000000", LineFault::Hex),
+    ("configure 0 16 16 - 2 1 0000000000000000", LineFault::Hex),
+    ("configure 0 16 16 - :61 1 0000000000000000", LineFault::Hex),
+    (
+        "configure 0 16 16 - 256:61 1 0000000000000000",
         LineFault::Hex,
     ),
+    ("configure 0 16 16 - 2:6 1 0000000000000000", LineFault::Hex),
+    (
+        "configure 0 16 16 - 2:6g 1 0000000000000000",
+        LineFault::Hex,
+    ),
+    ("configure 0 16 16 - 2:- 1 0000000000000000", LineFault::Hex),
+    (
+        "configure 0 16 16 - 2:61:61 1 0000000000000000",
+        LineFault::Hex,
+    ),
+    (
+        "configure 0 16 16 - 2:61, 1 0000000000000000",
+        LineFault::Hex,
+    ),
+    (
+        "configure 0 16 16 - 2:,3:,4:,5:,6:,7:,8:,2: 1 0000000000000000",
+        LineFault::Hex,
+    ),
+    ("configure 0 16 16 - - x 00", LineFault::Number),
+    ("configure 0 16 16 - -  0000000000000000", LineFault::Number),
+    (
+        "configure 0 16 16 - - 4294967296 0000000000000000",
+        LineFault::Number,
+    ),
+    ("configure 0 16 16 - - 1 00000000", LineFault::Hex),
+    ("configure 0 16 16 - - 1 ", LineFault::Hex),
+    ("configure 0 16 16 - - 1 000000000000000g", LineFault::Hex),
     // Forgets.
     ("forget 0", LineFault::Words),
     ("forget 0 0000000a 0000000b", LineFault::Words),
@@ -189,13 +258,18 @@ fn clock(payload_type: u8, rate: u32) -> Clock {
 #[test]
 fn settings(rt: HostRuntime) -> Result<(), Fail> {
     let mut buffers = EventBuffers::new(rt.alloc());
-    let line = b"configure 5 16 1073741824 255:4294967295,0:8000 255:4aFF,2:,2:61";
+    let line =
+        b"configure 5 16 1073741824 255:4294967295,0:8000 255:4aFF,2:,2:61 4294967295 FEdcba9876543210";
     let Event::Configure { now, settings } = read_event(line, &mut buffers)? else {
         return Err("no settings")?;
     };
     assert_eq!(rt;
         (now, settings.sender_bw, settings.receiver_bw),
         (5, 16, 1 << 30)
+    );
+    assert_eq!(rt;
+        (settings.rate, settings.ntp_base),
+        (u32::MAX, 0xfedc_ba98_7654_3210)
     );
     assert_eq!(rt;
         settings.clocks.as_slice(),
@@ -209,10 +283,12 @@ fn settings(rt: HostRuntime) -> Result<(), Fail> {
         same(&rt, &item.text, texts[i], "an item");
     }
     // Nothing of one line is left in the next.
-    let Event::Configure { settings, .. } = read_event(b"configure 5 0 0 - -", &mut buffers)? else {
+    let bare = b"configure 5 0 0 - - 0 0000000000000000";
+    let Event::Configure { settings, .. } = read_event(bare, &mut buffers)? else {
         return Err("no bare settings")?;
     };
     assert_eq!(rt; (settings.sender_bw, settings.receiver_bw), (0, 0));
+    assert_eq!(rt; (settings.rate, settings.ntp_base), (0, 0));
     assert!(rt; settings.clocks.is_empty() && settings.extras.is_empty());
     Ok(())
 }
@@ -231,6 +307,7 @@ fn most_settings(rt: HostRuntime) -> Result<(), Fail> {
         for _ in 0..octets {
             line.extend_from_slice(b"5a")?;
         }
+        line.extend_from_slice(b" 1 0000000000000000")?;
         match read_event(&line, &mut buffers) {
             Ok(Event::Configure { settings, .. }) => {
                 assert!(rt; is_read);

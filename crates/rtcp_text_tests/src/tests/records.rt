@@ -105,7 +105,9 @@ fn settings(clocks: &[Clock], items: &[(u8, &[u8])]) -> Result<Settings, Fail> {
     let mut settings = Settings {
         sender_bw: 16,
         receiver_bw: 1 << 30,
+        rate: 48_000,
         clocks: ArrayVec::new(),
+        ntp_base: 0xe1a2_b3c4_d5e6_f708,
         extras: ArrayVec::new(),
     };
     settings.clocks.try_extend_from_slice(clocks)?;
@@ -149,9 +151,9 @@ fn hosts(rt: HostRuntime) -> Result<(), Fail> {
     ] {
         assert!(rt; recorder.record(&event).is_ok());
     }
-    let want = b"configure 7 16 1073741824 0:8000,96:90000 6:726174,8:\n\
+    let want = b"configure 7 16 1073741824 0:8000,96:90000 6:726174,8: 48000 e1a2b3c4d5e6f708\n\
         forget 8 000000bb\n\
-        configure 8 16 1073741824 - -\n";
+        configure 8 16 1073741824 - - 48000 e1a2b3c4d5e6f708\n";
     same(&rt, recorder.into_inner().as_slice(), want, "the record");
     Ok(())
 }
@@ -162,11 +164,12 @@ fn hosts_replayed(rt: HostRuntime) {
     let lines = b"rtcp 0 1 00000000 80c900010000000781ca00020000000701016100\n\
         forget 5 00000008\n\
         forget 5 00000007\n\
-        configure 4 15 0 0:0 1:\n\
-        configure 6 15 16 0:0 1:\n\
-        configure 6 16 1073741824 0:0 1:\n\
-        configure 6 16 16 0:1048576 1:\n\
-        configure 6 16 16 0:1048576 2:,8:61\n";
+        configure 4 15 0 0:0 1: 8000 0000000000000000\n\
+        configure 6 15 16 0:0 1: 8000 0000000000000000\n\
+        configure 6 16 1073741824 0:0 1: 8000 0000000000000000\n\
+        configure 6 16 16 - 1: 1048577 0000000000000000\n\
+        configure 6 16 16 0:1048576 1: 8000 0000000000000000\n\
+        configure 6 16 16 0:1048576 2:,8:61 1048576 ffffffffffffffff\n";
     let mut reader = Counted::new(lines.as_slice());
     let mut writer = Counted::new(Vec::new(rt.alloc()));
     assert!(rt; replay::replay(rt.alloc(), &mut reader, &mut writer, plain(), 0).is_ok());
@@ -176,6 +179,7 @@ fn hosts_replayed(rt: HostRuntime) {
         ok members=1 senders=0 next=1026037 out=-\n\
         refused E2 Backwards\n\
         refused E8 Settings: C4 Bandwidth\n\
+        refused E8 Settings: C5 Rate\n\
         refused E8 Settings: C5 Rate\n\
         refused E8 Settings: C6 Item\n\
         ok members=1 senders=0 next=1026037 out=-\n";
