@@ -45,6 +45,7 @@ pub use jalwedd_host::guarded::{HostCounts, HostHeldBack};
 pub use jalwedd_host::handle::Handle;
 pub use jalwedd_host::head::HeadPlace;
 pub use jalwedd_host::laws;
+pub use jalwedd_host::own::HostOwn;
 pub use jalwedd_host::owned::Owned;
 pub use jalwedd_host::parts::{GoodbyePlace, ItemPlace, SenderInfo};
 pub use jalwedd_host::reading::{Fault, Report};

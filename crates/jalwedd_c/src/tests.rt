@@ -11,6 +11,7 @@ mod configurations;
 mod forgetting;
 mod guarding;
 mod heads;
+mod own;
 mod parts;
 mod printing;
 mod readings;

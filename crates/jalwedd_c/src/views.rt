@@ -3,13 +3,16 @@
 ghost use Rattle.std.specs.Prelude.{◌≡◌, ◌^◌, ◌-◌, ◌↔◌, ℕ, Option, Some, None};
 ghost use Rattle.rtcp_engine.specs.answers.Histories.{History, life_at, setup_at};
 ghost use Rattle.rtcp_engine.specs.answers.Lives.{members_in_life, senders_in_life, entries_in_life, next_in_life, ListsInLife};
+ghost use Rattle.rtcp_engine.specs.answers.OwnCounts.{own_counts_in_life};
 ghost use Rattle.jalwedd_host.specs.Answers.{moment_shown};
 ghost use Rattle.rtcp_members.specs.Listings.{StateValue};
 ghost use Rattle.jalwedd_host.specs.Handles.{LeadsTo};
+ghost use Rattle.jalwedd_host.specs.Owns.{ShowsOwn};
 ghost use Rattle.jalwedd_host.specs.Promises.{AnswersOf};
 ghost use Rattle.jalwedd_host.specs.Sources.{ShowsSource, after_of};
 
 use jalwedd_host::handle::Handle;
+use jalwedd_host::own::HostOwn;
 use jalwedd_host::source::HostSource;
 use jalwedd_host::status::{NO_SOURCE, TAKEN};
 use std::alloc::Global;
@@ -98,4 +101,18 @@ pub extern "C" fn jalwedd_source(
         }
         None => NO_SOURCE,
     }
+}
+
+/// Writes what the participant has sent under its present SSRC, as a sender report of now would tell it, and whether it
+/// counts as a sender (RFC 3550, 6.3.8, 6.4.1). `own` is left as it is where the status is not 0.
+///
+/// Statuses: 0; 1 once the participant leaves, as it reports nothing from then on; 20 where the handle is empty.
+#[unsafe(no_mangle)]
+pub extern "C" fn jalwedd_own(alloc: Global, handle: &mut Handle, own: &mut HostOwn) -> u32
+    ensures told { (start : ℕ) (history : History) → LeadsTo handle.old.owned.held start history →
+        ShowsOwn result own.old own.new (own_counts_in_life (life_at history)) }
+    ensures empty { handle.old.owned.held ≡ None → (result ≡ 20) × (own.new ≡ own.old) }
+    ensures kept { handle.new.owned.held ≡ handle.old.owned.held }
+{
+    handle.own(alloc, own)
 }

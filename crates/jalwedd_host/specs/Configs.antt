@@ -46,7 +46,9 @@ abbrev pub settings_given : Settings → List ItemGiven → SettingsValue
 settings_given settings items = record {
   sender_bw = settings.sender_bw;
   receiver_bw = settings.receiver_bw;
+  rate = settings.rate;
   clocks = clocks_given settings.clock_count settings.clocks;
+  ntp_base = settings.ntp_base;
   extras = items_given items;
 }
 
@@ -58,6 +60,8 @@ configured_with settings config =
       receiver_bw = settings.receiver_bw;
       clock_count = settings.clock_count;
       clocks = settings.clocks;
+      rate = settings.rate;
+      ntp_base = settings.ntp_base;
     }
 
 -- C1 to C6

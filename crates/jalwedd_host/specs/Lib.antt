@@ -12,5 +12,6 @@ pub mod Heads
 pub mod Walks
 pub mod Apps
 pub mod Sources
+pub mod Owns
 pub mod Changes
 pub mod Texts

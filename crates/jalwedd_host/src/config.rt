@@ -79,6 +79,10 @@ pub struct Settings {
     pub clock_count: u32,
     /// The clocks of payload types, as in [`Config`].
     pub clocks: [Clock; 16],
+    /// The units a second of the clock of RTP timestamps, as in [`Config`].
+    pub rate: u32,
+    /// The NTP timestamp of the start, as in [`Config`]: another one where the time of day was set.
+    pub ntp_base: u64,
 }
 
 /// What the participant says of itself beside its CNAME (RFC 3550, 6.5.2 to 6.5.8).
@@ -121,7 +125,9 @@ pub fn blank_settings() -> rtcp_engine::Settings
     rtcp_engine::Settings {
         sender_bw: 0,
         receiver_bw: 0,
+        rate: 0,
         clocks: ArrayVec::new(),
+        ntp_base: 0,
         extras: ArrayVec::new(),
     }
 }
@@ -187,6 +193,8 @@ pub fn fill_settings(
     put_items(&mut given.extras, items);
     given.sender_bw = settings.sender_bw;
     given.receiver_bw = settings.receiver_bw;
+    given.rate = settings.rate;
+    given.ntp_base = settings.ntp_base;
     None
 }
 

@@ -17,6 +17,7 @@ pub mod guarded;
 pub mod handle;
 pub mod head;
 pub mod laws;
+pub mod own;
 pub mod owned;
 pub mod parts;
 pub mod reading;

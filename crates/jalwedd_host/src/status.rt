@@ -11,6 +11,9 @@ use rtcp_guarded::{Reason, Untaken};
 /// The call was taken.
 pub const TAKEN: u32 = 0;
 
+/// The participant has left (E1).
+pub(crate) const LEFT: u32 = 1;
+
 /// The call comes before the start (E2).
 pub(crate) const BACKWARDS: u32 = 2;
 

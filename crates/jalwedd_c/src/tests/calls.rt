@@ -39,6 +39,8 @@ pub(super) struct Changed<'a> {
     pub(super) sender_bw: u32,
     pub(super) receiver_bw: u32,
     pub(super) clocks: Clocks<'a>,
+    pub(super) rate: u32,
+    pub(super) ntp_base: u64,
 }
 
 impl Changed<'_> {
@@ -48,6 +50,8 @@ impl Changed<'_> {
             receiver_bw: self.receiver_bw,
             clock_count: self.clocks.count,
             clocks: self.clocks.room(),
+            rate: self.rate,
+            ntp_base: self.ntp_base,
         }
     }
 }

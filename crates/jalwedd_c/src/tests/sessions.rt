@@ -98,7 +98,7 @@ pub(super) const ENDS: Row<'static> = Row {
     ..ROW
 };
 
-const SENDS: Row<'static> = Row {
+pub(super) const SENDS: Row<'static> = Row {
     calls: &[Call::Sent(0, 1_000, 160)],
     step: ONE_SENDER,
     ..ROW
@@ -110,7 +110,7 @@ const TICKS_EARLY: Row<'static> = Row {
     ..ROW
 };
 
-const REPORTS: Row<'static> = Row {
+pub(super) const REPORTS: Row<'static> = Row {
     calls: &[Call::Tick(1_026_037)],
     step: HostStep {
         next: 3_078_111,

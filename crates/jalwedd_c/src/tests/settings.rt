@@ -1,7 +1,7 @@
 //! Other settings in a running session, worked by hand.
 
 use super::calls::{Call, Changed, NO_SOURCE, Row, TestSession};
-use super::sessions::{BEGINS, BEGUN, CLOCKS, ENDS, ONE_SENDER, ROW};
+use super::sessions::{BEGINS, BEGUN, CLOCKS, ENDS, ONE_SENDER, REPORTS, ROW, SENDS};
 use super::*;
 
 /// Those of `CONFIG`.
@@ -9,6 +9,8 @@ pub(super) const USUAL: Changed<'static> = Changed {
     sender_bw: 100,
     receiver_bw: 300,
     clocks: NO_CLOCKS,
+    rate: 8_000,
+    ntp_base: 0,
 };
 
 pub(super) const MANY_CLOCKS: Changed<'static> = Changed {
@@ -188,6 +190,55 @@ const PUT_OFF: &[Row<'static>] = &[
     ENDS,
 ];
 
+/// A rate of 48,000 units a second, and a time of day that is 10 seconds later.
+const LATER_AND_FASTER: Changed<'static> = Changed {
+    rate: 48_000,
+    ntp_base: 10 << 32,
+    ..USUAL
+};
+
+/// 13.078111 seconds, and 147,749 units after the packet with the timestamp 1,000.
+const REPORT_OF_THEN: [u8; 40] = [
+    0x80, 0xc8, 0x00, 0x06, 0x00, 0x00, 0x00, 0xaa, 0x00, 0x00, 0x00, 0x0d, 0x13, 0xff, 0x15, 0x1e,
+    0x00, 0x02, 0x45, 0x0d, 0x00, 0x00, 0x00, 0x01, 0x00, 0x00, 0x00, 0xa0, 0x81, 0xca, 0x00, 0x02,
+    0x00, 0x00, 0x00, 0xaa, 0x01, 0x01, 0x61, 0x00,
+];
+
+/// A report tells its moment by the latest settings.
+const TOLD_ANEW: &[Row<'static>] = &[
+    BEGINS,
+    SENDS,
+    REPORTS,
+    Row {
+        calls: &[Call::Configure(1_026_037, LATER_AND_FASTER, &[])],
+        step: HostStep {
+            next: 3_078_111,
+            ..ONE_SENDER
+        },
+        ..ROW
+    },
+    Row {
+        calls: &[Call::Tick(3_078_111)],
+        step: HostStep {
+            next: 5_130_185,
+            kind: 1,
+            size: 40,
+            ..ONE_SENDER
+        },
+        handed: &REPORT_OF_THEN,
+        ..ROW
+    },
+    ENDS,
+];
+
+/// No clock has a rate of 0, or of more than 2^20.
+const RATE_OF_ZERO: Changed<'static> = Changed { rate: 0, ..USUAL };
+
+const RATE_TOO_GREAT: Changed<'static> = Changed {
+    rate: (1 << 20) + 1,
+    ..USUAL
+};
+
 const UNTAKEN: Row<'static> = Row {
     step: BEGUN,
     sources: &[(0, 9, NO_SOURCE)],
@@ -211,6 +262,8 @@ const REFUSED: &[Row<'static>] = &[
             Call::Configure(0, MANY_CLOCKS, &[]),
             Call::Configure(0, STRANGE_TYPE, &[]),
             Call::Configure(0, STILL, &[CNAME]),
+            Call::Configure(0, RATE_OF_ZERO, &[CNAME]),
+            Call::Configure(0, RATE_TOO_GREAT, &[]),
         ],
         status: 15,
         ..UNTAKEN
@@ -232,7 +285,7 @@ const REFUSED: &[Row<'static>] = &[
     ENDS,
 ];
 
-static SESSIONS: [TestSession<'static>; 3] = [
+static SESSIONS: [TestSession<'static>; 4] = [
     TestSession {
         name: "packets by other clocks",
         clocks: CLOCKS,
@@ -242,6 +295,11 @@ static SESSIONS: [TestSession<'static>; 3] = [
         name: "a report that is put off",
         clocks: CLOCKS,
         rows: PUT_OFF,
+    },
+    TestSession {
+        name: "a report by another clock",
+        clocks: CLOCKS,
+        rows: TOLD_ANEW,
     },
     TestSession {
         name: "settings that are refused",
