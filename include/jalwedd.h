@@ -79,8 +79,8 @@ extern "C" {
  * earlier one, under the same SONAME. */
 
 #define JALWEDD_VERSION_MAJOR 0
-#define JALWEDD_VERSION_MINOR 6
-#define JALWEDD_VERSION_PATCH 1
+#define JALWEDD_VERSION_MINOR 7
+#define JALWEDD_VERSION_PATCH 0
 
 /* The version of the linked library: 0x000503 for 0.5.3. */
 uint32_t jalwedd_version(void);
@@ -260,13 +260,30 @@ typedef struct jalwedd_config {
     jalwedd_guard guard;    /* zeros for none */
 } jalwedd_config;
 
-/* What a host may change in a running session, besides the items. */
+/* What a host may change in a running session, besides items. jalwedd_settings_of gives those of a configuration. */
 typedef struct jalwedd_settings {
     uint32_t sender_bw;     /* each field as in jalwedd_config */
     uint32_t receiver_bw;
     uint32_t clock_count;
     jalwedd_clock clocks[16];
+    uint32_t rate;
+    uint64_t ntp_base;      /* still of the start: jalwedd_ntp_base gives it, by the time of day now */
 } jalwedd_settings;
+
+/* The settings of a configuration, to change some of them. */
+static inline jalwedd_settings jalwedd_settings_of(const jalwedd_config *config)
+{
+    jalwedd_settings settings;
+    uint32_t at;
+    settings.sender_bw = config->sender_bw;
+    settings.receiver_bw = config->receiver_bw;
+    settings.clock_count = config->clock_count;
+    for (at = 0; at < 16; at++)
+        settings.clocks[at] = config->clocks[at];
+    settings.rate = config->rate;
+    settings.ntp_base = config->ntp_base;
+    return settings;
+}
 
 /* What an SDES item is (6.5): the kinds of a jalwedd_item, from NAME on, and of a jalwedd_item_place. JALWEDD_CNAME and
  * JALWEDD_ITEM are statuses, and equal none of these. */
@@ -329,7 +346,9 @@ typedef struct jalwedd_step {
     uint32_t size;          /* its size in octets. It is read as any datagram is: jalwedd_next_sender gives the own
                                packets and octets, if it is a sender report, and jalwedd_next_block loss, jitter, lsr
                                and dlsr of each of its blocks, as they go out */
-    uint32_t entries;       /* as jalwedd_entries: the table is full if this is config.capacity */
+    uint32_t entries;       /* as jalwedd_entries: the table is full if this is config.capacity. It falls by a tick, by
+                               jalwedd_forget or by a leave alone: by one for each source that is dropped, also one
+                               that is not yet valid */
     uint32_t others_changed; /* 1 if the call changed which other sources are members or which of them send, if only
                                for a moment: list them again with jalwedd_source. 0 if each has the role it had. It is
                                also 1 for a leave, if others were members: then nobody is listed any more, and nothing
@@ -439,13 +458,20 @@ typedef struct jalwedd_source_state {
     uint32_t block_highest; /* by that block, the highest sequence number, as in highest */
     uint32_t ssrc;
     uint32_t member;        /* 1 if it is a member (6.2.1), otherwise 0: it left, or, if left is JALWEDD_NEVER, is not
-                               yet valid. One of these that is dropped is seen by comparing listings: neither
-                               others_changed nor jalwedd_change tells of it */
+                               yet valid. One of these that is dropped is seen by step.entries, and by comparing
+                               listings: neither others_changed nor jalwedd_change tells of it */
     uint32_t sender;        /* 1 if it sends RTP packets, otherwise 0 */
     uint32_t rate;          /* the units a second of jitter: those of the clock of its newest packet that was counted,
                                or 0 */
     uint32_t reserved;      /* 0 */
 } jalwedd_source_state;
+
+/* What the participant has sent under its present SSRC, as a sender report of now would tell it (6.4.1). */
+typedef struct jalwedd_own_stream {
+    uint32_t packets;       /* how many RTP packets, modulo 2^32 */
+    uint32_t octets;        /* their payload octets, without headers and padding, modulo 2^32 */
+    uint32_t sends;         /* 1 if it counts as a sender (6.3.8), and so reports as one, otherwise 0 */
+} jalwedd_own_stream;
 
 /* The role of a source in a session: away (not present, not yet valid, or left), a member (6.2.1) that does not send
  * RTP packets, or one that does. */
@@ -477,9 +503,9 @@ typedef struct jalwedd_role_change {
 void jalwedd_memory(void *(*allocate)(size_t size), void (*release)(void *at)) JALWEDD_NOT_NULL;
 
 /* Makes a participant in an empty handle; its session starts at the moment config->start, which is now. `word` is for
- * the draw of the first interval. Allocates at most JALWEDD_MEMORY(config->capacity) octets, in three blocks, or
- * in five with a guard; no other call allocates. step->next is later than config->start: if it is not later than `now` of the host's clock, the start
- * was not now, and each report tells a time of day that is ahead.
+ * the draw of the first interval. Allocates at most JALWEDD_MEMORY(config->capacity) octets, in three blocks, or in
+ * five with a guard; no other call allocates. step->next is later than config->start: if it is not later than `now` of
+ * the host's clock, the start was not now, and each report tells a time of day that is ahead.
  * Statuses: TAKEN; IS_LIVE, and the step is that of the participant already there; CNAME to GUARD; NO_MEMORY. */
 uint32_t jalwedd_new(jalwedd_handle *handle, const jalwedd_config *config, const uint8_t *cname, size_t cname_size,
                      const jalwedd_item *items, size_t item_count, uint32_t word, jalwedd_step *step)
@@ -532,10 +558,13 @@ uint32_t jalwedd_tick(jalwedd_handle *handle, uint64_t now, uint32_t first_word,
 
 /* Changes the settings of a running session at the moment `now`, to these and these items: all of them, as if the
  * configuration had had them. A host calls it when the bandwidth of the session changes, since each participant
- * computes its intervals from that (6.2), when payload types get other clocks, and to say something else about itself
- * (6.5). Members, step.next and what was counted stay as they are. The tick at step.next is the first to compute an
- * interval by the new bandwidths; the next RTP packet that comes is the first that counts by the new clocks; and the
- * next item that is due is one of the new ones. Until five of the former intervals have passed, a source counts as
+ * computes its intervals from that (6.2), when payload types get other clocks, when its own media does or its clock is
+ * set, and to say something else about itself (6.5). Members, step.next and what was counted stay as they are. The tick
+ * at step.next is the first to compute an interval by the new bandwidths; the next RTP packet that comes is the first
+ * that counts by the new clocks; and the next item that is due is one of the new ones. The next sender report tells its
+ * moment by the new rate and ntp_base alone: in RTP time from the newest packet on, as jalwedd_sent_rtp told it.
+ * Another codec is announced so before its first packet. Round trips by sender reports from before the clock was set
+ * are off by as much. Until five of the former intervals have passed, a source counts as
  * silent for too long by the lesser of the former and the new bandwidths, as others may not know of the change yet.
  * Hands out nothing, and leaves `octets` as they are; but they have to be there.
  * Statuses: TAKEN; IS_EMPTY; ITEM for more than 7 items; RATE for clocks that are too many or of no payload type; LEFT
@@ -602,6 +631,17 @@ uint32_t jalwedd_entries(jalwedd_handle *handle) JALWEDD_NOT_NULL;
  * source, once the participant leaves, and for an empty handle.
  * Statuses: TAKEN; NO_SOURCE. */
 uint32_t jalwedd_source(jalwedd_handle *handle, uint64_t from, jalwedd_source_state *source) JALWEDD_NOT_NULL;
+
+/* Gives what the participant has sent under its present SSRC. `own` is left as it is if the status is not TAKEN.
+ * Statuses: TAKEN; LEFT once the participant leaves; IS_EMPTY. */
+uint32_t jalwedd_own(jalwedd_handle *handle, jalwedd_own_stream *own) JALWEDD_NOT_NULL;
+
+/* Whether an RTP packet was counted (A.1): by what jalwedd_source gave about its source just before it came, and just
+ * after. 0 for a packet of probation or out of sequence. Before its first packet a source is all zeros. */
+static inline uint32_t jalwedd_was_counted(const jalwedd_source_state *before, const jalwedd_source_state *after)
+{
+    return before->received != after->received || before->highest != after->highest;
+}
 
 /* ---- Listings */
 
@@ -741,6 +781,13 @@ uint32_t jalwedd_round_trip(uint32_t arrival, uint32_t lsr, uint32_t dlsr);
 /* The NTP timestamp of the moment `now` (section 4), counted in microseconds from the one that has the timestamp
  * `ntp_base`. That is the start: at a moment `now` of the host's clock pass config.ntp_base and now - config.start. */
 uint64_t jalwedd_ntp_of(uint64_t ntp_base, uint64_t now);
+
+/* The other way round: the NTP timestamp of the start, where that of `elapsed` microseconds after it is `ntp`. For
+ * settings.ntp_base once the clock of the day was set: pass the time of day now, and now - config.start. */
+static inline uint64_t jalwedd_ntp_base(uint64_t ntp, uint64_t elapsed)
+{
+    return ntp - jalwedd_ntp_of(0, elapsed);
+}
 
 /* The RTP timestamp of the moment `now`, where that of the moment `sampled` is `timestamp` and the clock counts `rate`
  * units a second: modulo 2^32, and rounded to the nearest. `now` may be the earlier one. For jalwedd_sent_rtp, where a

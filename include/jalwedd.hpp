@@ -16,7 +16,8 @@
  * A member function of a participant makes the call of its name in jalwedd.h, which says more about it, such as what
  * each word is for; only jalwedd_new is `join` here. A range has the plural of its call's name, except for `about`.
  * Structures, constants and statuses are those of jalwedd.h, and so are the calls that are not here: jalwedd_text and
- * the other texts, jalwedd_version, jalwedd_memory, jalwedd_round_trip, jalwedd_ntp_of and jalwedd_rtp_head.
+ * the other texts, jalwedd_version, jalwedd_memory, jalwedd_settings_of, jalwedd_was_counted, jalwedd_round_trip,
+ * jalwedd_ntp_of, jalwedd_ntp_base, jalwedd_rtp_at and jalwedd_rtp_head.
  *
  * A datagram is a pointer and a size, or an array, std::array, std::vector or std::span of octets (std::uint8_t). What
  * a call hands out goes into an array, a std::array or, in C++20, a std::span of JALWEDD_OCTETS octets.
@@ -319,8 +320,9 @@ public:
     }
 
     /// Changes the settings of the session at the moment `now`, to these and at most 7 items: the bandwidths, the
-    /// clocks of payload types, and what the participant says of itself besides its CNAME. They hold from then on, and
-    /// none of the former. Hands out nothing, and leaves `octets` as they are.
+    /// clocks of payload types and of its own media, the time of day, and what the participant says of itself besides
+    /// its CNAME. They hold from then on, and none of the former: jalwedd_settings_of gives those of a configuration,
+    /// to change some. Hands out nothing, and leaves `octets` as they are.
     /// Statuses: TAKEN; IS_EMPTY; ITEM and RATE for what does not fit; LEFT to TOO_MANY; BANDWIDTH to ITEM.
     std::uint32_t configure(std::uint64_t now, const jalwedd_settings& settings, const jalwedd_item* items,
                             std::size_t item_count, jalwedd_step& step, compound_room octets) noexcept
@@ -393,6 +395,10 @@ public:
     {
         return jalwedd_source(&handle_, from, &source);
     }
+
+    /// Gives what it has sent under its present SSRC, or leaves `own` as it is.
+    /// Statuses: TAKEN; LEFT once it leaves; IS_EMPTY.
+    [[nodiscard]] std::uint32_t own(jalwedd_own_stream& own) noexcept { return jalwedd_own(&handle_, &own); }
 
     /// What is known about each source (jalwedd_source_state), by rising SSRC: among members, sources that are not yet
     /// valid, and those that left and are held for a while. None once the participant leaves, and if it is empty.

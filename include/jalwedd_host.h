@@ -20,9 +20,9 @@
  *     }
  *     jalwedd_host_end(&host);
  *
- * Whatever is called back may call jalwedd_host_send, jalwedd_host_dismiss and jalwedd_host_leave, and all that reads.
- * A row that it is given lasts until it returns. One thread at a time uses a host, and its address stays the same from
- * jalwedd_host_begin on. jalwedd_system.h and jalwedd_table.h have the pieces for other hosts.
+ * Whatever is called back may call jalwedd_host_send, jalwedd_host_configure, jalwedd_host_dismiss, jalwedd_host_leave,
+ * and all that reads. A row that it is given lasts until it returns. One thread at a time uses a host, and its address
+ * stays the same from jalwedd_host_begin on. jalwedd_system.h and jalwedd_table.h have the pieces for other hosts.
  *
  * On an open network it drops RTCP datagrams of more than 1,500 octets, and limits the time of a leave. It does not
  * authenticate anybody, limit a peer's datagrams or make room in a full table: docs/EMBEDDING.md says why a host does.
@@ -47,10 +47,10 @@ extern "C" {
 /* How many datagrams of a socket a turn takes at most: then it looks at the clock again. */
 #define JALWEDD_HOST_DATAGRAMS 64
 
-/* A host. jalwedd_host_init sets all fields; the host may change those down to `data` before jalwedd_host_begin, and
- * reads the others. */
+/* A host. jalwedd_host_init sets all fields; the host may change those down to `data` before jalwedd_host_begin, the
+ * items before jalwedd_host_configure too, and reads the others. */
 typedef struct jalwedd_host {
-    jalwedd_config config;  /* jalwedd_host_begin sets start and ntp_base */
+    jalwedd_config config;  /* jalwedd_host_begin sets start and ntp_base, and jalwedd_host_configure the settings */
     const char *cname;
     const jalwedd_item *items; /* to be sent besides the CNAME: NULL if there are none, as at first */
     size_t item_count;
@@ -99,6 +99,12 @@ typedef struct jalwedd_host {
     uint64_t tick_due;      /* a second after the latest tick */
     uint64_t media_due;
     uint64_t end;           /* when it stops to wait for its BYE, or JALWEDD_NEVER before it leaves */
+    uint64_t latest;        /* when jalwedd_host_send or jalwedd_host_configure last made its call: those that follow
+                               are not made at an earlier moment, whenever the clock was read for them */
+    uint64_t former_until;  /* until when a block may be about a sender report from before a change of config.ntp_base:
+                               ten minutes from that on, or 0 */
+    uint32_t former_lsr;    /* the lsr of such a block is no later than this one, as the middle 32 bits of an NTP
+                               timestamp */
     uint32_t is_to_leave;   /* 1 once jalwedd_host_leave was called */
     uint32_t dismissals;    /* 1 if a row is to be dismissed */
     uint16_t sequence;      /* of the next RTP packet: random at first */
@@ -145,6 +151,22 @@ static inline void jalwedd_serve_all(jalwedd_host *const *hosts, size_t count, s
  * was not sent: then it does not count, and the others miss its sequence number. */
 static inline int jalwedd_host_send(jalwedd_host *host, uint64_t now, uint64_t sampled, uint32_t payload_type,
                                     uint32_t timestamp, const void *payload, size_t size);
+
+/* Gives the session these settings now, and the items that the host has now: all of them (jalwedd_configure). If they
+ * are taken, config has them from then on, and what is sent, jitter and round trips go by them. After the clock of the
+ * day was set, for example:
+ *
+ *     jalwedd_settings settings = jalwedd_settings_of(&host->config);
+ *     settings.ntp_base = jalwedd_ntp_base(jalwedd_ntp_now(), jalwedd_now() - host->config.start);
+ *     status = jalwedd_host_configure(host, &settings);
+ *
+ * By another ntp_base, a block about a sender report from before would tell a round trip that is wrong by as much. So
+ * for ten minutes the lsr of a block is taken as 0, which tells none, unless it lies between the change and the arrival
+ * of the block. If the clock was set back, by less than twenty minutes, none is told until it has come to where it was.
+ * A call of jalwedd_host_send after this one may pass a `now` from before it, such as that of `media`: its packet
+ * counts as sent at the moment of this call.
+ * Statuses: those of jalwedd_configure; LEFT also while it waits for its BYE. */
+static inline uint32_t jalwedd_host_configure(jalwedd_host *host, const jalwedd_settings *settings);
 
 /* Dismisses a source, at the end of this turn or the next one (jalwedd_forget). Returns 0, or -1 if there is no row. */
 static inline int jalwedd_host_dismiss(jalwedd_host *host, uint32_t ssrc);
@@ -249,17 +271,93 @@ static inline void jalwedd_host_settle(jalwedd_host *host, uint32_t before)
         jalwedd_table_update(&host->table, &host->session);
 }
 
+/* The moment of a call for which the clock was read at `now`: what was called back since then may have made another. */
+static inline uint64_t jalwedd_host_at(const jalwedd_host *host, uint64_t now)
+{
+    return now > host->latest ? now : host->latest;
+}
+
+/* ---- Settings */
+
+/* The middle 32 bits of the NTP timestamp of a moment. */
+static inline uint32_t jalwedd_host_middle(const jalwedd_host *host, uint64_t ntp_base, uint64_t now)
+{
+    return jalwedd_ntp_of(ntp_base, now - host->config.start) >> 16 & UINT32_MAX;
+}
+
+/* The first of two such moments, modulo 2^32, if it lies after the second by less than twenty minutes, otherwise the
+ * second. So nothing that lies up to ten minutes before the first lies within ten minutes after the result. */
+static inline uint32_t jalwedd_host_later(uint32_t one, uint32_t other)
+{
+    return one - other < 1200u * 65536u ? one : other;
+}
+
+/* Notes that sender reports go by another ntp_base from `now` on. The lsr of one from before is no later than `now` by
+ * the former base, and that of a later one no earlier than `now` by the new base. */
+static inline void jalwedd_host_set_clock(jalwedd_host *host, uint64_t now, uint64_t ntp_base)
+{
+    const uint32_t before = jalwedd_host_middle(host, host->config.ntp_base, now);
+    const uint32_t last = jalwedd_host_later(before, jalwedd_host_middle(host, ntp_base, now) - 1u);
+    if (ntp_base == host->config.ntp_base)
+        return;
+    host->former_lsr = now < host->former_until ? jalwedd_host_later(host->former_lsr, last) : last;
+    host->former_until = now + 600 * JALWEDD_SECOND;
+    host->config.ntp_base = ntp_base;
+}
+
+/* Whether a block with this lsr may be about a sender report from before another ntp_base. */
+static inline int jalwedd_host_is_former(const jalwedd_host *host, uint64_t now, uint32_t arrival, uint32_t lsr)
+{
+    const uint32_t since = arrival - host->former_lsr;  /* 2^31 or more if that lies before it */
+    return now < host->former_until && (since >> 31 != 0 || arrival - lsr >= since);
+}
+
+/* The configuration has these settings from `now` on. */
+static inline void jalwedd_host_keep(jalwedd_host *host, uint64_t now, const jalwedd_settings *settings)
+{
+    jalwedd_host_set_clock(host, now, settings->ntp_base);
+    host->config.sender_bw = settings->sender_bw;
+    host->config.receiver_bw = settings->receiver_bw;
+    host->config.rate = settings->rate;
+    host->config.clock_count = settings->clock_count;
+    memcpy(host->config.clocks, settings->clocks, sizeof settings->clocks);
+    host->latest = now;
+}
+
+static inline uint32_t jalwedd_host_configure(jalwedd_host *host, const jalwedd_settings *settings)
+{
+    static const jalwedd_item none = {0, 0, {0}};
+    const jalwedd_item *items = host->items ? host->items : &none;
+    const size_t item_count = host->items ? host->item_count : 0;
+    const uint64_t now = jalwedd_host_at(host, jalwedd_now());
+    uint32_t status;
+    if (host->end != JALWEDD_NEVER)
+        return JALWEDD_LEFT;
+    status = jalwedd_configure(&host->session, now, settings, items, item_count, &host->step, host->octets);
+    if (status == JALWEDD_IS_EMPTY)     /* a call that no record has: there is no session yet, or no more */
+        return status;
+    jalwedd_record_configure(&host->calls, now, settings, items, item_count);
+    if (status == JALWEDD_TAKEN)
+        jalwedd_host_keep(host, now, settings);
+    jalwedd_host_settle(host, host->step.ssrc);
+    return status;
+}
+
 /* ---- What comes */
 
 static inline void jalwedd_host_take_reports(jalwedd_host *host, uint64_t now, uint32_t own, const uint8_t *datagram,
                                              size_t size)
 {
-    const uint64_t ntp = jalwedd_ntp_of(host->config.ntp_base, now - host->config.start);
+    const uint32_t arrival = jalwedd_host_middle(host, host->config.ntp_base, now);
     jalwedd_cursor cursor = JALWEDD_BEGIN;
     jalwedd_report report;
     while (jalwedd_next_block(datagram, size, &cursor, &report) == JALWEDD_TAKEN) {
-        const jalwedd_row *row = report.ssrc != own ? NULL
-            : jalwedd_table_report(&host->table, &report, ntp >> 16 & UINT32_MAX, host->config.rate);
+        const jalwedd_row *row;
+        if (report.ssrc != own)
+            continue;
+        if (jalwedd_host_is_former(host, now, arrival, report.lsr))
+            report.lsr = 0;
+        row = jalwedd_table_report(&host->table, &report, arrival, host->config.rate);
         if (row != NULL && host->reported)
             host->reported(host, row);
     }
@@ -357,9 +455,11 @@ static inline int jalwedd_host_send(jalwedd_host *host, uint64_t now, uint64_t s
     host->sequence++;
     if (sendto(host->rtp, packet, 12 + size, 0, &host->to_rtp.as.any, host->to_rtp.size) < 0)
         return -1;
+    now = jalwedd_host_at(host, now);
     timestamp = jalwedd_rtp_at(timestamp, sampled, now, host->config.rate);
     jalwedd_record_sent_rtp(&host->calls, now, timestamp, size & UINT32_MAX);
-    jalwedd_sent_rtp(&host->session, now, timestamp, size & UINT32_MAX, &host->step, host->octets);
+    if (jalwedd_sent_rtp(&host->session, now, timestamp, size & UINT32_MAX, &host->step, host->octets) == JALWEDD_TAKEN)
+        host->latest = now;
     jalwedd_host_settle(host, own);
     return 0;
 }
@@ -443,11 +543,11 @@ static inline void jalwedd_host_turn(jalwedd_host *host)
     if (host->media_due <= now)
         host->media_due = host->media(host, now);
     if (host->dismissals && host->end == JALWEDD_NEVER)
-        jalwedd_host_dismiss_all(host, now);
+        jalwedd_host_dismiss_all(host, jalwedd_host_at(host, now));
     if (jalwedd_host_is_to_go(host))
-        jalwedd_host_go(host, now);
+        jalwedd_host_go(host, jalwedd_host_at(host, now));
     if (jalwedd_sooner(host->step.next, host->tick_due) <= now)
-        jalwedd_host_tick(host, now);
+        jalwedd_host_tick(host, jalwedd_host_at(host, now));
     if (host->end <= now)                   /* without a BYE, which others can delay for days */
         host->step.next = JALWEDD_NEVER;
 }

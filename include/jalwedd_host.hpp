@@ -219,13 +219,18 @@ public:
         return jalwedd_host_send(&host_, now, sampled, payload_type, timestamp, payload, size) == 0;
     }
 
+    /// Gives the session these settings now, and the items of state(). After another ntp_base some reports tell no
+    /// round trip for a while (jalwedd_host_configure).
+    /// Statuses: those of jalwedd_configure; LEFT also while it waits for its BYE.
+    std::uint32_t configure(const jalwedd_settings& settings) { return jalwedd_host_configure(&host_, &settings); }
+
     /// Dismisses a source at the end of a turn. Whether there is a row for it.
     bool dismiss(std::uint32_t ssrc) noexcept { return jalwedd_host_dismiss(&host_, ssrc) == 0; }
 
     /// Leaves, at the end of a turn.
     void leave() noexcept { jalwedd_host_leave(&host_); }
 
-    /// What jalwedd_host.h says of a host: its settings until it joins, and its step and table.
+    /// What jalwedd_host.h says of a host: what it begins with until it joins, its configuration, step and table.
     [[nodiscard]] jalwedd_host& state() noexcept { return host_; }
     [[nodiscard]] const jalwedd_host& state() const noexcept { return host_; }
 

@@ -176,6 +176,15 @@ static inline void jalwedd_record_word(jalwedd_record_line *line, uint32_t word)
         jalwedd_record_octet(line, word >> shift & 255);
 }
 
+/* A field: a space, and a number of 64 bits in sixteen hex digits. */
+static inline void jalwedd_record_long(jalwedd_record_line *line, uint64_t number)
+{
+    int shift;
+    jalwedd_record_byte(line, ' ');
+    for (shift = 56; shift >= 0; shift -= 8)
+        jalwedd_record_octet(line, number >> shift & 255);
+}
+
 static inline void jalwedd_record_octets(jalwedd_record_line *line, const uint8_t *octets, size_t size)
 {
     size_t at;
@@ -300,6 +309,8 @@ static inline void jalwedd_record_configure(jalwedd_record *record, uint64_t now
         jalwedd_record_byte(&line, ':');
         jalwedd_record_octets(&line, items[at].text, items[at].size);
     }
+    jalwedd_record_decimal(&line, settings->rate);
+    jalwedd_record_long(&line, settings->ntp_base);
     jalwedd_record_end(&line);
 }
 
@@ -403,6 +414,28 @@ static inline void jalwedd_record_item(jalwedd_record_line *line, const jalwedd_
     jalwedd_record_byte(line, '\'');
 }
 
+/* The options of a configuration's numbers and clocks, but for the SSRC. */
+static inline void jalwedd_record_config(jalwedd_record_line *line, const jalwedd_config *config)
+{
+    uint32_t at;
+    jalwedd_record_text(line, " --capacity");
+    jalwedd_record_decimal(line, config->capacity);
+    jalwedd_record_text(line, " --limit");
+    jalwedd_record_decimal(line, config->limit);
+    jalwedd_record_text(line, " --sender-bw");
+    jalwedd_record_decimal(line, config->sender_bw);
+    jalwedd_record_text(line, " --receiver-bw");
+    jalwedd_record_decimal(line, config->receiver_bw);
+    jalwedd_record_text(line, " --rate");
+    jalwedd_record_decimal(line, config->rate);
+    for (at = 0; at < config->clock_count; at++) {
+        jalwedd_record_text(line, " --clock ");
+        jalwedd_record_clock(line, &config->clocks[at]);
+    }
+    jalwedd_record_text(line, " --ntp");
+    jalwedd_record_long(line, config->ntp_base);
+}
+
 static inline uint32_t jalwedd_record_command(jalwedd_record *record, const jalwedd_config *config,
                                               const uint8_t *cname, size_t cname_size, const jalwedd_item *items,
                                               size_t item_count, uint32_t word)
@@ -426,24 +459,7 @@ static inline uint32_t jalwedd_record_command(jalwedd_record *record, const jalw
     jalwedd_record_word(&line, config->ssrc);
     jalwedd_record_text(&line, " --cname");
     jalwedd_record_quoted(&line, cname, cname_size);
-    jalwedd_record_text(&line, " --capacity");
-    jalwedd_record_decimal(&line, config->capacity);
-    jalwedd_record_text(&line, " --limit");
-    jalwedd_record_decimal(&line, config->limit);
-    jalwedd_record_text(&line, " --sender-bw");
-    jalwedd_record_decimal(&line, config->sender_bw);
-    jalwedd_record_text(&line, " --receiver-bw");
-    jalwedd_record_decimal(&line, config->receiver_bw);
-    jalwedd_record_text(&line, " --rate");
-    jalwedd_record_decimal(&line, config->rate);
-    for (at = 0; at < config->clock_count; at++) {
-        jalwedd_record_text(&line, " --clock ");
-        jalwedd_record_clock(&line, &config->clocks[at]);
-    }
-    jalwedd_record_text(&line, " --ntp");
-    jalwedd_record_byte(&line, ' ');
-    for (at = 0; at < 8; at++)
-        jalwedd_record_octet(&line, config->ntp_base >> (56 - 8 * at) & 255);
+    jalwedd_record_config(&line, config);
     for (at = 0; at < item_count; at++)
         jalwedd_record_item(&line, &items[at]);
     jalwedd_record_text(&line, " --word");

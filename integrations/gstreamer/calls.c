@@ -125,7 +125,9 @@ guint32 call_configure(JalweddSession *self, Participant *one)
 {
     const guint64 now = moment_now(self);
     jalwedd_settings settings = {.sender_bw = self->sender_bandwidth,
-                                 .receiver_bw = self->receiver_bandwidth};
+                                 .receiver_bw = self->receiver_bandwidth,
+                                 .rate = one->config.rate,
+                                 .ntp_base = one->config.ntp_base};
     jalwedd_item items[7];
     const guint count = settings_items(self, items);
     settings.clock_count = settings_clocks(self, one->config.rate, settings.clocks);

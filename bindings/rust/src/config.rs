@@ -189,6 +189,16 @@ const fn at_most_32_bits(bandwidth: u64) -> u32 {
 
 /// What a host may change in a running session, besides the items:
 /// [`Participant::configure`](crate::Participant::configure) refuses a value that is out of its range.
+///
+/// ```
+/// # use jalwedd::{ntp_base_of, Config, Moment, Settings};
+/// # let config = Config::new(0xaa, Moment::ZERO, 5 << 32);
+/// // another codec, and a clock that shows 30 s of 1900 20 seconds after the start
+/// let (time_of_day, since_start) = (30 << 32, Moment::from_micros(20_000_000));
+/// let ntp_base = ntp_base_of(time_of_day, since_start);
+/// let settings = Settings { rate: 48_000, ntp_base, ..Settings::of(&config) };
+/// assert_eq!((settings.sender_bw, settings.ntp_base), (100, 10 << 32));
+/// ```
 #[derive(Clone, Copy, Debug, PartialEq, Eq, Hash)]
 pub struct Settings {
     /// The RTCP bandwidth for senders, as [`Config::sender_bw`].
@@ -197,13 +207,26 @@ pub struct Settings {
     pub receiver_bw: u32,
     /// The clocks of payload types, as [`Config::clocks`].
     pub clocks: RtpClocks,
+    /// The units a second of the clock of the host's own media, and of the payload types that are none of `clocks`,
+    /// as [`Config::rate`].
+    pub rate: u32,
+    /// The NTP timestamp of the start, as [`Config::ntp_base`]: another one if the clock of the day was set.
+    /// [`ntp_base_of`](crate::ntp_base_of) gives it, by the time of day now.
+    pub ntp_base: u64,
 }
 
 impl Settings {
+    /// Those of a configuration, to change some of them.
+    #[must_use]
+    pub const fn of(config: &Config) -> Settings {
+        let Config { sender_bw, receiver_bw, clocks, rate, ntp_base, .. } = *config;
+        Settings { sender_bw, receiver_bw, clocks, rate, ntp_base }
+    }
+
     pub(crate) fn declared(&self) -> sys::jalwedd_settings {
-        let Settings { sender_bw, receiver_bw, clocks } = *self;
+        let Settings { sender_bw, receiver_bw, clocks, rate, ntp_base } = *self;
         let (clock_count, clocks) = clocks.declared();
-        sys::jalwedd_settings { sender_bw, receiver_bw, clock_count, clocks }
+        sys::jalwedd_settings { sender_bw, receiver_bw, clock_count, clocks, rate, ntp_base }
     }
 }
 

@@ -182,3 +182,19 @@ pub fn round_trip(arrival: u32, lsr: u32, dlsr: u32) -> u32 {
 pub fn ntp_of(ntp_base: u64, now: Moment) -> u64 {
     sys::jalwedd_ntp_of(ntp_base, now.as_micros())
 }
+
+/// The other way round: the NTP timestamp of [`Moment::ZERO`], where that of the moment `now` is `ntp`.
+///
+/// For [`Settings::ntp_base`](crate::Settings::ntp_base) once the clock of the day was set: pass the time of day now,
+/// and the time since the start, `now.saturating_duration_since(start).into()`.
+///
+/// ```
+/// use jalwedd::{ntp_base_of, ntp_of, Moment};
+///
+/// let now = Moment::from_micros(1_500_000);
+/// assert_eq!(ntp_base_of(ntp_of(5 << 32, now), now), 5 << 32);
+/// ```
+#[must_use]
+pub fn ntp_base_of(ntp: u64, now: Moment) -> u64 {
+    ntp.wrapping_sub(ntp_of(0, now))
+}

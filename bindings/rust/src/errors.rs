@@ -91,7 +91,7 @@ error! {
         OwnSsrc = sys::JALWEDD_OWN_SSRC, "the datagram names the participant's own SSRC";
         /// E8: a bandwidth of the settings is not 16 to 2^30 (C4).
         Bandwidth = sys::JALWEDD_BANDWIDTH, "a bandwidth is not 16 to 2^30 octets a second";
-        /// E8: the rate of a clock is not 1 to 2^20 (C5).
+        /// E8: the rate, or that of a clock, is not 1 to 2^20 (C5).
         Rate = sys::JALWEDD_RATE, "a rate is not 1 to 2^20 units a second";
         /// The guard holds the datagram back: it names a source that belongs to another origin (RFC 3550, 8.2).
         Stranger = sys::JALWEDD_STRANGER, "held back: it names a source of another origin";

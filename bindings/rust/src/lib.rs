@@ -65,8 +65,9 @@
 //!
 //! With media, the host also calls [`arrive_rtp`](Participant::arrive_rtp) for each RTP datagram that comes,
 //! and [`sent_rtp`](Participant::sent_rtp) for each RTP packet that it sends.
-//! [`configure`](Participant::configure) changes the bandwidths, the clocks and the items of a running session, and
-//! [`forget`](Participant::forget) drops a source that is gone, or makes room for another.
+//! [`configure`](Participant::configure) changes the [`Settings`] and the items of a running session, as for another
+//! codec or after the clock of the day was set, and [`forget`](Participant::forget) drops a source that is gone, or
+//! makes room for another. [`own`](Participant::own) tells what was sent.
 //! [`sources`](Participant::sources) lists the sources, each with what lip sync needs, and [`changes`] says
 //! who joined or left between two listings. [`about`] reads from a datagram how others receive the host's
 //! stream, [`items`] their names, and [`rtp_head`] the head of a packet with media. [`record`] writes the
@@ -137,12 +138,14 @@ pub use changes::{changes, Change, Changes, Role};
 #[cfg(feature = "std")]
 pub use clock::Clock;
 pub use config::{Config, Guard, Item, ItemKind, RtpClock, RtpClocks, Settings};
-pub use datagram::{about, check, check_rtp, ntp_of, plain_text, round_trip, text, Report, Reports};
+pub use datagram::{
+    about, check, check_rtp, ntp_base_of, ntp_of, plain_text, round_trip, text, Report, Reports,
+};
 pub use errors::{Fault, FaultReason, GuardError, NewError, NotRising, Refusal, RtpFault, TextTooLong, TooManyClocks};
 pub use guard::HeldBack;
 pub use head::{rtp_head, RtpHead};
 pub use moment::{rtp_at, Moment};
-pub use participant::Participant;
+pub use participant::{OwnStream, Participant};
 pub use parts::{
     apps, blocks, goodbyes, items, reporters, senders, App, Goodbye, Parts, Reporters, SdesItem, SenderReport,
 };

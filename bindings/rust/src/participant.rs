@@ -68,6 +68,25 @@ pub struct Participant {
     room: Room,
 }
 
+/// What a participant has sent under its present SSRC, as a sender report of now would tell it (RFC 3550, 6.4.1): see
+/// [`Participant::own`].
+#[derive(Clone, Copy, Debug, Default, PartialEq, Eq, Hash)]
+pub struct OwnStream {
+    /// How many RTP packets, modulo 2^32.
+    pub packets: u32,
+    /// How many payload octets these had, without headers and padding, modulo 2^32.
+    pub octets: u32,
+    /// Whether it counts as a sender (RFC 3550, 6.3.8), and so reports as one.
+    pub is_sender: bool,
+}
+
+impl OwnStream {
+    fn of(own: sys::jalwedd_own_stream) -> OwnStream {
+        let sys::jalwedd_own_stream { packets, octets, sends } = own;
+        OwnStream { packets, octets, is_sender: sends != 0 }
+    }
+}
+
 impl Participant {
     /// Begins to take part in a session, at [`Config::start`].
     ///
@@ -181,9 +200,12 @@ impl Participant {
     ///
     /// Members, deadlines and what was counted stay as they are. The next interval that is computed is the
     /// first by the new bandwidths (RFC 3550, 6.2), the next RTP packet that comes the first that counts by the
-    /// new clocks, and the next item that is due one of the new ones (6.5). Until five of the former intervals have
-    /// passed, a source counts as silent for too long by the lesser of the former and the new bandwidths. It
-    /// hands out nothing.
+    /// new clocks, and the next item that is due one of the new ones (6.5). The next sender report tells its moment by
+    /// the new [`rate`](Settings::rate) and [`ntp_base`](Settings::ntp_base) alone: in RTP time from the newest packet
+    /// on, as [`sent_rtp`](Participant::sent_rtp) told it. So another codec is announced before its first packet.
+    /// Round trips by sender reports from before the clock was set are off by as much. Until five of the former
+    /// intervals have passed, a source counts as silent for too long by the lesser of the former and the new
+    /// bandwidths. It hands out nothing.
     ///
     /// # Errors
     ///
@@ -329,6 +351,19 @@ impl Participant {
     /// ```
     pub fn sources(&self) -> Sources<'_> {
         Sources::of(&self.handle)
+    }
+
+    /// What the participant has sent under its present SSRC: `None` once it leaves.
+    ///
+    /// ```
+    /// # use jalwedd::{Config, Moment, OwnStream, Participant};
+    /// # let mut session = Participant::new(&Config::new(0xaa, Moment::ZERO, 0), b"a", &[], 0)?;
+    /// session.sent_rtp(Moment::ZERO, 1000, 160)?;
+    /// assert_eq!(session.own(), Some(OwnStream { packets: 1, octets: 160, is_sender: true }));
+    /// # Ok::<(), Box<dyn std::error::Error>>(())
+    /// ```
+    pub fn own(&self) -> Option<OwnStream> {
+        self.handle.own().map(OwnStream::of)
     }
 
     fn answer(&self, status: u32) -> Result<Answer<'_>, Refusal> {

@@ -149,6 +149,15 @@ impl Handle {
         })
         .ok()
     }
+
+    /// What it has sent, unless it leaves.
+    pub(crate) fn own(&self) -> Option<sys::jalwedd_own_stream> {
+        taken(|own| {
+            // SAFETY: VALID, APART, ALONE, OWNED
+            unsafe { sys::jalwedd_own(self.0.get(), own) }
+        })
+        .ok()
+    }
 }
 
 impl Drop for Handle {

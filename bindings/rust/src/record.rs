@@ -226,7 +226,7 @@ fn write_configure(
     if items.len() > MOST_ITEMS {
         return Ok(());
     }
-    let Settings { sender_bw, receiver_bw, clocks } = settings;
+    let Settings { sender_bw, receiver_bw, clocks, rate, ntp_base } = settings;
     write!(to, "configure {moment} {sender_bw} {receiver_bw} ")?;
     write_list(to, clocks.as_slice(), write_clock)?;
     to.write_char(' ')?;
@@ -234,7 +234,7 @@ fn write_configure(
         write!(to, "{}:", item.kind())?;
         write_hex(to, item.text())
     })?;
-    to.write_char('\n')
+    writeln!(to, " {rate} {ntp_base:016x}")
 }
 
 /// Those of a list between commas, or a hyphen where there are none.

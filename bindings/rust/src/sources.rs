@@ -100,6 +100,30 @@ impl fmt::Debug for Sources<'_> {
 }
 
 impl SourceState {
+    /// Whether an RTP packet was counted (RFC 3550, A.1), by what
+    /// [`Participant::sources`](crate::Participant::sources) gave of its source just before it came, if it gave that,
+    /// and just after, which is this. A packet of probation is not, nor one out of sequence.
+    ///
+    /// ```
+    /// # use jalwedd::{Config, Moment, Participant};
+    /// # let mut session = Participant::new(&Config::new(0xaa, Moment::ZERO, 0), b"a", &[], 0)?;
+    /// # let packets = [[0x80, 0, 0, 1, 0, 0, 0, 0, 0, 0, 0, 9], [0x80, 0, 0, 2, 0, 0, 0, 0, 0, 0, 0, 9]];
+    /// # let of_nine = |session: &Participant| session.sources().find(|source| source.ssrc == 9);
+    /// # let mut counted = Vec::new();
+    /// for packet in packets {
+    ///     let before = of_nine(&session);
+    ///     session.arrive_rtp(Moment::ZERO, 1, 0, &packet)?;
+    ///     counted.push(of_nine(&session).is_some_and(|after| after.was_counted_since(before.as_ref())));
+    /// }
+    /// assert_eq!(counted, [false, true]); // the first one is of probation
+    /// # Ok::<(), Box<dyn std::error::Error>>(())
+    /// ```
+    #[must_use]
+    pub fn was_counted_since(&self, before: Option<&SourceState>) -> bool {
+        let counted = |state: &SourceState| state.reception.map(|of| (of.received, of.highest));
+        counted(self) != before.and_then(counted)
+    }
+
     fn of(source: &sys::jalwedd_source_state) -> SourceState {
         let sys::jalwedd_source_state { heard, left, told, ntp, rtp, .. } = *source;
         let sys::jalwedd_source_state { received, octets, lost, highest, jitter, rate, .. } = *source;

@@ -8,8 +8,8 @@ use core::ptr::null_mut;
 // ---- The version
 
 pub const JALWEDD_VERSION_MAJOR: u32 = 0;
-pub const JALWEDD_VERSION_MINOR: u32 = 6;
-pub const JALWEDD_VERSION_PATCH: u32 = 1;
+pub const JALWEDD_VERSION_MINOR: u32 = 7;
+pub const JALWEDD_VERSION_PATCH: u32 = 0;
 
 // ---- Statuses
 
@@ -100,6 +100,8 @@ pub struct jalwedd_settings {
     pub receiver_bw: u32,
     pub clock_count: u32,
     pub clocks: [jalwedd_clock; 16],
+    pub rate: u32,
+    pub ntp_base: u64,
 }
 
 pub const JALWEDD_SDES_CNAME: u32 = 1;
@@ -248,6 +250,14 @@ pub struct jalwedd_source_state {
     pub reserved: u32,
 }
 
+#[repr(C)]
+#[derive(Clone, Copy, Debug, Default)]
+pub struct jalwedd_own_stream {
+    pub packets: u32,
+    pub octets: u32,
+    pub sends: u32,
+}
+
 pub const JALWEDD_AWAY: u32 = 0;
 pub const JALWEDD_MEMBER: u32 = 1;
 pub const JALWEDD_SENDER: u32 = 2;
@@ -366,6 +376,8 @@ unsafe extern "C" {
     pub fn jalwedd_entries(handle: *mut jalwedd_handle) -> u32;
 
     pub fn jalwedd_source(handle: *mut jalwedd_handle, from: u64, source: *mut jalwedd_source_state) -> u32;
+
+    pub fn jalwedd_own(handle: *mut jalwedd_handle, own: *mut jalwedd_own_stream) -> u32;
 
     // ---- Listings
 

@@ -3,7 +3,7 @@
 #![cfg(feature = "std")]
 
 use jalwedd::host::{Event, Host};
-use jalwedd::Role;
+use jalwedd::{Item, ItemKind, Refusal, Role, Settings};
 use std::net::{IpAddr, Ipv4Addr, Ipv6Addr};
 use std::process;
 use std::sync::mpsc::channel;
@@ -12,7 +12,8 @@ use std::time::Duration;
 
 const PACKET_TIME: Duration = Duration::from_millis(20);
 
-/// A sender that leaves after so many packets: how often the other reported about its stream.
+/// A sender that leaves after so many packets: how often the other reported about its stream. It says something else of
+/// itself in their midst, and each packet is counted.
 fn sender(own: (IpAddr, u16), peer: (IpAddr, u16), packets: u32) -> JoinHandle<u32> {
     let mut host =
         Host::builder("sender@example.com").media_every(PACKET_TIME).open(own, peer).expect("ports");
@@ -20,8 +21,16 @@ fn sender(own: (IpAddr, u16), peer: (IpAddr, u16), packets: u32) -> JoinHandle<u
         let (mut number, mut reports) = (0, 0);
         while let Some(event) = host.next() {
             match event {
-                Event::Media(_) if number == packets => host.leave(),
+                Event::Media(_) if number == packets => {
+                    let own = host.session().own(); // none where this comes once more, after the leave
+                    assert!(own.is_none_or(|own| own.packets == packets && own.is_sender), "{own:?}");
+                    host.leave();
+                }
                 Event::Media(sampled) => {
+                    if number == packets / 2 {
+                        let item = Item::new(ItemKind::Note, b"half").expect("it is short");
+                        host.configure(&host.settings(), &[item]).expect("settings");
+                    }
                     host.send(sampled, 0, number * 160, &[0xff; 160]).expect("loopback");
                     number += 1;
                 }
@@ -37,6 +46,16 @@ fn sender(own: (IpAddr, u16), peer: (IpAddr, u16), packets: u32) -> JoinHandle<u
         }
         reports
     })
+}
+
+/// Settings that are taken are those that it has, and those that are refused change nothing.
+fn set_clock_by_a_second(host: &mut Host) {
+    let before = host.settings();
+    assert_eq!(host.configure(&Settings { rate: 0, ..before }, &[]), Err(Refusal::Rate));
+    assert_eq!(host.settings(), before);
+    let after = Settings { ntp_base: before.ntp_base.wrapping_add(1 << 32), ..before };
+    host.configure(&after, &[]).expect("settings");
+    assert_eq!((host.settings().ntp_base.wrapping_sub(before.ntp_base), host.settings()), (1 << 32, after));
 }
 
 #[test]
@@ -57,7 +76,10 @@ fn a_host_that_listens_counts_what_another_sends() {
         let (mut joined, mut left, mut seconds) = (None, None, 0);
         while let Some(event) = host.next() {
             match event {
-                Event::Joined(source) => joined = Some(source),
+                Event::Joined(source) => {
+                    joined = Some(source);
+                    set_clock_by_a_second(&mut host);
+                }
                 Event::Left(source) => {
                     left = Some(source);
                     host.leave();
@@ -75,10 +97,13 @@ fn a_host_that_listens_counts_what_another_sends() {
         assert_eq!((left.cname(), left.received, left.lost), ("sender@example.com".to_string(), 349, 0));
         assert!(left.jitter < PACKET_TIME && seconds >= 6, "{:?} in {seconds} seconds", left.jitter);
         assert!(sending.join().expect("it left") >= 1, "no report about its stream came");
+        assert_eq!(host.configure(&host.settings(), &[]), Err(Refusal::Left));
+        assert_eq!(host.command().as_ref(), Ok(&command), "it is not of what the session began with");
         drop(host); // both ports are free then
         let recorded: Vec<String> = recorded.iter().collect();
         let count = |call: &str| recorded.iter().filter(|line| line.starts_with(call)).count();
         assert_eq!((count("rtp "), count("leave "), count("forget ")), (350, 1, 0));
+        assert_eq!(count("configure "), 2);
         assert!(
             count("tick ") >= 6 && count("rtcp ") >= 2 && recorded.iter().all(|line| line.ends_with('\n'))
         );

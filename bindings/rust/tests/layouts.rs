@@ -20,7 +20,8 @@ fn structures() {
     assert_layout!(jalwedd_counts, 32, 8, strangers: 0, crowds: 8, last_stranger: 16, last_crowd: 24);
     assert_layout!(jalwedd_config, 192, 8, ntp_base: 0, start: 8, ssrc: 16, capacity: 20, limit: 24,
         sender_bw: 28, receiver_bw: 32, rate: 36, clock_count: 40, clocks: 44, reserved: 172, guard: 176);
-    assert_layout!(jalwedd_settings, 140, 4, sender_bw: 0, receiver_bw: 4, clock_count: 8, clocks: 12);
+    assert_layout!(jalwedd_settings, 152, 8, sender_bw: 0, receiver_bw: 4, clock_count: 8, clocks: 12,
+        rate: 140, ntp_base: 144);
     assert_layout!(jalwedd_item, 257, 1, kind: 0, size: 1, text: 2);
     assert_layout!(jalwedd_step, 40, 8, next: 0, members: 8, senders: 12, ssrc: 16, changed: 20, kind: 24,
         size: 28, entries: 32, others_changed: 36);
@@ -37,6 +38,7 @@ fn structures() {
     assert_layout!(jalwedd_source_state, 96, 8, heard: 0, left: 8, told: 16, ntp: 24, received: 32,
         octets: 40, lost: 48, highest: 52, jitter: 56, rtp: 60, has_block: 64, fraction: 68,
         block_highest: 72, ssrc: 76, member: 80, sender: 84, rate: 88, reserved: 92);
+    assert_layout!(jalwedd_own_stream, 12, 4, packets: 0, octets: 4, sends: 8);
     assert_layout!(jalwedd_role_change, 16, 4, ssrc: 0, was: 4, is: 8, left: 12);
 }
 

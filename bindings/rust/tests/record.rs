@@ -161,24 +161,37 @@ fn settings_are_given_as_they_are_recorded() -> Result<(), Box<dyn Error>> {
     let now = after(0);
     let items = [Item::new(ItemKind::Note, b"")?, Item::new(ItemKind::Name, b"a,:")?];
     let clocks = [RtpClock { payload_type: 96, rate: 90_000 }, RtpClock { payload_type: 0, rate: 8000 }];
-    let usual = Settings { sender_bw: 100, receiver_bw: 300, clocks: RtpClocks::NONE };
-    let narrow = Settings { sender_bw: 16, receiver_bw: 16, clocks: RtpClocks::new(&clocks)? };
+    let usual = Settings::of(&CONFIG);
+    let narrow = Settings {
+        sender_bw: 16,
+        receiver_bw: 16,
+        clocks: RtpClocks::new(&clocks)?,
+        rate: 48_000,
+        ntp_base: 0x0123_4567_89ab_cdef,
+    };
     let wrong = Settings { sender_bw: 15, ..narrow };
+    let still = Settings { rate: 0, ntp_base: u64::MAX, ..usual };
+    let fast = Settings { rate: u32::MAX, ..usual };
     let calls = [
         Call::Configure { now, settings: &wrong, items: &items },
+        Call::Configure { now, settings: &still, items: &[] },
+        Call::Configure { now, settings: &fast, items: &[] },
         Call::Configure { now, settings: &narrow, items: &[items[0]; 8] },
         Call::Configure { now, settings: &narrow, items: &items },
         tick(1_026_037),
         Call::Configure { now: after(1_026_037), settings: &usual, items: &[] },
     ];
     let (record, answers) = played(&calls)?;
-    let lines = "configure 0 15 16 96:90000,0:8000 7:,2:612c3a\n\
-                 configure 0 16 16 96:90000,0:8000 7:,2:612c3a\n\
+    let lines = "configure 0 15 16 96:90000,0:8000 7:,2:612c3a 48000 0123456789abcdef\n\
+                 configure 0 100 300 - - 0 ffffffffffffffff\n\
+                 configure 0 100 300 - - 4294967295 0000000000000000\n\
+                 configure 0 16 16 96:90000,0:8000 7:,2:612c3a 48000 0123456789abcdef\n\
                  tick 1026037 00000000 00000000\n\
-                 configure 1026037 100 300 - -\n";
+                 configure 1026037 100 300 - - 8000 0000000000000000\n";
     assert_eq!(record, lines);
     let told = || Ok((String::new(), 0xaa));
-    let wanted = [Err(Refusal::Bandwidth), Err(Refusal::Item), told(), told(), told()];
+    let rate = || Err(Refusal::Rate);
+    let wanted = [Err(Refusal::Bandwidth), rate(), rate(), Err(Refusal::Item), told(), told(), told()];
     assert_eq!(answers, wanted);
     Ok(())
 }

@@ -2,8 +2,9 @@
 //! hand in compare/model/rows.py.
 
 use jalwedd::{
-    sys, Answer, Config, Item, ItemKind, Kind, LastBlock, Moment, NewError, Participant, Reception, Refusal,
-    RtpClock, RtpClocks, Settings, SourceState, Step, TextTooLong, Told, TooManyClocks,
+    ntp_base_of, sys, Answer, Config, Item, ItemKind, Kind, LastBlock, Moment, NewError, OwnStream,
+    Participant, Reception, Refusal, RtpClock, RtpClocks, Settings, SourceState, Step, TextTooLong, Told,
+    TooManyClocks,
 };
 use std::thread;
 use std::time::Duration;
@@ -100,7 +101,7 @@ fn a_session_that_does_not_start_at_0() {
     }
 }
 
-const USUAL: Settings = Settings { sender_bw: 100, receiver_bw: 300, clocks: RtpClocks::NONE };
+const USUAL: Settings = Settings::of(&CONFIG);
 
 fn clocks(given: &[(u8, u32)]) -> RtpClocks {
     let clocks: Vec<_> = given.iter().map(|&(payload_type, rate)| RtpClock { payload_type, rate }).collect();
@@ -132,6 +133,32 @@ fn settings_hold_from_then_on() {
     assert_eq!([10, 11, 12].map(&mut rate_after), [None, Some(90_000), Some(8000)]);
 }
 
+/// The packet with the timestamp 1000 was sent at moment 0. The reports come 1.026037 and 3.078111 seconds after that:
+/// the first tells these and 8,208 units, the second 10 seconds more and, of 48,000 a second, 147,749 units.
+#[test]
+fn a_sender_report_tells_its_moment_by_the_latest_settings() {
+    let of_sender =
+        |moment| report(&format!("80c80006000000aa{moment}00000001000000a081ca0002000000aa01016100"));
+    let mut session = begun(&[]);
+    session.sent_rtp(Moment::ZERO, 1000, 160).unwrap();
+    assert_eq!(out(session.tick(FIRST, 0, 0)), of_sender("0000000106aa5c5f000023f8"));
+    let later = Settings { rate: 48_000, ntp_base: 10 << 32, ..USUAL };
+    session.configure(FIRST, &later, &[]).unwrap();
+    assert_eq!(session.next_tick(), Some(SECOND));
+    assert_eq!(out(session.tick(SECOND, 0, 0)), of_sender("0000000d13ff151e0002450d"));
+}
+
+#[test]
+fn settings_of_a_configuration() {
+    let given = clocks(&[(96, 90_000)]);
+    let config = Config::new(1, at(2), 3).with_bandwidths(4, 5).with_rate(6).with_clocks(given);
+    let settings = Settings { sender_bw: 4, receiver_bw: 5, clocks: given, rate: 6, ntp_base: 3 };
+    assert_eq!(Settings::of(&config), settings);
+    // 6.5 s of 1900 a second and a half after the start, and 0 s a second after it
+    assert_eq!(ntp_base_of((6 << 32) + (1 << 31), at(1_500_000)), 5 << 32);
+    assert_eq!(ntp_base_of(0, at(1_000_000)), 0xffff_ffff_0000_0000);
+}
+
 #[test]
 fn settings_are_refused_as_a_configuration() {
     let mut session = begun(&[]);
@@ -140,12 +167,16 @@ fn settings_are_refused_as_a_configuration() {
     for (settings, items, refusal) in [
         (Settings { sender_bw: 15, ..slow }, &[][..], Refusal::Bandwidth),
         (slow, &[], Refusal::Rate),
+        (Settings { rate: 0, ..USUAL }, &[], Refusal::Rate),
+        (Settings { rate: (1 << 20) + 1, ..USUAL }, &[], Refusal::Rate),
         (slow, &[name; 8], Refusal::Item),
     ] {
         assert_eq!(session.configure(at(5), &settings, items), Err(refusal));
     }
     assert_eq!(session.configure(Moment::from_micros((1 << 50) + 1), &USUAL, &[]), Err(Refusal::TooFar));
-    assert!(session.configure(Moment::ZERO, &USUAL, &[name; 7]).is_ok());
+    for rate in [1, 1 << 20, 8_000] {
+        assert!(session.configure(Moment::ZERO, &Settings { rate, ..USUAL }, &[name; 7]).is_ok());
+    }
     session.leave(Moment::ZERO, 0).unwrap();
     assert_eq!(session.configure(Moment::ZERO, &USUAL, &[]), Err(Refusal::Left));
 }
@@ -346,6 +377,57 @@ fn who_is_there() {
     assert_eq!(session.sources().collect::<Vec<_>>(), [three, reported]);
     session.leave(at(2_000_000), 0).unwrap();
     assert_eq!((session.sources().next(), session.entries()), (None, 0));
+}
+
+/// Octets are modulo 2^32, two intervals of 5 seconds after its latest packet it is no sender, under another SSRC it
+/// counts anew, and from its leave on nothing is told.
+#[test]
+fn what_it_has_sent() {
+    let own = |packets, octets, is_sender| Some(OwnStream { packets, octets, is_sender });
+    let mut session = begun(&[]);
+    assert_eq!(session.own(), own(0, 0, false));
+    for (payload, sent) in [(160, own(1, 160, true)), (40, own(2, 200, true)), (u32::MAX, own(3, 199, true))]
+    {
+        session.sent_rtp(Moment::ZERO, 1000, payload).unwrap();
+        assert_eq!(session.own(), sent);
+    }
+    for (moment, is_sender) in [(FIRST, true), (at(10_000_000), true), (at(10_000_001), false)] {
+        session.tick(moment, 0, 0).unwrap();
+        assert_eq!(session.own(), own(3, 199, is_sender));
+    }
+    session.sent_rtp(at(10_000_001), 81_000, 1).unwrap();
+    assert_eq!(session.own(), own(4, 200, true));
+    let answer = session.arrive_rtcp(at(10_000_001), 1, 9, &[0x80, 0xc9, 0, 1, 0, 0, 0, 0xaa]).unwrap();
+    assert!(answer.step.changed);
+    assert_eq!(session.own(), own(0, 0, true));
+    session.leave(at(10_000_001), 0).unwrap();
+    assert_eq!(session.own(), None);
+}
+
+/// Not the packet of its probation, and not one that strays. The next one after that begins anew, and then as many were
+/// counted as before. One that comes again is counted, and one that is late.
+#[test]
+fn which_packets_are_counted() {
+    let mut session = begun(&[]);
+    let mut before: Option<SourceState> = None;
+    let sent: [(u16, bool); 8] = [
+        (10, false),
+        (11, true),
+        (0x4000, false),
+        (0x4001, true),
+        (0x4001, true),
+        (0x4003, true),
+        (0x4002, true),
+        (0x8000, false),
+    ];
+    for (sequence, is_counted) in sent {
+        let mut packet = rtp(0, 9);
+        packet[2..4].copy_from_slice(&sequence.to_be_bytes());
+        session.arrive_rtp(Moment::ZERO, 1, 0, &packet).unwrap();
+        let after = session.sources().next().unwrap();
+        assert_eq!(after.was_counted_since(before.as_ref()), is_counted, "{sequence:04x}");
+        before = Some(after);
+    }
 }
 
 /// Each call takes the participant out of its place, and puts it back.

@@ -41,8 +41,8 @@ pub use table::{Source, Table, TableChange};
 use crate::answer::{Answer, Step};
 use crate::changes::Role;
 use crate::clock::Clock;
-use crate::config::Config;
-use crate::datagram::{about, ntp_of};
+use crate::config::{Config, Item, Settings};
+use crate::datagram::{about, ntp_of, Report};
 use crate::errors::Refusal;
 use crate::head::rtp_head;
 use crate::moment::{rtp_at, Moment};
@@ -63,6 +63,9 @@ use system::{Arrival, Sockets};
 const LARGEST_RTCP: usize = 1_500;
 
 const SECOND: Duration = Duration::from_secs(1);
+
+/// How long blocks may come about sender reports from before a change of the clock.
+const FORMER_TIME: Duration = Duration::from_secs(600);
 
 /// How long a host waits at most while it has to look at a flag.
 const GLANCE: Duration = Duration::from_millis(100);
@@ -115,7 +118,11 @@ pub enum Event {
 #[must_use = "a host does nothing unless its events are asked for"]
 pub struct Host {
     session: Participant,
+    /// What it began with.
     config: Config,
+    /// What holds now.
+    in_force: Settings,
+    former: Former,
     /// The random word that the participant began with.
     word: u32,
     record: Option<Record>,
@@ -153,6 +160,8 @@ impl Host {
         Ok(Host {
             session,
             config,
+            in_force: Settings::of(&config),
+            former: Former::default(),
             word,
             record: None,
             clock,
@@ -183,6 +192,52 @@ impl Host {
         &self.session
     }
 
+    /// The present moment by the host's clock, which counts from the start. It is not before that of the latest call.
+    #[must_use]
+    pub fn now(&self) -> Moment {
+        self.latest.max(self.clock.now())
+    }
+
+    /// The settings of the session as they are now.
+    #[must_use]
+    pub fn settings(&self) -> Settings {
+        self.in_force
+    }
+
+    /// Gives the session these settings now, and these items, at most 7, besides the CNAME: all of them, as
+    /// [`Participant::configure`] does. From then on packets, jitter and round trips go by them.
+    ///
+    /// After the clock of the day was set, for example, where `time_of_day` is what it shows now as an NTP timestamp:
+    ///
+    /// ```
+    /// # use jalwedd::host::Host;
+    /// # use jalwedd::{ntp_base_of, Item, Refusal, Settings};
+    /// fn set_clock(host: &mut Host, time_of_day: u64, items: &[Item]) -> Result<(), Refusal> {
+    ///     let ntp_base = ntp_base_of(time_of_day, host.now());
+    ///     host.configure(&Settings { ntp_base, ..host.settings() }, items)
+    /// }
+    /// ```
+    ///
+    /// By another [`ntp_base`](Settings::ntp_base), a block about a sender report from before would tell a round trip
+    /// that is wrong by as much. So for ten minutes the [`lsr`](Report::lsr) of a block is taken as 0, which tells
+    /// none, unless it lies between the change and the arrival of the block. If the clock was set back, by less than
+    /// twenty minutes, none is told until it has come to where it was.
+    ///
+    /// # Errors
+    ///
+    /// Those of [`Participant::configure`], and then nothing changed; [`Refusal::Left`] also while it waits for its
+    /// BYE.
+    pub fn configure(&mut self, settings: &Settings, items: &[Item]) -> Result<(), Refusal> {
+        if self.end.is_some() {
+            return Err(Refusal::Left);
+        }
+        let now = self.at(self.clock.now());
+        self.make(Call::Configure { now, settings, items })?;
+        self.former.set_clock(now, self.in_force.ntp_base, settings.ntp_base);
+        self.in_force = *settings;
+        Ok(())
+    }
+
     /// Sends an RTP packet with this payload under the own SSRC. Its timestamp is that of the moment `sampled`, such
     /// as that of [`Event::Media`].
     ///
@@ -208,7 +263,7 @@ impl Host {
         self.sequence = self.sequence.wrapping_add(1);
         self.sockets.send_rtp(&packet)?;
         let now = self.at(self.clock.now());
-        let timestamp = rtp_at(timestamp, sampled, now, self.config.rate);
+        let timestamp = rtp_at(timestamp, sampled, now, self.in_force.rate);
         let _ = self.make(Call::SentRtp { now, timestamp, payload: payload.len() as u32 });
         Ok(())
     }
@@ -233,7 +288,7 @@ impl Host {
         self.record = Some(Box::new(record));
     }
 
-    /// The command that plays the recorded calls again.
+    /// The command that plays the recorded calls again, by what the session began with.
     ///
     /// # Errors
     ///
@@ -362,9 +417,11 @@ impl Host {
     fn took_rtcp(&mut self, now: Moment, own: u32, arrival: Arrival) {
         let _ = self.table.take_items(arrival.from, &arrival.datagram);
         self.tell_changes();
-        let ntp = ntp_of(self.clock.ntp_base(), now);
+        let Settings { ntp_base, rate, .. } = self.in_force;
+        let ntp = ntp_of(ntp_base, now);
         for report in about(&arrival.datagram, own).into_iter().flatten() {
-            if let Some(source) = self.table.take_report(&report, ntp, self.config.rate) {
+            let report = self.former.told(now, ntp, report);
+            if let Some(source) = self.table.take_report(&report, ntp, rate) {
                 self.events.push_back(Event::Reported(Box::new(source.clone())));
             }
         }
@@ -389,6 +446,51 @@ impl Host {
                 _ => Event::RoleChanged(source),
             });
         }
+    }
+}
+
+/// What tells of a block that it may be about a sender report from before another `ntp_base`.
+#[derive(Clone, Copy, Debug, Default)]
+struct Former {
+    /// Until when such blocks may come.
+    until: Moment,
+    /// The `lsr` of such a block is no later than this one.
+    lsr: u32,
+}
+
+impl Former {
+    /// Notes that sender reports go by another `ntp_base` from `now` on. The `lsr` of one from before is no later than
+    /// `now` by the former base, and that of a later one no earlier than `now` by the new base.
+    fn set_clock(&mut self, now: Moment, before: u64, after: u64) {
+        if before == after {
+            return;
+        }
+        let last = later(middle(ntp_of(before, now)), middle(ntp_of(after, now)).wrapping_sub(1));
+        self.lsr = if now < self.until { later(self.lsr, last) } else { last };
+        self.until = now + FORMER_TIME;
+    }
+
+    /// A block that came at the moment `now`, which is `arrival` as an NTP timestamp, as it is taken.
+    fn told(&self, now: Moment, arrival: u64, report: Report) -> Report {
+        let arrival = middle(arrival);
+        let since = arrival.wrapping_sub(self.lsr); // 2^31 or more if that lies before it
+        let is_former = now < self.until && (since >> 31 != 0 || arrival.wrapping_sub(report.lsr) >= since);
+        Report { lsr: if is_former { 0 } else { report.lsr }, ..report }
+    }
+}
+
+/// The middle 32 bits of an NTP timestamp.
+fn middle(ntp: u64) -> u32 {
+    (ntp >> 16) as u32
+}
+
+/// The first of two such moments, modulo 2^32, if it lies after the second by less than twenty minutes, otherwise the
+/// second. So nothing that lies up to ten minutes before the first lies within ten minutes after the result.
+fn later(one: u32, other: u32) -> u32 {
+    if one.wrapping_sub(other) < 1_200 << 16 {
+        one
+    } else {
+        other
     }
 }
 
@@ -427,5 +529,85 @@ impl Iterator for Host {
 impl fmt::Debug for Host {
     fn fmt(&self, to: &mut fmt::Formatter<'_>) -> fmt::Result {
         to.debug_struct("Host").field("session", &self.session).finish_non_exhaustive()
+    }
+}
+
+#[cfg(test)]
+mod tests {
+    use super::*;
+
+    /// The start is 10,000 s of 1900, and at its 100th second the clock is set by so many seconds.
+    fn set(by: i64) -> Former {
+        let mut former = Former::default();
+        former.set_clock(seconds(100), ntp(10_000), ntp(10_000 + by));
+        former
+    }
+
+    fn seconds(since_start: u64) -> Moment {
+        Moment::from_micros(since_start * 1_000_000)
+    }
+
+    fn ntp(seconds: i64) -> u64 {
+        (seconds as u64) << 32
+    }
+
+    /// Whether blocks tell none of these `lsr`, or all of them, by the seconds since the start, of the arrival, and of
+    /// each: `None` if it is neither.
+    fn tells(former: Former, since_start: u64, arrival: i64, lsrs: &[i64]) -> Option<bool> {
+        let is_told = |lsr: i64| {
+            let (lsr, dlsr) = (middle(ntp(lsr)), 9);
+            let report =
+                Report { reporter: 7, ssrc: 0xaa, fraction: 1, lost: 2, highest: 3, jitter: 4, lsr, dlsr };
+            let told = former.told(seconds(since_start), ntp(arrival), report);
+            assert!(told == report || told == Report { lsr: 0, ..report });
+            told == report
+        };
+        let first = is_told(lsrs[0]);
+        lsrs.iter().all(|lsr| is_told(*lsr) == first).then_some(first)
+    }
+
+    #[test]
+    fn a_clock_that_was_not_set() {
+        assert_eq!(tells(Former::default(), 5, 10_005, &[9_999, 10_100]), Some(true));
+        assert_eq!(tells(set(0), 105, 10_105, &[10_099, 10_200]), Some(true));
+    }
+
+    /// From 10,100 s to 10,160 s.
+    #[test]
+    fn a_clock_that_was_set_ahead() {
+        let former = set(60);
+        assert_eq!(tells(former, 105, 10_165, &[10_095, 10_100]), Some(false), "of before");
+        assert_eq!(tells(former, 105, 10_165, &[10_160, 10_165]), Some(true), "of after");
+        assert_eq!(tells(former, 105, 10_165, &[10_159, 10_166]), Some(false), "of neither");
+        assert_eq!(tells(former, 699, 10_759, &[10_095]), Some(false), "within ten minutes");
+        assert_eq!(tells(former, 700, 10_760, &[10_095]), Some(true), "ten minutes later");
+        // 3 times 2^16 seconds more: the middle 32 bits are the same
+        let far = set(3 * 65_536 + 60);
+        assert_eq!(tells(far, 105, 10_165, &[10_095, 10_100, 10_159, 10_166]), Some(false));
+        assert_eq!(tells(far, 105, 10_165, &[10_160, 10_165]), Some(true));
+    }
+
+    /// From 10,100 s to 10,040 s, and to 6,500 s.
+    #[test]
+    fn a_clock_that_was_set_back() {
+        let former = set(-60);
+        assert_eq!(tells(former, 105, 10_045, &[10_095, 10_042]), Some(false), "before it was there again");
+        assert_eq!(tells(former, 165, 10_105, &[10_095, 10_100, 10_070]), Some(false), "of before");
+        assert_eq!(tells(former, 165, 10_105, &[10_101, 10_105]), Some(true), "of after");
+        let far = set(-3_600);
+        assert_eq!(tells(far, 105, 6_505, &[10_095, 10_100, 6_499]), Some(false), "of before, or of neither");
+        assert_eq!(tells(far, 699, 7_099, &[9_500]), Some(false), "ten minutes before");
+        assert_eq!(tells(far, 105, 6_505, &[6_500, 6_505]), Some(true), "of after");
+    }
+
+    /// From 10,100 s to 10,040 s, and five seconds later from 10,045 s to 10,050 s.
+    #[test]
+    fn a_clock_that_was_set_twice() {
+        let mut former = set(-60);
+        former.set_clock(seconds(105), ntp(9_940), ntp(9_945));
+        assert_eq!(tells(former, 165, 10_110, &[10_100, 10_044]), Some(false), "of before");
+        assert_eq!(tells(former, 165, 10_110, &[10_105]), Some(true), "of after");
+        assert_eq!(tells(former, 704, 10_649, &[10_100]), Some(false), "within ten minutes");
+        assert_eq!(tells(former, 705, 10_650, &[10_100]), Some(true), "ten minutes later");
     }
 }
