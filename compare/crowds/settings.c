@@ -15,7 +15,7 @@ enum {
     DELAY = 100000,                     /* microseconds until a compound comes to the others */
     TOLD_WITHIN = 10 * SECOND,          /* the participants are told of other settings in turn, in this time */
     RAISED = 600, LOWERED = 1200, END = 1800,       /* seconds since all joined */
-    SENDER_BW = 100, RECEIVER_BW = 300, TIMES = 10,
+    SENDER_BW = 100, RECEIVER_BW = 300, TIMES = 10, RATE = 8000,
     LEAST_SIZE = 28 + 20,               /* of a report without blocks, and a CNAME of one octet, with headers */
     MOST_SENT = 100000,
     MOST_OCTETS = 1472
@@ -62,7 +62,7 @@ static void stop(const char *why, uint32_t status)
 static void begin(struct participant *who, uint32_t ssrc)
 {
     const jalwedd_config config = {.ssrc = ssrc, .capacity = 1024, .limit = MOST_OCTETS, .sender_bw = SENDER_BW,
-                                   .receiver_bw = RECEIVER_BW, .rate = 8000};
+                                   .receiver_bw = RECEIVER_BW, .rate = RATE};
     const jalwedd_item none = {0};
     const uint32_t status = jalwedd_new(&who->session, &config, (const uint8_t *)"a", 1, &none, 0, random_word(),
                                         &who->step);
@@ -84,7 +84,8 @@ static void counted(struct participant *who)
 static void configure(struct participant *who, uint64_t now, uint32_t times)
 {
     uint8_t octets[JALWEDD_OCTETS];
-    const jalwedd_settings settings = {.sender_bw = times * SENDER_BW, .receiver_bw = times * RECEIVER_BW};
+    const jalwedd_settings settings = {.sender_bw = times * SENDER_BW, .receiver_bw = times * RECEIVER_BW,
+                                       .rate = RATE};
     const jalwedd_item none = {0};
     const uint32_t status = jalwedd_configure(&who->session, now, &settings, &none, 0, &who->step, octets);
     if (status != JALWEDD_TAKEN)

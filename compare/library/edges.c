@@ -1,6 +1,6 @@
 /* Edge cases of the library's calls: empty and freed handles, lengths of 0 and of 65,535, impossible sizes, memory that
- * is refused, and the state after a refused call. Ends with 0, or prints the line of the test that fails.
- * (compare/library/embedding) */
+ * is refused, and the state after a refused call; other settings, what is told of the own stream, and the functions of
+ * the header that are inline. Ends with 0, or prints the line of the test that fails. (compare/library/embedding) */
 #define _GNU_SOURCE
 #include "jalwedd.h"
 
@@ -56,7 +56,8 @@ static const jalwedd_config CONFIG = {.ssrc = 0xaa, .capacity = 1024, .limit = 1
 /* an RR of 7 without blocks, and its SDES with the CNAME "a" */
 static const uint8_t OF_SEVEN[] = {0x80, 0xc9, 0, 1, 0, 0, 0, 7, 0x81, 0xca, 0, 2, 0, 0, 0, 7, 1, 1, 0x61, 0};
 
-static const jalwedd_settings SETTINGS = {.sender_bw = 100, .receiver_bw = 300};
+/* the settings of CONFIG */
+static const jalwedd_settings SETTINGS = {.sender_bw = 100, .receiver_bw = 300, .rate = 8000};
 
 static const jalwedd_item NAMES[8] = {{2, 1, "n"}, {2, 1, "n"}, {2, 1, "n"}, {2, 1, "n"},
                                       {2, 1, "n"}, {2, 1, "n"}, {2, 1, "n"}, {2, 1, "n"}};
@@ -67,11 +68,20 @@ static int is_blank(const jalwedd_step *step)
     return memcmp(step, &blank, sizeof blank) == 0;
 }
 
+/* What jalwedd_own did not write. */
+static const jalwedd_own_stream UNTOLD = {99, 99, 99};
+
+static int is_own(const jalwedd_own_stream *own, uint32_t packets, uint32_t octets, uint32_t sends)
+{
+    return own->packets == packets && own->octets == octets && own->sends == sends;
+}
+
 static int empty(void)
 {
     jalwedd_handle handle = JALWEDD_EMPTY;
     jalwedd_step step;
     jalwedd_source_state source = {.ssrc = 99};
+    jalwedd_own_stream own = UNTOLD;
     uint8_t octets[JALWEDD_OCTETS] = {0};
     HOLDS(jalwedd_arrive_rtcp(&handle, 0, 1, 0, OF_SEVEN, sizeof OF_SEVEN, &step, octets) == JALWEDD_IS_EMPTY);
     HOLDS(is_blank(&step));
@@ -83,6 +93,7 @@ static int empty(void)
     HOLDS(jalwedd_leave(&handle, 0, 0, &step, octets) == JALWEDD_IS_EMPTY);
     HOLDS(jalwedd_members(&handle) == 0 && jalwedd_senders(&handle) == 0 && jalwedd_ssrc(&handle) == 0);
     HOLDS(jalwedd_source(&handle, 0, &source) == JALWEDD_NO_SOURCE && source.ssrc == 99);
+    HOLDS(jalwedd_own(&handle, &own) == JALWEDD_IS_EMPTY && is_own(&own, 99, 99, 99));
     HOLDS(jalwedd_entries(&handle) == 0);
     HOLDS(jalwedd_next(&handle) == JALWEDD_NEVER);
     HOLDS(jalwedd_free(&handle) == JALWEDD_IS_EMPTY && handle.at == NULL);
@@ -155,6 +166,96 @@ static int settings(void)
     other.sender_bw = 15;
     HOLDS(jalwedd_configure(&handle, 5, &other, NAMES, 0, &step, octets) == JALWEDD_BANDWIDTH);
     HOLDS(step.next == 1026037 && step.kind == 0 && octets[0] == 0x5a);
+    HOLDS(jalwedd_free(&handle) == JALWEDD_TAKEN);
+    return 0;
+}
+
+/* The rate of settings: 1 to 2^20. It comes after the bandwidths and before the items, as in a configuration. */
+static int rates(void)
+{
+    static const jalwedd_item wrong = {9, 0, ""};
+    static const uint32_t none[] = {0, (1 << 20) + 1, UINT32_MAX}, some[] = {1, 1 << 20};
+    jalwedd_handle handle = JALWEDD_EMPTY;
+    jalwedd_settings other = SETTINGS;
+    jalwedd_step step;
+    uint8_t octets[JALWEDD_OCTETS] = {0x5a};
+    const uint64_t too_far = ((uint64_t)1 << 50) + 1;
+    HOLDS(jalwedd_new(&handle, &CONFIG, OF_SEVEN + 18, 1, NAMES, 0, 0, &step) == JALWEDD_TAKEN);
+    for (size_t at = 0; at < 3; at++) {
+        other.rate = none[at];
+        HOLDS(jalwedd_configure(&handle, 5, &other, &wrong, 1, &step, octets) == JALWEDD_RATE);
+        HOLDS(strcmp(jalwedd_clocks_text(other.clock_count, other.clocks), "the rate is out of range 1 to 2^20") == 0);
+        HOLDS(jalwedd_configure(&handle, too_far, &other, &wrong, 1, &step, octets) == JALWEDD_TOO_FAR);
+        other.receiver_bw = 15;
+        HOLDS(jalwedd_configure(&handle, 5, &other, &wrong, 1, &step, octets) == JALWEDD_BANDWIDTH);
+        other.receiver_bw = 300;
+    }
+    for (size_t at = 0; at < 2; at++) {
+        other.rate = some[at];
+        HOLDS(jalwedd_configure(&handle, 5, &other, &wrong, 1, &step, octets) == JALWEDD_ITEM);
+        /* at moment 0, as none of those before was taken */
+        HOLDS(jalwedd_configure(&handle, 0, &other, NAMES, 0, &step, octets) == JALWEDD_TAKEN);
+    }
+    HOLDS(step.next == 1026037 && step.members == 1 && step.kind == 0 && octets[0] == 0x5a);
+    HOLDS(jalwedd_free(&handle) == JALWEDD_TAKEN);
+    return 0;
+}
+
+/* A sender report tells its moment by the latest settings. The packet with the timestamp 1000 was sent at moment 0, and
+ * the reports come 1.026037 and 3.078111 seconds after that. By the configuration the start is 0 s of 1900, and to the
+ * first report it is 8,208 units. By the settings that follow the start is 10 s of 1900, and to the second report it is
+ * 147,749 units, of 48,000 a second. */
+static int told_anew(void)
+{
+    jalwedd_handle handle = JALWEDD_EMPTY;
+    jalwedd_settings other = jalwedd_settings_of(&CONFIG);
+    jalwedd_step step;
+    jalwedd_sender_info sender;
+    uint8_t octets[JALWEDD_OCTETS] = {0};
+    HOLDS(jalwedd_new(&handle, &CONFIG, OF_SEVEN + 18, 1, NAMES, 0, 0, &step) == JALWEDD_TAKEN);
+    HOLDS(jalwedd_sent_rtp(&handle, 0, 1000, 160, &step, octets) == JALWEDD_TAKEN);
+    HOLDS(jalwedd_tick(&handle, 1026037, 0, 0, &step, octets) == JALWEDD_TAKEN && step.kind == JALWEDD_REPORT);
+    HOLDS(jalwedd_sender(octets, step.size, 0, &sender) == JALWEDD_TAKEN && sender.packets == 1);
+    HOLDS(sender.ntp == 0x0000000106aa5c5f && sender.rtp == 9208);
+    other.rate = 48000;
+    other.ntp_base = 10ull << 32;
+    HOLDS(jalwedd_configure(&handle, 1026037, &other, NAMES, 0, &step, octets) == JALWEDD_TAKEN);
+    HOLDS(step.next == 3078111 && step.senders == 1);
+    HOLDS(jalwedd_tick(&handle, 3078111, 0, 0, &step, octets) == JALWEDD_TAKEN && step.kind == JALWEDD_REPORT);
+    HOLDS(jalwedd_sender(octets, step.size, 0, &sender) == JALWEDD_TAKEN && sender.octets == 160);
+    HOLDS(sender.ntp == 0x0000000d13ff151e && sender.rtp == 148749);
+    HOLDS(jalwedd_free(&handle) == JALWEDD_TAKEN);
+    return 0;
+}
+
+/* What the participant has sent: octets are modulo 2^32, two intervals of 5 seconds after its latest packet it is no
+ * sender, under another SSRC it counts anew, and from its leave on nothing is told. */
+static int own_stream(void)
+{
+    static const uint8_t of_own[] = {0x80, 0xc9, 0, 1, 0, 0, 0, 0xaa};
+    jalwedd_handle handle = JALWEDD_EMPTY;
+    jalwedd_step step;
+    jalwedd_own_stream own = UNTOLD;
+    uint8_t octets[JALWEDD_OCTETS] = {0};
+    HOLDS(jalwedd_new(&handle, &CONFIG, OF_SEVEN + 18, 1, NAMES, 0, 0, &step) == JALWEDD_TAKEN);
+    HOLDS(jalwedd_own(&handle, &own) == JALWEDD_TAKEN && is_own(&own, 0, 0, 0));
+    HOLDS(jalwedd_sent_rtp(&handle, 0, 1000, 160, &step, octets) == JALWEDD_TAKEN);
+    HOLDS(jalwedd_own(&handle, &own) == JALWEDD_TAKEN && is_own(&own, 1, 160, 1));
+    HOLDS(jalwedd_sent_rtp(&handle, 0, 1160, 40, &step, octets) == JALWEDD_TAKEN);
+    HOLDS(jalwedd_own(&handle, &own) == JALWEDD_TAKEN && is_own(&own, 2, 200, 1));
+    HOLDS(jalwedd_sent_rtp(&handle, 0, 1200, UINT32_MAX, &step, octets) == JALWEDD_TAKEN);
+    HOLDS(jalwedd_tick(&handle, 1026037, 0, 0, &step, octets) == JALWEDD_TAKEN && step.kind == JALWEDD_REPORT);
+    HOLDS(jalwedd_tick(&handle, 10000000, 0, 0, &step, octets) == JALWEDD_TAKEN);
+    HOLDS(jalwedd_own(&handle, &own) == JALWEDD_TAKEN && is_own(&own, 3, 199, 1));
+    HOLDS(jalwedd_tick(&handle, 10000001, 0, 0, &step, octets) == JALWEDD_TAKEN && step.senders == 0);
+    HOLDS(jalwedd_own(&handle, &own) == JALWEDD_TAKEN && is_own(&own, 3, 199, 0));
+    HOLDS(jalwedd_sent_rtp(&handle, 10000001, 81200, 0, &step, octets) == JALWEDD_TAKEN);
+    HOLDS(jalwedd_own(&handle, &own) == JALWEDD_TAKEN && is_own(&own, 4, 199, 1));
+    HOLDS(jalwedd_arrive_rtcp(&handle, 10000001, 1, 9, of_own, sizeof of_own, &step, octets) == JALWEDD_TAKEN);
+    HOLDS(step.changed == 1 && jalwedd_own(&handle, &own) == JALWEDD_TAKEN && is_own(&own, 0, 0, 1));
+    own = UNTOLD;
+    HOLDS(jalwedd_leave(&handle, 10000001, 0, &step, octets) == JALWEDD_TAKEN);
+    HOLDS(jalwedd_own(&handle, &own) == JALWEDD_LEFT && is_own(&own, 99, 99, 99));
     HOLDS(jalwedd_free(&handle) == JALWEDD_TAKEN);
     return 0;
 }
@@ -470,6 +571,69 @@ static int source_states(void)
     return 0;
 }
 
+/* Which packets of a source are counted: not the one of its probation, and not one that strays. The next one after that
+ * begins anew, and then as many were counted as before. One that comes again is counted, and one that is late. */
+static int counted(void)
+{
+    static const struct {
+        uint16_t sequence, received;
+        uint32_t is_counted;
+    } packets[] = {{10, 0, 0}, {11, 1, 1}, {0x4000, 1, 0}, {0x4001, 1, 1}, {0x4001, 2, 1}, {0x4003, 3, 1},
+                   {0x4002, 4, 1}, {0x8000, 4, 0}};
+    jalwedd_handle handle = JALWEDD_EMPTY;
+    jalwedd_source_state before = {0}, after;
+    jalwedd_step step;
+    uint8_t octets[JALWEDD_OCTETS] = {0}, datagram[17];
+    HOLDS(jalwedd_new(&handle, &CONFIG, OF_SEVEN + 18, 1, NAMES, 0, 0, &step) == JALWEDD_TAKEN);
+    for (size_t at = 0; at < sizeof packets / sizeof *packets; at++) {
+        const size_t size = packet(datagram, packets[at].sequence & 255, 0);
+        datagram[2] = packets[at].sequence >> 8;
+        HOLDS(jalwedd_arrive_rtp(&handle, 0, 1, 0, datagram, size, &step, octets) == JALWEDD_TAKEN);
+        HOLDS(jalwedd_source(&handle, 9, &after) == JALWEDD_TAKEN && after.ssrc == 9);
+        HOLDS(after.received == packets[at].received);
+        HOLDS(jalwedd_was_counted(&before, &after) == packets[at].is_counted);
+        before = after;
+    }
+    HOLDS(jalwedd_free(&handle) == JALWEDD_TAKEN);
+    return 0;
+}
+
+/* Settings and an own stream have no room between their fields. */
+static int layouts(void)
+{
+    HOLDS(sizeof(jalwedd_settings) == 152 && offsetof(jalwedd_settings, clocks) == 12);
+    HOLDS(offsetof(jalwedd_settings, rate) == 140 && offsetof(jalwedd_settings, ntp_base) == 144);
+    HOLDS(sizeof(jalwedd_own_stream) == 12 && offsetof(jalwedd_own_stream, packets) == 0);
+    HOLDS(offsetof(jalwedd_own_stream, octets) == 4 && offsetof(jalwedd_own_stream, sends) == 8);
+    return 0;
+}
+
+/* All of a configuration that settings have, the clocks that do not count too. */
+static int settings_of(void)
+{
+    jalwedd_config config = {.ntp_base = 0x0123456789abcdef, .start = 1, .ssrc = 2, .capacity = 3, .limit = 4,
+                             .sender_bw = 5, .receiver_bw = 6, .rate = 7, .clock_count = 2, .reserved = 8};
+    for (uint32_t at = 0; at < 16; at++)
+        config.clocks[at] = (jalwedd_clock){100 + at, 1000 + at};
+    const jalwedd_settings settings = jalwedd_settings_of(&config);
+    HOLDS(settings.sender_bw == 5 && settings.receiver_bw == 6 && settings.rate == 7);
+    HOLDS(settings.clock_count == 2 && memcmp(settings.clocks, config.clocks, sizeof config.clocks) == 0);
+    HOLDS(settings.ntp_base == 0x0123456789abcdef);
+    return 0;
+}
+
+/* The start, where a second and a half after it is 6.5 s of 1900, and where a second after it is 0 s: the last second
+ * before these begin again. 15 microseconds are 64,424.5 units of 2^-32 s, of which an NTP timestamp has 64,424. */
+static int ntp_bases(void)
+{
+    HOLDS(jalwedd_ntp_base((6ull << 32) + (1ull << 31), 1500000) == 5ull << 32);
+    HOLDS(jalwedd_ntp_base(0, 1000000) == 0xffffffff00000000);
+    HOLDS(jalwedd_ntp_base(0x0123456789abcdef, 0) == 0x0123456789abcdef);
+    HOLDS(jalwedd_ntp_base(64425, 15) == 1 && jalwedd_ntp_of(1, 15) == 64425);
+    HOLDS(jalwedd_ntp_of(jalwedd_ntp_base(7, UINT64_MAX), UINT64_MAX) == 7);
+    return 0;
+}
+
 enum { BOTH = 7 };
 
 static jalwedd_source_state listed(uint32_t ssrc, uint32_t member, uint32_t sender, uint64_t left)
@@ -562,6 +726,7 @@ static int memory(void)
 
 int main(void)
 {
-    return empty() || begun() || settings() || forgotten() || lengths() || sizes() || reports() || parts() || apps()
-           || heads() || no_parts() || sources() || source_states() || changes() || listings() || memory();
+    return empty() || begun() || settings() || rates() || told_anew() || own_stream() || forgotten() || lengths()
+           || sizes() || reports() || parts() || apps() || heads() || no_parts() || sources() || source_states()
+           || counted() || layouts() || settings_of() || ntp_bases() || changes() || listings() || memory();
 }

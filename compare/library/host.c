@@ -151,7 +151,7 @@ static void write_answer(uint32_t status, const jalwedd_step *step, const uint8_
 static uint32_t call_of(uint64_t kind, jalwedd_handle *session, uint64_t now, jalwedd_step *step, uint8_t *octets)
 {
     static const uint8_t report[] = {0x80, 0xc9, 0, 1, 0, 0, 0, 7}, packet[12] = {0x80, 0, 0, 1};
-    static const jalwedd_settings settings = {.sender_bw = 1 << 20, .receiver_bw = 16};
+    static const jalwedd_settings settings = {.sender_bw = 1 << 20, .receiver_bw = 16, .rate = 1, .ntp_base = 7};
     static const jalwedd_item no_item;
     switch (kind % 7) {
     case 0:
@@ -215,7 +215,9 @@ static uint64_t random_word(void)
 static uint32_t configure(jalwedd_handle *session, uint64_t now, char **fields, jalwedd_step *step, uint8_t *octets)
 {
     jalwedd_settings settings = {.sender_bw = (uint32_t)strtoul(fields[2], NULL, 10),
-                                 .receiver_bw = (uint32_t)strtoul(fields[3], NULL, 10)};
+                                 .receiver_bw = (uint32_t)strtoul(fields[3], NULL, 10),
+                                 .rate = (uint32_t)strtoul(fields[6], NULL, 10),
+                                 .ntp_base = strtoull(fields[7], NULL, 16)};
     jalwedd_item items[MOST_ITEMS];
     settings.clock_count = read_clocks(fields[4], settings.clocks);
     const size_t item_count = read_items(fields[5], items);
@@ -223,7 +225,7 @@ static uint32_t configure(jalwedd_handle *session, uint64_t now, char **fields, 
     return jalwedd_configure(session, now, &settings, items, item_count, step, octets);
 }
 
-/* Tells the participant the event of a line, of at most six fields. */
+/* Tells the participant the event of a line, of at most eight fields. */
 static void tell(jalwedd_handle *session, char **fields)
 {
     static uint8_t octets[JALWEDD_OCTETS];
@@ -334,9 +336,9 @@ int main(int count, char **words)
     write_counts("start", &step);
     end_answer(&session, &step);
     while (fgets(line, sizeof line, stdin) != NULL) {
-        char *fields[6] = {"", "", "", "", "", ""};
+        char *fields[8] = {"", "", "", "", "", "", "", ""};
         size_t field = 0;
-        for (char *word = strtok(line, " \n"); word != NULL && field < 6; word = strtok(NULL, " \n"))
+        for (char *word = strtok(line, " \n"); word != NULL && field < 8; word = strtok(NULL, " \n"))
             fields[field++] = word;
         tell(&session, fields);
     }

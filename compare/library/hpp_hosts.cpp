@@ -1,6 +1,6 @@
 /* Tests the classes of jalwedd_host.hpp: sockets that are moved, the numbers of peers, a table that is fed by hand, and
- * two hosts that talk on loopback: what they are called for, what they refuse, and, with exceptions, that one passes
- * through the loop. Ends with 0, or prints the line of the test that fails. (package/compile)
+ * two hosts that talk on loopback: what they are called for, what they refuse, other settings, and, with exceptions,
+ * that one passes through the loop. Ends with 0, or prints the line of the test that fails. (package/compile)
  * usage: hpp_hosts SAMPLES        which are not read; ports 6870 to 6875 of 127.0.0.1 */
 #include <jalwedd_host.hpp>
 
@@ -102,6 +102,7 @@ static int refused()
     HOLDS(one.open("127.0.0.1", PORT) && !two.open("127.0.0.1", PORT));
     HOLDS(two.state().rtp == -1 && two.state().rtcp == -1);
     HOLDS(none.join() == JALWEDD_CAPACITY && none.next() == JALWEDD_NEVER);
+    HOLDS(none.configure(jalwedd_settings_of(&none.state().config)) == JALWEDD_IS_EMPTY);
     counting unnamed("", 64'000, 8'000, rows);
     HOLDS(unnamed.serve() == JALWEDD_CNAME);
     return 0;
@@ -118,6 +119,19 @@ static void serve(counting& one, counting& two, int seconds)
     }
 }
 
+/* Settings that are taken are in its configuration, and those that are refused are not. */
+static int configured(counting& host)
+{
+    jalwedd_settings settings = jalwedd_settings_of(&host.state().config);
+    settings.rate = 48'000;
+    settings.ntp_base++;
+    HOLDS(host.configure(settings) == JALWEDD_TAKEN && host.state().config.rate == 48'000);
+    HOLDS(host.state().config.ntp_base == settings.ntp_base && host.state().config.sender_bw == 100);
+    settings.rate = 0;
+    HOLDS(host.configure(settings) == JALWEDD_RATE && host.state().config.rate == 48'000);
+    return 0;
+}
+
 static int talking()
 {
     std::array<jalwedd_row, 4> of_one, of_two;
@@ -127,10 +141,12 @@ static int talking()
     serve(one, two, 1);
     HOLDS(one.joins == 1 && two.joins == 1 && one.packets >= 40 && two.packets >= 40);
     HOLDS(one.rows_in_use().size() == 1 && one.rows_in_use().begin()->ssrc == two.state().step.ssrc);
+    PASSES(configured(one));
     two.leave();
     HOLDS(two.next() == 0);
     two.turn();
     HOLDS(two.next() == JALWEDD_NEVER);
+    HOLDS(two.configure(jalwedd_settings_of(&two.state().config)) == JALWEDD_LEFT);
     one.turn();
     HOLDS(one.goodbyes == 1 && one.compounds >= 1 && one.refusals == 0 && two.refusals == 0);
     HOLDS(!two.send(jalwedd_now(), 0, 0, 0, "four", 4));

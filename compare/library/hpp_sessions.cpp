@@ -2,7 +2,8 @@
  * - one that is moved, by construction, by assignment, to itself and in containers, answers on and leaves an empty one,
  *   and each block of memory is given back once;
  * - its calls answer the samples as the calls of jalwedd.h answer them for a handle, while it is moved again and again,
- *   and its ranges give the sources, and what changed of them, as the loops over jalwedd_source and jalwedd_change do.
+ *   and its ranges give the sources, and what changed of them, as the loops over jalwedd_source and jalwedd_change do;
+ * - settings, a clock that is set, and what is told of the own stream are as worked out by hand.
  * Ends with 0, or prints the line of the test that fails. (package/compile)
  * usage: hpp_sessions SAMPLES        the folder samples/ */
 #include "hpp_tests.hpp"
@@ -108,6 +109,7 @@ static int empty()
     participant none;
     jalwedd_step step{};
     jalwedd_source_state source{};
+    jalwedd_own_stream own{9, 9, 9};
     std::uint8_t out[JALWEDD_OCTETS];
     const std::uint8_t octet = 0;
     HOLDS(none.is_empty() && none.free() == JALWEDD_IS_EMPTY);
@@ -118,6 +120,7 @@ static int empty()
     HOLDS(none.configure(0, {}, step, out) == JALWEDD_IS_EMPTY && none.forget(0, 7, step, out) == JALWEDD_IS_EMPTY);
     HOLDS(none.members() == 0 && none.senders() == 0 && none.ssrc() == 0 && none.entries() == 0);
     HOLDS(none.next() == JALWEDD_NEVER && none.source(0, source) == JALWEDD_NO_SOURCE);
+    HOLDS(none.own(own) == JALWEDD_IS_EMPTY && same(own, jalwedd_own_stream{9, 9, 9}));
     HOLDS(none.sources().begin() == none.sources().end() && none.sources().status() == JALWEDD_NO_SOURCE);
     return 0;
 }
@@ -256,10 +259,15 @@ static int settled()
     participant session = made(9);
     jalwedd_step step;
     std::uint8_t out[JALWEDD_OCTETS];
-    const jalwedd_settings narrow{16, 16, 1, {{96, 90000}}}, wrong{100, 15, 0, {}};
+    jalwedd_settings narrow = jalwedd_settings_of(&CONFIG), wrong = narrow, still = narrow;
     const std::vector<jalwedd_item> items(8, *jalwedd::item(2, "n"));
+    narrow.sender_bw = narrow.receiver_bw = 16;
+    narrow.clock_count = 1, narrow.clocks[0] = {96, 90000};
+    wrong.receiver_bw = 15;
+    still.rate = 0;
     HOLDS(session.configure(START - 1, narrow, step, out) == JALWEDD_BACKWARDS);
     HOLDS(session.configure(START, wrong, step, out) == JALWEDD_BANDWIDTH);
+    HOLDS(session.configure(START, still, step, out) == JALWEDD_RATE);
     HOLDS(session.configure(START, narrow, items.data(), 8, step, out) == JALWEDD_ITEM);
     HOLDS(session.configure(START, narrow, items.data(), 7, step, out) == JALWEDD_TAKEN && step.next == FIRST);
     HOLDS(session.configure(START, narrow, step, out) == JALWEDD_TAKEN && step.kind == JALWEDD_NOTHING);
@@ -269,6 +277,47 @@ static int settled()
     HOLDS(session.forget(FIRST, 8, step, out) == JALWEDD_TAKEN && step.others_changed == 0);
     HOLDS(session.forget(FIRST, 7, step, out) == JALWEDD_TAKEN && step.others_changed == 1);
     HOLDS(session.members() == 1 && session.entries() == 0);
+    return 0;
+}
+
+/* What it has sent, and of two packets that came the one that was counted, as the first is on probation. */
+static int told_of_packets()
+{
+    participant session = made(9);
+    jalwedd_step step;
+    jalwedd_own_stream own{9, 9, 9};
+    jalwedd_source_state before{}, after{};
+    std::uint8_t out[JALWEDD_OCTETS];
+    octets packet = {0x80, 0, 0, 1, 0, 0, 0, 0, 0, 0, 0, 7};
+    HOLDS(session.own(own) == JALWEDD_TAKEN && same(own, jalwedd_own_stream{0, 0, 0}));
+    HOLDS(session.sent_rtp(START, 1000, 160, step, out) == JALWEDD_TAKEN);
+    HOLDS(session.own(own) == JALWEDD_TAKEN && same(own, jalwedd_own_stream{1, 160, 1}));
+    HOLDS(session.arrive_rtp(START, 1, 0, packet, step, out) == JALWEDD_TAKEN);
+    HOLDS(session.source(7, after) == JALWEDD_TAKEN && jalwedd_was_counted(&before, &after) == 0);
+    before = after;
+    packet[3] = 2;
+    HOLDS(session.arrive_rtp(START, 1, 0, packet, step, out) == JALWEDD_TAKEN);
+    HOLDS(session.source(7, after) == JALWEDD_TAKEN && jalwedd_was_counted(&before, &after) == 1);
+    HOLDS(session.leave(START, 0, step, out) == JALWEDD_TAKEN && session.own(own) == JALWEDD_LEFT);
+    HOLDS(same(own, jalwedd_own_stream{1, 160, 1}));
+    return 0;
+}
+
+/* The time of day is set ahead by a second, at 1.026037 seconds after the start: the report of then tells it. */
+static int set_clock()
+{
+    participant session = made(9);
+    jalwedd_step step;
+    jalwedd_settings settings = jalwedd_settings_of(&CONFIG);
+    std::array<std::uint8_t, JALWEDD_OCTETS> out{};
+    const std::uint64_t ntp = jalwedd_ntp_of(CONFIG.ntp_base, FIRST - START) + (std::uint64_t{1} << 32);
+    settings.ntp_base = jalwedd_ntp_base(ntp, FIRST - START);
+    HOLDS(settings.ntp_base == 0xeead0eeb00000000);
+    HOLDS(session.sent_rtp(START, 1000, 160, step, out) == JALWEDD_TAKEN);
+    HOLDS(session.configure(FIRST, settings, step, out) == JALWEDD_TAKEN);
+    HOLDS(session.tick(FIRST, 0, 0, step, out) == JALWEDD_TAKEN && step.kind == JALWEDD_REPORT);
+    const auto told = listed(jalwedd::senders(out.data(), step.size));
+    HOLDS(told.size() == 1 && told[0].ntp == ntp && told[0].rtp == 9208);
     return 0;
 }
 
@@ -502,7 +551,7 @@ static int changed()
 static int all_of(const std::string& samples)
 {
     PASSES(empty() || refused() || items() || moved() || contained() || before_the_start() || settled()
-           || of_arrays() || joined_without_items());
+           || told_of_packets() || set_clock() || of_arrays() || joined_without_items());
     for (const char* name : {"conversation", "gstreamer", "leaving", "loop"})
         PASSES(answered_alike(lines_of(samples + "/" + name + ".replay")));
     PASSES(answered_alike(COLLISIONS));

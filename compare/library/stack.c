@@ -69,7 +69,7 @@ static void print(void)
 static void configure(void)
 {
     static const jalwedd_settings settings = {.sender_bw = 50, .receiver_bw = 150, .clock_count = 1,
-                                              .clocks = {{96, 90000}}};
+                                              .clocks = {{96, 90000}}, .rate = 48000, .ntp_base = 1};
     if (jalwedd_configure(&session, step.next, &settings, &item, 1, &step, octets) != JALWEDD_TAKEN)
         exit(1);
 }

@@ -1,6 +1,6 @@
 /* Tests config.start, the moment of jalwedd_new by the host's clock:
  * - by whichever clock a session starts, its first report is due as long after the start, its compounds are the same
- *   octet for octet, and what is told of sources is of that clock;
+ *   octet for octet, and what is told of sources is of that clock; the ntp_base of settings is still of the start;
  * - a start of 2^63 or later is refused, after all other faults;
  * - a call before the start is refused, and changes nothing.
  * Ends with 0, or prints the line of the test that fails. (compare/library/embedding) */
@@ -35,7 +35,8 @@ static const uint8_t GONE[] = {0x80, 0xc9, 0, 1, 0, 0, 0, 7, 0x81, 0xcb, 0, 1, 0
 
 static const jalwedd_item NO_ITEM = {2, 0, ""};
 
-static const jalwedd_settings SETTINGS = {.sender_bw = 100, .receiver_bw = 300};
+/* Those of a clock that was set ahead by 7 seconds. */
+static const jalwedd_settings SETTINGS = {.sender_bw = 100, .receiver_bw = 300, .rate = 8000, .ntp_base = 12ull << 32};
 
 static uint32_t begin(jalwedd_handle *handle, uint64_t start, jalwedd_step *step)
 {
@@ -58,12 +59,13 @@ static void keep(struct handed *handed, const jalwedd_step *step, const uint8_t 
     handed->size += step->size;
 }
 
-/* A session of half a minute that sends a packet, hears of 7 and leaves. */
+/* A session of half a minute that sends a packet, hears of 7, has its clock set, sends another packet and leaves. */
 static int session_from(uint64_t start, struct handed *handed)
 {
     jalwedd_handle handle = JALWEDD_EMPTY;
     jalwedd_step step;
     jalwedd_source_state source;
+    jalwedd_sender_info sender;
     uint8_t octets[JALWEDD_OCTETS];
     HOLDS(begin(&handle, start, &step) == JALWEDD_TAKEN);
     HOLDS(step.next == start + FIRST && jalwedd_next(&handle) == step.next);
@@ -83,6 +85,11 @@ static int session_from(uint64_t start, struct handed *handed)
     HOLDS(jalwedd_configure(&handle, step.next, &SETTINGS, &NO_ITEM, 1, &step, octets) == JALWEDD_TAKEN);
     HOLDS(jalwedd_forget(&handle, step.next, 8, &step, octets) == JALWEDD_TAKEN && step.entries == 1);
     const uint64_t now = step.next;
+    HOLDS(jalwedd_sent_rtp(&handle, now, 1000, 160, &step, octets) == JALWEDD_TAKEN);
+    HOLDS(jalwedd_tick(&handle, now, 0, 0, &step, octets) == JALWEDD_TAKEN && step.kind == JALWEDD_REPORT);
+    HOLDS(jalwedd_sender(octets, step.size, 0, &sender) == JALWEDD_TAKEN && sender.rtp == 1000);
+    HOLDS(sender.ntp == jalwedd_ntp_of(12ull << 32, now - start));
+    keep(handed, &step, octets);
     HOLDS(jalwedd_arrive_rtcp(&handle, now, 1, 0, GONE, sizeof GONE, &step, octets) == JALWEDD_TAKEN);
     HOLDS(jalwedd_source(&handle, 0, &source) == JALWEDD_TAKEN && source.left == now && source.heard == now);
     HOLDS(jalwedd_leave(&handle, now, 0, &step, octets) == JALWEDD_TAKEN && step.kind == JALWEDD_BYE);

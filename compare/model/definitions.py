@@ -194,9 +194,9 @@ class Defined:
     def leave(self, *values):
         return self.answer(node("left", *values))
 
-    def configure(self, moment, sender_bw, receiver_bw, clocks, pairs):
-        settings = record({"sender_bw": sender_bw, "receiver_bw": receiver_bw, "clocks": clock_values(clocks),
-                           "extras": item_values(pairs)})
+    def configure(self, moment, sender_bw, receiver_bw, clocks, pairs, rate, ntp):
+        settings = record({"sender_bw": sender_bw, "receiver_bw": receiver_bw, "rate": rate,
+                           "clocks": clock_values(clocks), "ntp_base": ntp, "extras": item_values(pairs)})
         return self.answer(node("configured", moment, settings))
 
     def forget(self, *values):

@@ -16,6 +16,7 @@ SEQUENCE_STEPS = [-65536, -101, -100, -99, -98, -2, -1, 0, 2, 3, 50, 2998, 2999,
 TEXT_SIZES = [0, 1, 2, 3, 4, 20, 254, 255]
 PAYLOAD_TYPES = [0, 8, 96, 71, 77]
 RATES = [1, 7, 8000, 48000, 90000, 2**20]
+FAULTY_RATES = [0, 2**20 + 1, 2**32 - 1]
 # A report's minimum intervals, the horizons that follow from these, and the stay of a goodbye.
 WAITS = [2_500_000, 5_000_000, 10_000_000, 12_500_000, 25_000_000]
 FAULTY_OPTIONS = [
@@ -37,6 +38,21 @@ FAULTY_OPTIONS = [
     ["--clock", "0:"], ["--clock", "+0:8000"], ["--clock", "000000000000000000000:8000"], ["--clock", "0:1"] * 17,
     ["word"], ["--ssrc", "00000000"], ["--cname", "a"], ["--help"],
 ]
+# What a `configure` has before its rate and its NTP timestamp, and these with what may follow.
+FAULTY_SETTINGS = [
+    b"1 16 16 -", b"1 16 16 - - ", b"1 16 16 -  ", b"x x x x x", b"1 4294967296 16 - -", b"1 16 +16 - -",
+    b"1 16 16  zz", b"1 16 16 256:8000 -", b"1 16 16 0:4294967296 -", b"1 16 16 8000 -", b"1 16 16 0:8000, -",
+    b"1 16 16 0:8000:1 -", b"1 16 16 0:8000\xb2 -", b"1 16 16 " + b",".join([b"0:1"] * 17) + b" zz",
+    b"1 16 16 " + b",".join([b"0:1"] * 16) + b" zz", b"1 16 16 - ", b"1 16 16 - 256:00", b"1 16 16 - 2",
+    b"1 16 16 - 2:0", b"1 16 16 - 2:0g", b"1 16 16 - 2:00,", b"1 16 16 - 2:" + b"00" * 256,
+    b"1 16 16 - " + b",".join([b"2:"] * 8), b"1 16 16 - 2:\r", b"1 16 16 - 2:00:00",
+]
+FAULTY_OWN_CLOCKS = [
+    b"", b" ", b" 8000", b" 8000 ", b"  0000000000000000", b" 8000  0000000000000000", b" 8000 0000000000000000 ",
+    b" 8000 0000000000000000 -", b" x zz", b" -1 zz", b" 4294967296 zz", b" 000000000000000000001 0000000000000000",
+    b" 8000 0", b" 8000 000000000000000", b" 8000 00000000000000000", b" 8000 000000000000000g",
+    b" 8000 0x00000000000000", b" 8000 -", b" 8000 0000000000000000\r", b" 0 zz", b" 8000 00000000 00000000",
+]
 FAULTY_LINES = [
     b"", b" ", b"tick", b"tick 1 00000000", b"tick 1 00000000 00000000 ", b"tick  1 00000000",
     b" tick 1 00000000 00000000", b"tick 1 0000000 00000000", b"tick 1 00000000 0000000g", b"tick x zz zz",
@@ -53,15 +69,9 @@ FAULTY_LINES = [
     b"\x00", b"tick 1 0000000\xc3\xa9 00000000", b"sent 1 1_0 0", b"leave", b"leave 1", b"leave 1 0000000",
     b"leave 1 0000000g", b"leave 1 00000000 00000000", b"leave 1 00000000 ", b"leave x 0", b"LEAVE 1 00000000",
     b"leave 18446744073709551616 00000000", b"leave 000000000000000000001 00000000", b"leave 1 00000000\r",
-    b"configure", b"configure 1 16 16 -", b"configure 1 16 16 - - ", b"configure 1 16 16 -  ", b"CONFIGURE 1 16 16 - -",
-    b"configure x x x x x", b"configure 1 4294967296 16 - -", b"configure 1 16 +16 - -", b"configure 1 16 16  zz",
-    b"configure 1 16 16 256:8000 -", b"configure 1 16 16 0:4294967296 -", b"configure 1 16 16 8000 -",
-    b"configure 1 16 16 0:8000, -", b"configure 1 16 16 0:8000:1 -", b"configure 1 16 16 0:8000\xb2 -",
-    b"configure 1 16 16 " + b",".join([b"0:1"] * 17) + b" zz",
-    b"configure 1 16 16 " + b",".join([b"0:1"] * 16) + b" zz",
-    b"configure 1 16 16 - ", b"configure 1 16 16 - 256:00", b"configure 1 16 16 - 2", b"configure 1 16 16 - 2:0",
-    b"configure 1 16 16 - 2:0g", b"configure 1 16 16 - 2:00,", b"configure 1 16 16 - 2:" + b"00" * 256,
-    b"configure 1 16 16 - " + b",".join([b"2:"] * 8), b"configure 1 16 16 - 2:\r", b"configure 1 16 16 - 2:00:00",
+    b"configure", b"CONFIGURE 1 16 16 - - 8000 0000000000000000",
+    *[b"configure " + fields + b" 8000 0000000000000000" for fields in FAULTY_SETTINGS],
+    *[b"configure 1 16 16 - -" + fields for fields in FAULTY_OWN_CLOCKS],
     b"forget", b"forget 1", b"forget 1 0000000", b"forget 1 000000000", b"forget 1 00000000 ", b"forget x 0",
     b"forget 1 00000000 00000000", b"FORGET 1 00000000", b"forget 18446744073709551616 00000000",
     b"forget 1 0x000000",
@@ -143,20 +153,24 @@ def listed(values):
     return ",".join(values) or "-"
 
 
-def random_settings(rng):
-    """Two bandwidths, clocks and items, as a line has them. Now and then no session may have them."""
+def random_settings(rng, rate, ntp):
+    """Two bandwidths, clocks, items, a rate and an NTP timestamp, as a line has them. The last two are often these,
+    which the session has. Now and then no session may have them."""
     bandwidths = [rng.choice(BANDWIDTHS), rng.choice(BANDWIDTHS)]
     rates, kinds, types = RATES, range(2, 9), 256 if rng.randrange(4) == 0 else 128
     if rng.randrange(12) == 0:
         bandwidths[rng.randrange(2)] = rng.choice([0, 15, 2**30 + 1, 2**32 - 1])
     if rng.randrange(12) == 0:
-        rates = [*RATES, 0, 2**20 + 1, 2**32 - 1]
+        rates = [*RATES, *FAULTY_RATES]
     if rng.randrange(12) == 0:
         kinds = range(256)
     count = choose(rng, (3, 0), (2, 1), (1, rng.randrange(8)))
-    items = [(rng.choice(kinds), number(rng, rng.choice(TEXT_SIZES)).hex()) for _ in range(count)]
-    clocks = listed(f"{kind}:{rate}" for kind, rate in random_clocks(rng, types, rates))
-    return f"{bandwidths[0]} {bandwidths[1]} {clocks} {listed(f'{kind}:{text}' for kind, text in items)}"
+    items = listed(f"{rng.choice(kinds)}:{number(rng, rng.choice(TEXT_SIZES)).hex()}" for _ in range(count))
+    clocks = listed(f"{kind}:{one}" for kind, one in random_clocks(rng, types, rates))
+    rate = choose(rng, (12, rate), (6, rng.choice(RATES)), (1, rng.choice(FAULTY_RATES)))
+    ntp = choose(rng, (6, ntp), (3, rng.getrandbits(64)), (1, rng.choice([0, 2**64 - 1])))
+    ntp = f"{ntp:016x}" if rng.randrange(4) else f"{ntp:016X}"
+    return f"{bandwidths[0]} {bandwidths[1]} {clocks} {items} {rate} {ntp}"
 
 
 def full_packet_limit(rng):
@@ -357,10 +371,14 @@ class History:
             octets = choose(rng, (5, 160), (1, rng.getrandbits(32)))
             return f"sent {self.advance()} {rng.getrandbits(32)} {octets}"
         if kind == "configure":
-            return f"configure {self.advance()} {random_settings(rng)}"
+            return self.settings_line()
         if kind == "forget":
             return self.forgetting_line()
         return self.datagram_line(kind, self.rtp_packet(self.pool()) if kind == "rtp" else compound(rng, self.pool()))
+
+    def settings_line(self):
+        own = (self.model.rate, self.model.ntp) if self.model else (8000, 0)
+        return f"configure {self.advance()} {random_settings(self.rng, *own)}"
 
     def forgetting_line(self):
         """A host says that a source is gone, in most cases one that is there."""
@@ -439,8 +457,7 @@ class History:
         if kind == "tick":
             return f"tick {self.tick_moment()} {random_word(rng):08x} {random_word(rng):08x}"
         makers = {"bye": self.bye_line, "leave": self.leave_line, "any": self.line,
-                  "colliding": self.colliding_line, "forget": self.forgetting_line,
-                  "settings": lambda: f"configure {self.advance()} {random_settings(rng)}"}
+                  "colliding": self.colliding_line, "forget": self.forgetting_line, "settings": self.settings_line}
         return makers[kind]()
 
     def add_flood(self):

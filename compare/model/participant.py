@@ -248,7 +248,8 @@ class Participant:
     def __init__(self, options):
         """`options` has a value for each name of the table in docs/FORMATS.md, and `items`, the extra items."""
         self.options = options
-        self.ssrc, self.rate = options["ssrc"], options["rate"]  # the SSRC is the present identifier
+        self.ssrc = options["ssrc"]  # the present identifier
+        self.rate, self.ntp = options["rate"], options["ntp"]  # of its own media's clock, and of moment 0
         self.clocks, self.items = options["clock"], options["items"]
         self.bandwidths = options["sender-bw"], options["receiver-bw"]
         self.pace = Pace()
@@ -441,14 +442,15 @@ class Participant:
             self.is_sender = True
         return self.end_call(moment)
 
-    def configure(self, moment, sender_bw, receiver_bw, clocks, items):
+    def configure(self, moment, sender_bw, receiver_bw, clocks, items, rate, ntp):
         self.begin_call(moment)
-        fault = settings_fault(sender_bw, receiver_bw, clocks, items)
+        fault = settings_fault(sender_bw, receiver_bw, clocks, items, rate)
         if fault:
             raise Refusal("E8 Settings: " + fault)
         if self.is_present() and self.bandwidths != (sender_bw, receiver_bw):
             self.pace.note(moment, self.bandwidths, self.interval(is_sender=False))
         self.bandwidths, self.clocks, self.items = (sender_bw, receiver_bw), clocks, items
+        self.rate, self.ntp = rate, ntp
         return self.end_call(moment)
 
     def drop(self, ssrc):
@@ -552,7 +554,7 @@ class Participant:
         if not self.is_sender:
             return b""
         newest, timestamp, _ = self.sent_packets[-1]
-        ntp = ntp_timestamp(self.options["ntp"], moment)
+        ntp = ntp_timestamp(self.ntp, moment)
         counted = self.sent_packets[self.packets_before:]
         octets = sum(octets for _, _, octets in counted)
         units = media_units(moment - newest, self.rate)
@@ -638,11 +640,11 @@ def guard_value(text):
     return (names, seconds * SECOND) if 1 <= names <= 1024 and 1 <= seconds <= 10**9 else None
 
 
-def settings_fault(sender_bw, receiver_bw, clocks, items):
+def settings_fault(sender_bw, receiver_bw, clocks, items, rate):
     """Why no session may have these settings, if none may."""
     if not all(16 <= bandwidth <= 2**30 for bandwidth in (sender_bw, receiver_bw)):
         return "C4 Bandwidth"
-    if not all(1 <= rate <= 2**20 for _, rate in clocks):
+    if not all(1 <= one <= 2**20 for one in (rate, *(one for _, one in clocks))):
         return "C5 Rate"
     if not all(2 <= kind <= 8 for kind, _ in items):
         return "C6 Item"
@@ -674,11 +676,12 @@ LINES = {
     b"sent": ("packet_sent", ("moment", "timestamp", "octets")),
     b"tick": ("tick", ("moment", hex_digits(8), hex_digits(8))),
     b"leave": ("leave", ("moment", hex_digits(8))),
-    b"configure": ("configure", ("moment", "bandwidth", "bandwidth", "clocks", values_of(item, MOST_ITEMS))),
+    b"configure": ("configure", ("moment", "bandwidth", "bandwidth", "clocks", values_of(item, MOST_ITEMS), "rate",
+                                 hex_digits(16))),
     b"forget": ("forget", ("moment", hex_digits(8))),
 }
 NUMBERS = {"moment": decimal(2**64), "peer": decimal(2**64), "timestamp": decimal(2**32), "octets": decimal(2**32),
-           "bandwidth": decimal(2**32), "clocks": values_of(clock, MOST_CLOCKS)}
+           "bandwidth": decimal(2**32), "clocks": values_of(clock, MOST_CLOCKS), "rate": decimal(2**32)}
 
 
 def given_options(arguments):
@@ -720,8 +723,8 @@ def configuration(arguments):
         raise Fault("config C2 Capacity")
     if not 576 <= options["limit"] <= 1472 or options["limit"] % 4:
         raise Fault("config C3 Limit")
-    if fault := settings_fault(options["sender-bw"], options["receiver-bw"],
-                               [(None, options["rate"]), *options["clock"]], options["items"]):
+    if fault := settings_fault(options["sender-bw"], options["receiver-bw"], options["clock"], options["items"],
+                               options["rate"]):
         raise Fault("config " + fault)
     return options
 

@@ -66,6 +66,10 @@ WRONG = [
     (f"{ENGINE}.Arrivals", "map Heard (filter (λ ssrc. not (ssrc == own)) csrcs)", "map Heard csrcs"),
     (f"{ENGINE}.OwnStreams", "(packet.timestamp + media_units (t - packet.moment) rate) % 2 ^ 32",
      "(packet.timestamp + media_units t rate) % 2 ^ 32"),
+    (f"{ENGINE}.Setups", "rate = settings.rate;", "rate = setup.rate;"),
+    (f"{ENGINE}.Setups", "ntp_base = settings.ntp_base;", "ntp_base = setup.ntp_base;"),
+    (f"{ENGINE}.Refused", "is_within 1 (2 ^ 20) settings.rate && list_all is_clock settings.clocks",
+     "list_all is_clock settings.clocks"),
     (f"{ENGINE}.Outcomes", "until = max (end_of (newest_pace outcome.paces)) (end_at setup t outcome);",
      "until = end_at setup t outcome;"),
 ]

@@ -571,8 +571,14 @@ NAMED = "80c900010000000181ca00020000000101016100"
 CLOCKS = PLAIN + ["--clock", "96:90000", "--clock", "96:8000", "--clock", "97:8000"]
 
 
-def configure(moment, senders=100, others=300, clocks="-", items="-"):
-    return f"configure {moment} {senders} {others} {clocks} {items}"
+def configure(moment, senders=100, others=300, clocks="-", items="-", rate=8000, ntp=0):
+    return f"configure {moment} {senders} {others} {clocks} {items} {rate} {ntp:016x}"
+
+
+def sender_report(ntp, timestamp, packets=1, octets=160):
+    """The report with these two timestamps, of a participant that sent so much."""
+    information = f"{ntp}{timestamp:08x}{packets:08x}{octets:08x}"
+    return f"report:80c80006000000aa{information}81ca0002000000aa01016100"
 
 
 def forget(moment, ssrc):
@@ -638,6 +644,23 @@ RATES = [
         (of_9(40000, 96, 13), ok(2, 1, 1026037)),
         (tick(1026037), ok(2, 1, 3078111, on_9(13, 1800 // 16))),
     ], "", 0),
+    # So does another rate, which is that of the types that have no clock of their own.
+    (PLAIN, counted_9(96) + [
+        (configure(20000, rate=90000), ok(2, 1, 1026037)),
+        (of_9(20000, 96, 12), ok(2, 1, 1026037)),
+        (tick(1026037), ok(2, 1, 3078111, on_9(12, 0))),
+    ], "", 0),
+    (PLAIN, counted_9(96) + [
+        (configure(20000, rate=90000), ok(2, 1, 1026037)),
+        (of_9(20000, 96, 12), ok(2, 1, 1026037)),
+        (of_9(40000, 96, 13), ok(2, 1, 1026037)),
+        (tick(1026037), ok(2, 1, 3078111, on_9(13, 1800 // 16))),
+    ], "", 0),
+    (PLAIN, counted_9(96) + [
+        (configure(20000, clocks="96:8000", rate=90000), ok(2, 1, 1026037)),
+        (of_9(20000, 96, 12), ok(2, 1, 1026037)),
+        (tick(1026037), ok(2, 1, 3078111, on_9(12, 10))),
+    ], "", 0),
     (PLAIN + ["--clock", "0:1"] * 16, [], "", 0),
     (PLAIN + ["--clock", "127:1048576", "--clock", "00:0000000000000000001"], [], "", 0),
 ] + [(PLAIN + options, [(tick(0), None)], fault, 2) for options, fault in (
@@ -661,9 +684,14 @@ SETTINGS = [
         (configure(5, others=2**30 + 1, clocks="0:0"), "refused E8 Settings: C4 Bandwidth"),
         (configure(5, clocks="0:8000,1:0", items="1:"), "refused E8 Settings: C5 Rate"),
         (configure(5, clocks="0:1048577"), "refused E8 Settings: C5 Rate"),
+        (configure(5, senders=15, rate=0), "refused E8 Settings: C4 Bandwidth"),
+        (configure(5, items="1:", rate=0), "refused E8 Settings: C5 Rate"),
+        (configure(5, clocks="0:8000", rate=2**20 + 1), "refused E8 Settings: C5 Rate"),
+        (configure(5, rate=2**32 - 1, ntp=2**64 - 1), "refused E8 Settings: C5 Rate"),
         (configure(5, items="1:61"), "refused E8 Settings: C6 Item"),
         (configure(5, items="8:,9:"), "refused E8 Settings: C6 Item"),
-        (configure(4, 16, 2**30, "255:1048576", "2:,8:"), ok(1, 0, 1026037)),
+        (configure(4, 16, 2**30, "255:1048576", "2:,8:", 2**20, 2**64 - 1), ok(1, 0, 1026037)),
+        (configure(4, rate=1), ok(1, 0, 1026037)),
         (configure(3, senders=15), "refused E2 Backwards"),
         (leave(5), LEFT),
         (configure(5, senders=15), "refused E1 Left"),
@@ -715,6 +743,59 @@ SETTINGS = [
     ], "", 0),
 ]
 
+# The second report is made 3.078111 seconds after the start, and 13.078111 by a clock that is set 10 seconds on. It is
+# 147,749 units of 48 kHz after the packet at the start, and 24,624 of 8 kHz.
+SENT = [
+    ("sent 0 1000 160", ok(1, 1, 1026037)),
+    (tick(1026037), ok(1, 1, 3078111, SENDER_REPORT)),
+]
+OTHER_CLOCKS = [
+    (PLAIN, SENT + [
+        (configure(1026037, rate=48000, ntp=10 << 32), ok(1, 1, 3078111)),
+        (tick(3078111), ok(1, 1, 5130185, sender_report("0000000d13ff151e", 1000 + 147749))),
+    ], "", 0),
+    (PLAIN, SENT + [
+        (configure(1026037, ntp=10 << 32), ok(1, 1, 3078111)),
+        (tick(3078111), ok(1, 1, 5130185, sender_report("0000000d13ff151e", 1000 + 24624))),
+    ], "", 0),
+    (PLAIN, SENT + [
+        (configure(1026037, rate=48000), ok(1, 1, 3078111)),
+        (tick(3078111), ok(1, 1, 5130185, sender_report("0000000313ff151e", 1000 + 147749))),
+    ], "", 0),
+    # Twenty digits, and hex digits of either case.
+    (PLAIN, SENT + [
+        ("configure 1026037 100 300 - - 00000000000000048000 0000000A0000000a", ok(1, 1, 3078111)),
+        (tick(3078111), ok(1, 1, 5130185, sender_report("0000000d13ff1528", 1000 + 147749))),
+    ], "", 0),
+    # The latest settings count, and those that are refused change nothing.
+    (PLAIN, SENT + [
+        (configure(1026037, rate=48000, ntp=10 << 32), ok(1, 1, 3078111)),
+        (configure(1026037), ok(1, 1, 3078111)),
+        (configure(1026037, rate=0, ntp=10 << 32), "refused E8 Settings: C5 Rate"),
+        (configure(1026037, others=15, rate=48000, ntp=10 << 32), "refused E8 Settings: C4 Bandwidth"),
+        (configure(1026037, items="9:", rate=48000, ntp=10 << 32), "refused E8 Settings: C6 Item"),
+        (tick(3078111), ok(1, 1, 5130185, sender_report("0000000313ff151e", 1000 + 24624))),
+    ], "", 0),
+    # A packet that is sent a second before the report, with a timestamp of its own.
+    (PLAIN, SENT + [
+        (configure(1026037, rate=48000, ntp=10 << 32), ok(1, 1, 3078111)),
+        ("sent 2078111 5000 160", ok(1, 1, 3078111)),
+        (tick(3078111), ok(1, 1, 5130185, sender_report("0000000d13ff151e", 5000 + 48000, 2, 320))),
+    ], "", 0),
+    # Before the first packet; and by the last NTP timestamp of an era. 1.026037 seconds are 92,343 units of 90 kHz.
+    (PLAIN, [
+        (configure(0, rate=90000, ntp=2**64 - 1), ok(1, 0, 1026037)),
+        ("sent 0 1000 160", ok(1, 1, 1026037)),
+        (tick(1026037), ok(1, 1, 3078111, sender_report("0000000106aa5c5e", 1000 + 92343))),
+    ], "", 0),
+    # In a backoff they are taken too.
+    (PLAIN, BACKOFF + [
+        (configure(10000000, rate=0), "refused E8 Settings: C5 Rate"),
+        (configure(10000000, rate=48000, ntp=10 << 32), ok(1, 0, 11026037)),
+        (tick(11026037), ok(0, 0, "-", BYE)),
+    ], "", 0),
+]
+
 DISMISSALS = [
     (PLAIN, [
         (f"rtcp 0 1 00000000 {NAMED}", ok(2, 0, 1026037)),
@@ -752,24 +833,38 @@ DISMISSALS = [
 # Lines that are none: the fault of the second line.
 LINE_FAULTS = [(PLAIN, [(configure(0), ok(1, 0, 1026037)), (line, None)], f"line 2: {fault}", 2) for line, fault in (
     ("configure 0 100 300 -", "X3 Words"),
-    ("configure 0 100 300 - - -", "X3 Words"),
+    ("configure 0 100 300 - -", "X3 Words"),
+    ("configure 0 100 300 - - 8000", "X3 Words"),
+    (f"{configure(0)} -", "X3 Words"),
+    (f"{configure(0)} ", "X3 Words"),
     ("forget 0", "X3 Words"),
-    ("configure x 100 300 - zz", "X5 Number"),
-    ("configure 0 4294967296 300 - zz", "X5 Number"),
-    ("configure 0 100 -1 - zz", "X5 Number"),
-    ("configure 0 100 300 256:1 zz", "X5 Number"),
-    ("configure 0 100 300 0:1, zz", "X5 Number"),
-    ("configure 0 100 300 " + ",".join(["0:1"] * 17) + " zz", "X5 Number"),
-    ("configure 0 100 300 " + ",".join(["0:1"] * 16) + " zz", "X4 Hex"),
-    ("configure 0 100 300 - 256:", "X4 Hex"),
-    ("configure 0 100 300 - 2:6", "X4 Hex"),
-    ("configure 0 100 300 - 2:" + "61" * 256, "X4 Hex"),
-    ("configure 0 100 300 - " + ",".join(["2:"] * 8), "X4 Hex"),
+    ("configure x 100 300 - zz x zz", "X5 Number"),
+    ("configure 0 4294967296 300 - zz x zz", "X5 Number"),
+    ("configure 0 100 -1 - zz x zz", "X5 Number"),
+    ("configure 0 100 300 256:1 zz x zz", "X5 Number"),
+    ("configure 0 100 300 0:1, zz x zz", "X5 Number"),
+    ("configure 0 100 300 " + ",".join(["0:1"] * 17) + " zz x zz", "X5 Number"),
+    ("configure 0 100 300 " + ",".join(["0:1"] * 16) + " zz x zz", "X4 Hex"),
+    ("configure 0 100 300 - 256: x zz", "X4 Hex"),
+    ("configure 0 100 300 - 2:6 x zz", "X4 Hex"),
+    ("configure 0 100 300 - 2:" + "61" * 256 + " x zz", "X4 Hex"),
+    ("configure 0 100 300 - " + ",".join(["2:"] * 8) + " x zz", "X4 Hex"),
+    ("configure 0 100 300 - - x zz", "X5 Number"),
+    ("configure 0 100 300 - -  zz", "X5 Number"),
+    ("configure 0 100 300 - - +1 zz", "X5 Number"),
+    ("configure 0 100 300 - - 4294967296 zz", "X5 Number"),
+    ("configure 0 100 300 - - 000000000000000008000 zz", "X5 Number"),
+    ("configure 0 100 300 - - 0 zz", "X4 Hex"),
+    ("configure 0 100 300 - - 8000 ", "X4 Hex"),
+    ("configure 0 100 300 - - 8000 -", "X4 Hex"),
+    ("configure 0 100 300 - - 8000 " + "0" * 15, "X4 Hex"),
+    ("configure 0 100 300 - - 8000 " + "0" * 17, "X4 Hex"),
+    ("configure 0 100 300 - - 4294967295 000000000000000g", "X4 Hex"),
     ("forget 0 0000001", "X4 Hex"),
     ("forget x 0000001", "X5 Number"),
 )]
 
-ALL = SESSIONS + LEAVING + CHANGING + BANDWIDTHS + RATES + SETTINGS + DISMISSALS + LINE_FAULTS
+ALL = SESSIONS + LEAVING + CHANGING + BANDWIDTHS + RATES + SETTINGS + OTHER_CLOCKS + DISMISSALS + LINE_FAULTS
 
 
 def expected(options, rows, fault):

@@ -128,6 +128,14 @@ class Session:
         found = re.findall(start % (b"rtcp", 8), lines) + re.findall(start % (b"rtp", 16), lines)
         return sorted({int(text, 16) for text in found}) or mutator.SSRCS
 
+    def own_clock(self):
+        """The rate and the NTP timestamp of moment 0 that the options give, or what they are without options."""
+        try:
+            begun = participant.configuration(self.options)
+        except (participant.Fault, participant.Usage):
+            return 8000, 0
+        return begun["rate"], begun["ntp"]
+
     # Lines
 
     def drop(self):
@@ -347,7 +355,7 @@ class Session:
 
     def add_settings(self):
         place = self.place()
-        self.put(place, f"configure {self.moment(place)} {histories.random_settings(self.rng)}")
+        self.put(place, f"configure {self.moment(place)} {histories.random_settings(self.rng, *self.own_clock())}")
 
     def add_forgets(self):
         """Sources of which a host says that they are gone, mostly known ones."""

@@ -1,7 +1,7 @@
 """Sessions worked by hand, for the participant of compare/model/rows.py, and the listing of the others after each
 answer."""
-from rows import (BYE, FIRST_CHANGE, LEFT, PLAIN, R, REPORT, REPORT_ON_9, REPORT_SENT, SENDER_REPORT, leave, named, ok,
-                  tick)
+from rows import (BYE, FIRST_CHANGE, LEFT, PLAIN, R, REPORT, REPORT_ON_9, REPORT_SENT, SENDER_REPORT, configure, leave,
+                  named, ok, tick)
 
 NAMES_7 = "80c900010000000781ca00020000000701016100"
 NAMES_8 = NAMES_7.replace("00000007", "00000008")
@@ -116,6 +116,15 @@ ALL = [
         (media(5, 30000, 9, payload="00" * 9), ok(2, 1, 1026037), 0, [source(9, 5, 1, 1, "-", 5, -2, 13, octets=16)]),
         (media(6, 30001, 9, payload="d1d2"), ok(2, 1, 1026037), 0, [source(9, 6, 1, 1, "-", 1, 0, 30001, octets=2)]),
         (media(7, 30002, 9, payload="e1"), ok(2, 1, 1026037), 0, [source(9, 7, 1, 1, "-", 2, 0, 30002, octets=3)]),
+    ]),
+    # The rate is that of the newest counted packet, so settings change it only with the next one.
+    (PLAIN, BEGINS_TO_SEND + [
+        (configure(1, rate=48000), ok(2, 1, 1026037), 0, [SENDING]),
+        (media(2, 30000, 9), ok(2, 1, 1026037), 0, [source(9, 2, 1, 1, received=1, highest=11)]),
+        (media(3, 12, 9), ok(2, 1, 1026037), 0, [source(9, 3, 1, 1, received=2, highest=12, rate=48000)]),
+        (configure(4, clocks="0:90000", rate=1), ok(2, 1, 1026037), 0,
+         [source(9, 3, 1, 1, received=2, highest=12, rate=48000)]),
+        (media(5, 13, 9), ok(2, 1, 1026037), 0, [source(9, 5, 1, 1, received=3, highest=13, rate=90000)]),
     ]),
     # The own sending is none of another, and who is no member is dropped without the flag.
     (PLAIN, [

@@ -120,14 +120,19 @@ static int settings_lines(void)
     jalwedd_record_configure(&record, 5, &settings, NULL, 0);
     memcpy(settings.clocks, CLOCKS, sizeof CLOCKS);
     settings.clock_count = 3;
+    settings.rate = UINT32_MAX;
+    settings.ntp_base = 0xfedcba9876543210;
     jalwedd_record_configure(&record, 6, &settings, items, 4);
     settings.clock_count = 1;
+    settings.rate = 48000;
+    settings.ntp_base = 10;
     jalwedd_record_configure(&record, 6, &settings, items, 1);
     jalwedd_record_forget(&record, 4, 7);
     jalwedd_record_forget(&record, 7, 0xabcdef);
-    wrong |= HOLDS(is_text("configure 0 4294967295 0 - -\n"
-                           "configure 1 4294967295 0 96:90000,0:0,255:4294967295 8:0027ff,2:,0:612c,255:3a\n"
-                           "configure 1 4294967295 0 96:90000 8:0027ff\n"
+    wrong |= HOLDS(is_text("configure 0 4294967295 0 - - 0 0000000000000000\n"
+                           "configure 1 4294967295 0 96:90000,0:0,255:4294967295 8:0027ff,2:,0:612c,255:3a "
+                           "4294967295 fedcba9876543210\n"
+                           "configure 1 4294967295 0 96:90000 8:0027ff 48000 000000000000000a\n"
                            "forget 2 00abcdef\n"));
     /* what does not fit a line has none, and is not read */
     record = begun(SIZE_MAX);
@@ -152,8 +157,9 @@ static int longest_settings(void)
     for (size_t at = 0; at < 7; at++)
         items[at].size = 255;
     jalwedd_record_configure(&record, 0, &settings, items, 7);
-    /* "configure 0 0 0 ", 16 of "0:0", 7 of "0:" and 510 digits, the commas, and what stands between and after */
-    return HOLDS(memory.size == 16 + 16 * 3 + 15 + 1 + 7 * 512 + 6 + 1) | HOLDS(memory.longest <= 256);
+    /* "configure 0 0 0 ", 16 of "0:0", 7 of "0:" and 510 digits, the commas, what stands between, " 0 " with 16 digits,
+     * and the line feed */
+    return HOLDS(memory.size == 16 + 16 * 3 + 15 + 1 + 7 * 512 + 6 + 3 + 16 + 1) | HOLDS(memory.longest <= 256);
 }
 
 /* ---- Datagrams of each size up to 1,000 octets, of the most, and of more */

@@ -79,7 +79,7 @@ KINDS = Session("".join(compound(at, octets) for at, octets in enumerate(
 # Compounds of 28 + 28 octets of 7, an SR, and of 8 + 28 octets of 8, an RR, in 10 seconds; the host then gives other
 # bandwidths. The first tick sends 20 + 28 octets: 140 in all, 14 a second; 9.2 and 4.8 in the two windows.
 RATES = Session(compound(0, SR_7) + FIRST_TICK + compound(9_000_000, "80c9000100000008")
-                + "configure 10000000 50 90 - -\n", words=[
+                + "configure 10000000 50 90 - - 8000 0000000000000000\n", words=[
     "Octets a second, over 5 seconds each: all: 14 on the average, at most 20.8, share 140; senders: 5.6 on the "
     "average, at most 11.2, share 50; others: 8.4 on the average, at most 9.6, share 90."])
 
@@ -180,6 +180,41 @@ OWN = Session("sent 500000 0 160\n" + FIRST_TICK
               [["a 000000aa (this participant)", "00000007", "4.7\u00a0%", "3", "64", "4.7 % at 0:00:03",
                 "3.00, at most 4.00 ms", "250.0, at most 250.0", "2", "0:00:02", "0:00:03"]],
               words=["<strong>a</strong> lost 4.7\u00a0%"])
+# After the first block the host makes the clock of its media one of 48 kHz and sets the time of day 10 seconds on. The
+# jitters are 16 units of 8 kHz, and 48 and 96 of 48 kHz: 2, 1 and 2 ms. The second block answers the report of before,
+# 2 seconds after it and with a DLSR of 1.75. The second report has the LSR 000d13ff; the third block comes 1 second
+# after it, with a DLSR of 3/4 of a second. At 2.5 seconds it is then 12.5 seconds after the next era of NTP began.
+SET = Session("sent 500000 0 160\n" + FIRST_TICK
+              + compound(2_026_037, "81c90007" + "00000007" + block(0xaa, 0, 1, 3000, 16, 0x000106aa, 0xc000))
+              + "configure 2500000 100 300 - - 48000 0000000a00000000\n"
+              + compound(3_026_037, "81c90007" + "00000007" + block(0xaa, 12, 4, 3064, 48, 0x000106aa, 0x1c000))
+              + "tick 3078111 00000000 00000000\n"
+              + compound(4_078_111, "81c90007" + "00000007" + block(0xaa, 0, 4, 3128, 96, 0x000d13ff, 0xc000)),
+              [["a 000000aa (this participant)", "00000007", "2.3\u00a0%", "3", "128", "4.7 % at 0:00:03",
+                "1.67, at most 2.00 ms", "250.0, at most 250.0", "3", "0:00:02", "0:00:04"],
+               ["Media clock", "8,000 units a second; 48,000 from 0:00:02.500 on"],
+               ["Other settings from", "0:00:02.500"],
+               ["Time of day set",
+                "at 0:00:02.500 to 2036-02-07 06:28:28.500 UTC; this page keeps to its first clock"]],
+              ["jitter 2 ms reported at 0:00:02.026", "jitter 1 ms reported at 0:00:03.026",
+               "jitter 2 ms reported at 0:00:04.078", "round trip 250 ms at 0:00:02.026",
+               "round trip 250 ms at 0:00:03.026", "round trip 250 ms at 0:00:04.078"])
+# Source 9 has a clock of 8 kHz until the settings make it one of 48 kHz: 16 units and then 96 are 2 ms.
+RECODED = Session(media(0, 9, 1) + media(20_000, 9, 2)
+                  + compound(1_000_000, "81c90007" + "00000007" + block(9, 0, 0, 2, 16))
+                  + "configure 1500000 100 300 - - 48000 0000000000000000\n" + media(2_000_000, 9, 3)
+                  + compound(3_000_000, "81c90007" + "00000007" + block(9, 0, 0, 3, 96)),
+                  [["00000009", "00000007", "0\u00a0%", "0", "3", "0 %", "2.00, at most 2.00 ms", "2", "0:00:01",
+                    "0:00:03"],
+                   ["Media clock", "48,000 units a second (payload type 0)"]],
+                  ["jitter 2 ms reported at 0:00:01.000", "jitter 2 ms reported at 0:00:03.000"])
+# The time of day is set an hour on, and then it is no longer known.
+RESET = Session("configure 2000000 100 300 - - 8000 83aa8c9080000000\n"
+                + "configure 3000000 100 300 - - 8000 0000000000000000\n",
+                [["SSRC", "000000aa from 00:00:00.500 on"], ["Media clock", "8,000 units a second"],
+                 ["Time of day set", "at 00:00:02.500 to 1970-01-01 01:00:02.500 UTC; at 00:00:03.500 to one that is "
+                                     "not known; this page keeps to its first clock"]],
+                options=[*PLAIN, "--ntp", "83aa7e8080000000"])
 # Of source 9 the packets 1, 2, 3, 6, 5, 6 again and 9 come: 9 are expected, 4, 7 and 8 are lost, 5 is late. Each
 # comes a second after the one before, with a timestamp 20 ms later: each step is 980 ms too long, so after n of them
 # the jitter is 980 (1 - (15/16)^n).
@@ -238,4 +273,5 @@ SESSIONS = {"cut": CUT, "cut at once": CUT_AT_ONCE, "cut after a refusal": CUT_A
             "ended": ENDED, "dated": DATED, "next era": NEXT_ERA, "undated": UNDATED, "peers": PEERS,
             "furthest": FURTHEST, "furthest undated": FURTHEST_UNDATED, "trips": TRIPS, "one way": ONE_WAY, "own": OWN,
             "order": ORDER, "twice": TWICE, "anew": ANEW, "refused": REFUSED, "shared": SHARED,
-            "late": LATE, "accepted": ACCEPTED, "early": EARLY, "guarded": GUARDED}
+            "late": LATE, "accepted": ACCEPTED, "early": EARLY, "guarded": GUARDED, "set": SET,
+            "reset": RESET, "recoded": RECODED}

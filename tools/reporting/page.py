@@ -4,7 +4,7 @@ from __future__ import annotations
 from collections import Counter
 
 from reporting import plots
-from reporting.clock import duration_text
+from reporting.clock import Clock, duration_text
 from reporting.folded import compounds_numbers, intervals_numbers, members_numbers, rates_numbers
 from reporting.headline import headline, sentence
 from reporting.limits import Limits
@@ -157,6 +157,7 @@ def facts(session: Session) -> str:
         ("Media clock", clocks(session)),
         *([("Other settings from", ", ".join(clock.moment(moment) for moment, *_ in session.shares[1:]))]
           if session.shares[1:] else []),
+        *([("Time of day set", days_set(session))] if session.bases[1:] else []),
         ("Room for other sources", f"{number(options['capacity'])}; largest report {number(options['limit'])} octets"),
         ("Datagrams in", f"{datagrams(session, 'rtcp')}; {datagrams(session, 'rtp')}"),
         ("RTP lost", lost(session)),
@@ -173,14 +174,27 @@ def facts(session: Session) -> str:
 
 
 def clocks(session: Session) -> str:
-    """The clocks of the payload types that came; otherwise that of those without a clock of their own."""
+    """The clocks of the payload types that came; otherwise that of those without a clock of their own, as the host gave
+    it in turn."""
     rates = {kind: rate for source in session.heard.values() if source.stream
              for kind, (_, rate) in source.stream.kinds.items()}
     if not rates:
-        return f"{number(session.options['rate'])} units a second"
+        (_, first), *others = session.rates
+        later = [f"{number(rate)} from {clock_of(session).moment(moment)} on" for moment, rate in others]
+        return "; ".join([f"{number(first)} units a second", *later])
     words = {kind: "not known" if kind in session.guessed else f"{number(rate)} units a second"
              for kind, rate in sorted(rates.items())}
     return "; ".join(f"{text} (payload type {kind})" for kind, text in words.items())
+
+
+def days_set(session: Session) -> str:
+    """When the host set the time of day, and to what. The moments of a page all go by the first one."""
+    texts = []
+    for moment, base in session.bases[1:]:
+        day = Clock.of_ntp(base)
+        to = f"{day.date(moment)} {day.moment(moment)} UTC" if base else "one that is not known"
+        texts.append(f"at {clock_of(session).moment(moment)} to {to}")
+    return "; ".join([*texts, "this page keeps to its first clock"])
 
 
 def peers(session: Session) -> list[tuple[str, str]]:

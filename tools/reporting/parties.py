@@ -9,7 +9,7 @@ from reporting.series import Series, figure, losses_figure, numbers
 from reporting.session import Session
 from reporting.stream import Loss
 from reporting.svg import GREEN, PURPLE, RED, number, plural
-from reporting.verdict import Verdict, by_source, rate_of
+from reporting.verdict import Verdict, by_source, jitters_told, rate_of
 from reporting.words import Cell, box, section, subsection, table
 
 MOST_ROWS = 12  # without scrolling
@@ -70,10 +70,9 @@ def loss_of(session: Session, pair: Pair) -> Loss | None:
 
 def jitter_in_words(session: Session, pair: Pair) -> str:
     """The mean and the greatest jitter, in milliseconds where the clock is known."""
-    values, rate = [block.jitter for block in pair.blocks], rate_of(session, pair.source)
-    if not rate:
+    values, times = [block.jitter for block in pair.blocks], jitters_told(session, pair)
+    if not times:
         return f"{number(sum(values) / len(values), 1)}, at most {number(max(values))} units"
-    times = [1000 * value / rate for value in values]
     return f"{sum(times) / len(times):,.2f}, at most {max(times):,.2f} ms"
 
 
@@ -125,9 +124,9 @@ def fractions(session: Session, pair: Pair) -> Series:
 
 
 def jitter_of(session: Session, pair: Pair) -> Series:
-    moment, rate = clock_of(session).moment, rate_of(session, pair.source)
-    points = [(block.moment, 1000 * block.jitter / rate, f"jitter {number(1000 * block.jitter / rate)} ms reported at "
-               f"{moment(block.moment)}") for block in pair.blocks] if rate else []
+    moment = clock_of(session).moment
+    points = [(block.moment, time, f"jitter {number(time)} ms reported at {moment(block.moment)}")
+              for block, time in zip(pair.blocks, jitters_told(session, pair))]
     return Series(plain(session, pair), points)
 
 
@@ -155,7 +154,7 @@ def table_of_blocks(session: Session, pairs: list[Pair]) -> str:
 
 
 def cells_of(session: Session, pair: Pair, block: Block, trip: Trip | None) -> list[str]:
-    rate = rate_of(session, pair.source)
+    rate = rate_of(session, pair.source, block.moment)
     jitter = f"{1000 * block.jitter / rate:,.2f} ms" if rate else f"{number(block.jitter)} units"
     when = clock_of(session).moment(block.moment)
     return [f"<code>{pair.source:08x}</code> <code>{pair.reporter:08x}</code> {when}",

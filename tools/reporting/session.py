@@ -202,10 +202,12 @@ class Session:
         self.table = Table(options["capacity"])
         self._bandwidths, self._clocks = (options["sender-bw"], options["receiver-bw"]), options["clock"]
         self.shares = [(0, *self._bandwidths)]  # moments at which the host gave settings, and both bandwidths
+        self.rates = [(0, options["rate"])]  # of the clock of the own media, with the moments from which on they hold
+        self.bases = [(0, options["ntp"])]  # NTP timestamps of moment 0, likewise
         self._pace = participant.Pace()
         self._calls = {b"rtcp": self._rtcp, b"rtp": self._rtp, b"sent": self._sent, b"tick": self._tick,
                        b"leave": self._leave, b"configure": self._configure, b"forget": self._forget}
-        self._told: set[tuple[int, int]] = set()  # the SSRC and the LSR of each sender report
+        self._told: dict[tuple[int, int], int] = {}  # SSRC and LSR of each sender report, and the base it went by
         named = participant.source_description(options["ssrc"], [(CNAME, options["cname"])])
         self.average = 256 * (8 + len(named) + HEADERS)
 
@@ -269,6 +271,10 @@ class Session:
         """The SSRCs that this participant has had."""
         return {ssrc for _, ssrc in self.identifiers}
 
+    def own_rate(self, moment: int) -> int:
+        """That of the clock of the own media, by the settings of this moment."""
+        return next(rate for since, rate in reversed(self.rates) if since <= moment)
+
     def choose(self, ssrcs: set[int], cnames: set[bytes]) -> None:
         """Leaves the sources that have one of these SSRCs or CNAMEs; all of them if none is given."""
         if ssrcs or cnames:
@@ -300,7 +306,7 @@ class Session:
         return self._receiver_interval(self._pace.of_check(moment, self._bandwidths))
 
     def _rate_of(self, kind: int) -> int:
-        return next((rate for one, rate in self._clocks if one == kind), self.options["rate"])
+        return next((rate for one, rate in self._clocks if one == kind), self.rates[-1][1])
 
     def _change(self, moment: int, ssrc: int, what: str) -> None:
         self.changes.append((moment, ssrc, what))
@@ -364,10 +370,12 @@ class Session:
             self.heard[ssrc].cname = text
 
     def _take_round_trips(self, moment: int, reporter: int, blocks: list[list[str]]) -> None:
-        """What blocks about this participant's sender reports say; an LSR that none of them had says nothing."""
+        """What blocks about this participant's sender reports say; an LSR that none of them had says nothing. The time
+        now is told as the sender report told its own, though the time of day may have been set since."""
         for ssrc, *_, last_report, delay in blocks:
-            if (int(ssrc, 16), int(last_report, 16)) in self._told:
-                now = participant.ntp_timestamp(self.options["ntp"], moment) >> 16
+            base = self._told.get((int(ssrc, 16), int(last_report, 16)))
+            if base is not None:
+                now = participant.ntp_timestamp(base, moment) >> 16
                 trip = (now - int(last_report, 16) - int(delay, 16) + 2**31) % 2**32 - 2**31
                 self.heard[reporter].round_trips.append((moment, trip / 65536))
 
@@ -422,7 +430,8 @@ class Session:
         packets = list(decoder.packets(answer.out))
         self._report_own(moment, packets)
         if is_sender:
-            self._told.add((self.identifiers[-1][1], int.from_bytes(packets[0][2][6:10], "big")))
+            last_report = int.from_bytes(packets[0][2][6:10], "big")
+            self._told[self.identifiers[-1][1], last_report] = self.bases[-1][1]
         blocks = [block for kind, count, body in packets if kind in (SENDER_REPORT, RECEIVER_REPORT)
                   for block in blocks_of(kind, count, body)]
         for source, fraction, lost, _, jitter, *_ in blocks:
@@ -446,6 +455,9 @@ class Session:
         self._clocks = participant.NUMBERS["clocks"](fields[2])
         self._bandwidths = given
         self.shares.append((moment, *self._bandwidths))
+        for values, value in ((self.rates, int(fields[4])), (self.bases, int(fields[5], 16))):
+            if value != values[-1][1]:
+                values.append((moment, value))
 
     def _forget(self, _: Answer, moment: int, source: bytes) -> None:
         ssrc = int(source, 16)

@@ -73,14 +73,13 @@ def part_cells(session: Session, stream: Stream, part: Part, interval: int) -> l
 
 def block_cells(session: Session, pair: Pair) -> list[list]:
     """A row for each block: what was expected and lost since the block before."""
-    rate = rate_of(session, pair.source)
     trips = {trip.moment: trip for trip in session.reported.trips(pair, session.own)}
     source = session.heard.get(pair.source)
     spans = {span.end: span for span in pair.spans(source.stream if source else None)}
     rows = []
     for block in pair.blocks:
         span, trip = spans.get(block.moment), trips.get(block.moment)
-        begin = time_of(session, span.begin) if span else ""
+        begin, rate = time_of(session, span.begin) if span else "", rate_of(session, pair.source, block.moment)
         jitter = f"{1000 * block.jitter / rate:.3f}" if rate else ""
         trip_cells = [f"{1000 * trip.time:.3f}", "yes" if trip.is_whole else "no"] if trip else ["", ""]
         rows.append([begin, time_of(session, block.moment), span.expected if span else "", span.lost if span else "",

@@ -4,7 +4,7 @@ Unlike the participant's report blocks, this counts from the first packet of a r
 never taken for one that was lost."""
 from __future__ import annotations
 
-from bisect import bisect_left
+from bisect import bisect_left, bisect_right
 from collections import Counter
 from dataclasses import dataclass
 from itertools import accumulate
@@ -61,7 +61,7 @@ class Stream:
     """The RTP packets of a source: filled by one call of `take` for each, in the order in which they came."""
 
     __slots__ = ("came", "repeated", "late", "strays", "restarts", "octets", "first", "last", "gap", "gap_from",
-                 "seconds", "kinds", "jitter", "most", "gaps", "lost", "first_sequence", "_sum", "_measured",
+                 "seconds", "kinds", "rates", "jitter", "most", "gaps", "lost", "first_sequence", "_sum", "_measured",
                  "_expected", "_first", "_greatest", "_run", "_stray", "_stray_second", "_rate", "_timestamp")
 
     def __init__(self) -> None:
@@ -70,6 +70,7 @@ class Stream:
         self.gap = self.gap_from = 0  # the longest time without a packet, and the moment at which it began
         self.seconds: dict[int, Second] = {}
         self.kinds: dict[int, list[int]] = {}  # by payload type: how many packets, and the rate of its clock
+        self.rates: list[tuple[int, int]] = []  # that of the packets' clock, with the moments from which on it was so
         self.jitter = self.most = self._sum = 0.0  # as RFC 3550, A.8, in microseconds: now, the greatest, their sum
         self._measured = 0  # packets that the jitter was computed at
         self.gaps: list[Gap] = []  # in the order of their numbers
@@ -118,6 +119,8 @@ class Stream:
             if jitter > second.most:
                 second.most = jitter
                 self.most = max(self.most, jitter)
+        else:
+            self.rates.append((moment, rate))
         self._rate, self._timestamp = rate, timestamp
 
     def _take_other(self, moment: int, sequence: int, second: Second) -> bool:
@@ -179,10 +182,10 @@ class Stream:
         """Packets from the first to the greatest sequence number, of all runs."""
         return self._expected + self._greatest - self._first + 1
 
-    @property
-    def rate(self) -> int:
-        """That of the clock of the newest packet, in units a second."""
-        return self._rate
+    def rate_at(self, moment: int) -> int:
+        """That of the clock of the packet that was the newest at a moment, or else of the first one, in units a
+        second."""
+        return self.rates[max(0, bisect_right(self.rates, moment, key=lambda one: one[0]) - 1)][1]
 
     @property
     def loss(self) -> Loss:

@@ -156,10 +156,9 @@ def jitter_of(session: Session, verdict: Verdict, pairs: list[Pair]) -> Value | 
     found = []
     if verdict.stream is not None and has_jitter(session, verdict.stream):
         found.append(Value(None, verdict.stream.mean_jitter, verdict.stream.most_jitter))
-    rate = rate_of(session, verdict.ssrc)
-    for pair in pairs if rate else []:
-        values = [1000 * block.jitter / rate for block in pair.blocks]
-        found.append(Value(pair.reporter, sum(values) / len(values), max(values)))
+    for pair in pairs:
+        if values := jitters_told(session, pair):
+            found.append(Value(pair.reporter, sum(values) / len(values), max(values)))
     return max(found, key=lambda value: value.mean, default=None)
 
 
@@ -168,13 +167,20 @@ def has_jitter(session: Session, stream: Stream) -> bool:
     return stream.is_measured and not session.guessed & stream.kinds.keys()
 
 
-def rate_of(session: Session, ssrc: int) -> int | None:
-    """The clock of a source: that of its newest packet, or what its sender reports say."""
+def jitters_told(session: Session, pair: Pair) -> list[float]:
+    """The jitter of each block, in milliseconds; of no block where the clock of the source is not known."""
+    rates = [rate_of(session, pair.source, block.moment) for block in pair.blocks]
+    return [1000 * block.jitter / rate for block, rate in zip(pair.blocks, rates) if rate]
+
+
+def rate_of(session: Session, ssrc: int, moment: int) -> int | None:
+    """The clock of a source at a moment: that of its newest packet, or what its sender reports say. This participant's
+    own one is that of its settings."""
     source = session.heard.get(ssrc)
     if source and source.stream:
-        return None if session.guessed & source.stream.kinds.keys() else source.stream.rate
+        return None if session.guessed & source.stream.kinds.keys() else source.stream.rate_at(moment)
     if ssrc in session.own:
-        return session.options["rate"]
+        return session.own_rate(moment)
     return session.reported.clock(ssrc)
 
 
