@@ -95,11 +95,13 @@ given_item_text item = decimal item.kind ++ 58 ∷ encode_lower item.text
 abbrev pub items_text : List ItemValue → List ℕ
 items_text items = list_text given_item_text items
 
--- the fields of settings, in their order
+-- the fields of settings, in their order: those of the bandwidths first
+abbrev pub other_fields : SettingsValue → List (List ℕ)
+other_fields settings =
+    clocks_text settings.clocks ∷ items_text settings.extras ∷ decimal settings.rate ∷ hex_long settings.ntp_base ∷ []
+
 abbrev pub settings_fields : SettingsValue → List (List ℕ)
-settings_fields settings =
-    decimal settings.sender_bw ∷ decimal settings.receiver_bw ∷ clocks_text settings.clocks
-    ∷ items_text settings.extras ∷ decimal settings.rate ∷ hex_long settings.ntp_base ∷ []
+settings_fields settings = decimal settings.sender_bw ∷ decimal settings.receiver_bw ∷ other_fields settings
 
 -- ---- The settings that fields can say
 

@@ -112,11 +112,11 @@ record Settings : Type 0 where
   comma_at_end : event_in (codes "configure 0 16 16 0:8000, - 8000 00000000000000ff") ≡ Err Number
   hyphen_among_clocks : event_in (codes "configure 0 16 16 0:8000,- - 8000 00000000000000ff") ≡ Err Number
   sixteen_clocks : event_in
-      (codes "configure 0 16 16 0:1,1:1,2:1,3:1,4:1,5:1,6:1,7:1,8:1,9:1,10:1,11:1,12:1,13:1,14:1,15:1 zz"
-      ++ codes " 8000 00000000000000ff") ≡ Err Hex
+      (codes "configure 0 16 16 0:1,1:1,2:1,3:1,4:1,5:1,6:1,7:1,8:1,9:1,10:1,11:1,12:1,13:1,14:1,15:1 zz 1 0")
+      ≡ Err Hex
   seventeen_clocks : event_in
-      (codes "configure 0 16 16 0:1,1:1,2:1,3:1,4:1,5:1,6:1,7:1,8:1,9:1,10:1,11:1,12:1,13:1,14:1,15:1,16:1 zz"
-      ++ codes " 8000 00000000000000ff") ≡ Err Number
+      (codes "configure 0 16 16 0:1,1:1,2:1,3:1,4:1,5:1,6:1,7:1,8:1,9:1,10:1,11:1,12:1,13:1,14:1,15:1,16:1 zz 1 0")
+      ≡ Err Number
   kind_too_great : event_in (codes "configure 0 16 16 - 256:61 8000 00000000000000ff") ≡ Err Hex
   odd_text : event_in (codes "configure 0 16 16 - 2:616 8000 00000000000000ff") ≡ Err Hex
   item_without_colon : event_in (codes "configure 0 16 16 - 2 8000 00000000000000ff") ≡ Err Hex

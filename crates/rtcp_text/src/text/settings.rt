@@ -4,7 +4,7 @@ ghost use Rattle.std.specs.Prelude.{◌≡◌, ◌++◌, ◌∷◌, OnOk, map};
 ghost use Rattle.rtcp_report.specs.Views.{item_value};
 ghost use Rattle.rtcp_engine.specs.state.Views.{clock_value, settings_value};
 ghost use Rattle.rtcp_text.specs.EventLines.{spaced};
-ghost use Rattle.rtcp_text.specs.SettingsFields.{clock_text, clocks_text, given_item_text, items_text, settings_fields};
+ghost use Rattle.rtcp_text.specs.SettingsFields.{clock_text, clocks_text, given_item_text, items_text, other_fields, settings_fields};
 
 use super::digits::{push_decimal, push_long, push_octets};
 use super::joined::{Shown, push_joined};
@@ -20,6 +20,14 @@ pub(super) fn push_settings(out: &mut Vec<u8>, settings: &Settings) -> Result<()
     out.push(b' ')?;
     push_decimal(out, u64::from(settings.receiver_bw))?;
     out.push(b' ')?;
+    push_others(out, settings)
+}
+
+/// Appends the fields of settings after the bandwidths.
+fn push_others(out: &mut Vec<u8>, settings: &Settings) -> Result<(), AllocError>
+    ensures { OnOk result
+        (out.new.items ≡ out.old.items ++ spaced (other_fields (settings_value settings.now))) }
+{
     push_clocks(out, &settings.clocks)?;
     out.push(b' ')?;
     push_items(out, &settings.extras)?;
