@@ -7,7 +7,7 @@ use rtcp_text::event_line::{EventBuffers, EventFault, read_event};
 use std::test::Fail;
 
 /// Lines, each with its first fault.
-static FAULTS: [(&str, LineFault); 93] = [
+static FAULTS: [(&str, LineFault); 101] = [
     ("rtcp 18446744073709551616 1 00000000 -", LineFault::Number),
     ("rtp 000000000000000000007 1 00000000 80", LineFault::Number),
     ("sent 5 4294967296 0", LineFault::Number),
