@@ -37,7 +37,7 @@ fn own_counts(rt: HostRuntime) {
         sends: 0,
     };
     assert_eq!(rt; told(alloc, &mut handle), (0, own));
-    for payload in [160, 40] {
+    for (payload, packets, octets_sent) in [(160, 1, 160), (40, 2, 200)] {
         let status = jalwedd_sent_rtp(
             alloc,
             &mut handle,
@@ -48,12 +48,13 @@ fn own_counts(rt: HostRuntime) {
             &mut octets,
         );
         assert_eq!(rt; status, 0);
-        own.packets += 1;
-        own.octets += payload;
-        own.sends = 1;
+        own = HostOwn {
+            packets,
+            octets: octets_sent,
+            sends: 1,
+        };
         assert_eq!(rt; told(alloc, &mut handle), (0, own));
     }
-    assert_eq!(rt; own.octets, 200);
     for (moment, sends) in [(1_026_037, 1), (10_000_000, 1), (10_000_001, 0)] {
         let status = jalwedd_tick(alloc, &mut handle, moment, 0, 0, &mut step, &mut octets);
         assert_eq!(rt; status, 0);
