@@ -637,7 +637,7 @@ uint32_t jalwedd_source(jalwedd_handle *handle, uint64_t from, jalwedd_source_st
 uint32_t jalwedd_own(jalwedd_handle *handle, jalwedd_own_stream *own) JALWEDD_NOT_NULL;
 
 /* Whether an RTP packet was counted (A.1): by what jalwedd_source gave about its source just before it came, and just
- * after. 0 for a packet of probation or out of sequence. Before its first packet a source is all zeros. */
+ * after. 0 for a packet of probation, or one whose number jumps. Before its first packet a source is all zeros. */
 static inline uint32_t jalwedd_was_counted(const jalwedd_source_state *before, const jalwedd_source_state *after)
 {
     return before->received != after->received || before->highest != after->highest;

@@ -102,7 +102,7 @@ impl fmt::Debug for Sources<'_> {
 impl SourceState {
     /// Whether an RTP packet was counted (RFC 3550, A.1), by what
     /// [`Participant::sources`](crate::Participant::sources) gave of its source just before it came, if it gave that,
-    /// and just after, which is this. A packet of probation is not, nor one out of sequence.
+    /// and just after, which is this. A packet of probation is not, nor one whose number jumps.
     ///
     /// ```
     /// # use jalwedd::{Config, Moment, Participant};
