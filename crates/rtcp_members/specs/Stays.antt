@@ -3,16 +3,14 @@
 -- say that it is gone.
 use Rattle.std.specs.Prelude.{ℕ, ◌≡◌, ◌<◌, ◌||◌, ◌==◌, ◌&&◌, Bool, true, false, nat_lt, List, [], ◌∷◌, ◌++◌, filter, length, if◌then◌else◌, Option, Some, None, is_some, is_none}
 use Rattle.rtcp_wire.specs.Facts.{subject, is_gone}
-use Rattle.rtcp_members.specs.Traces.{Horizons, TraceStep, fact_came, check_made, block_made_of, source_forgotten, is_naming, names}
+use Rattle.rtcp_members.specs.Traces.{Horizons, TraceStep, fact_came, check_made, source_forgotten, is_naming, names}
 
 -- ---- Parts of a stay
 
 abbrev pub mark_at : (ssrc : ℕ) → TraceStep → Option ℕ → Option ℕ
 mark_at ssrc step (Some mark) = Some mark
 mark_at ssrc (fact_came fact moment) None = if is_gone fact && subject fact == ssrc then Some moment else None
-mark_at ssrc (check_made horizons) None = None
-mark_at ssrc (block_made_of other) None = None
-mark_at ssrc (source_forgotten other) None = None
+mark_at ssrc _ None = None
 
 -- The mark of a source: the moment of its first BYE.
 abbrev pub mark_of : (ssrc : ℕ) → List TraceStep → Option ℕ
@@ -27,9 +25,7 @@ before_mark ssrc (step ∷ earlier) =
 
 abbrev pub step_moment : TraceStep → ℕ
 step_moment (fact_came fact moment) = moment
-step_moment (check_made horizons) = 0
-step_moment (block_made_of ssrc) = 0
-step_moment (source_forgotten ssrc) = 0
+step_moment _ = 0
 
 -- The moment of the last naming among these steps, 0 if there is none.
 abbrev pub last_naming : (ssrc : ℕ) → List TraceStep → ℕ
@@ -51,10 +47,9 @@ is_removed horizons sighting mark = nat_lt sighting horizons.silent || is_before
 -- A source that the host says is gone is present no more, unless it has a mark: then it is held until a check removes
 -- it.
 abbrev pub ends_stay : (ssrc : ℕ) → TraceStep → List TraceStep → Bool
-ends_stay ssrc (fact_came fact moment) stay = false
 ends_stay ssrc (check_made horizons) stay = is_removed horizons (last_sighting ssrc stay) (mark_of ssrc stay)
-ends_stay ssrc (block_made_of other) stay = false
 ends_stay ssrc (source_forgotten other) stay = other == ssrc && is_none (mark_of ssrc stay)
+ends_stay ssrc _ stay = false
 
 -- ---- Stays
 

@@ -30,9 +30,7 @@ pub data TraceStep : Type 0 where
 -- Whether a step names a source: each fact of it but that it has gone does.
 abbrev pub is_naming : (ssrc : ℕ) → TraceStep → Bool
 is_naming ssrc (fact_came fact moment) = not (is_gone fact) && subject fact == ssrc
-is_naming ssrc (check_made horizons) = false
-is_naming ssrc (block_made_of other) = false
-is_naming ssrc (source_forgotten other) = false
+is_naming ssrc _ = false
 
 abbrev pub with_name : Fact → List ℕ → List ℕ
 with_name fact named =
@@ -42,9 +40,7 @@ with_name fact named =
 abbrev pub names : List TraceStep → List ℕ
 names [] = []
 names (fact_came fact moment ∷ earlier) = with_name fact (names earlier)
-names (check_made horizons ∷ earlier) = names earlier
-names (block_made_of ssrc ∷ earlier) = names earlier
-names (source_forgotten ssrc ∷ earlier) = names earlier
+names (_ ∷ earlier) = names earlier
 
 -- the trace once these facts came at one moment, one after the other
 abbrev pub with_facts : List Fact → (moment : ℕ) → List TraceStep → List TraceStep

@@ -41,6 +41,5 @@ said_of (p ∷ earlier) reported =
 -- What the last block said, over restarts too.
 abbrev pub last_block : List Given → Option LastBlockValue
 last_block [] = None
-last_block (packet_came seq timestamp arrival octets rate ∷ given) = last_block given
-last_block (report_came ntp rtp moment ∷ given) = last_block given
 last_block (block_made ∷ given) = let run : PacketRun = run_of given in said_of run.counted run.reported
+last_block (_ ∷ given) = last_block given

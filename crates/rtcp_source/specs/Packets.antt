@@ -109,8 +109,7 @@ run_with Counted seq transit octets rate run =
     with_counted (packet_at (ordinal_near (greatest_ordinal run.counted) seq) transit octets rate) run
 run_with Became seq transit octets rate run = run_started seq transit octets rate
 run_with Restarted seq transit octets rate run = run_started seq transit octets rate
-run_with Probation seq transit octets rate run = record run { strays = seq ∷ run.strays }
-run_with Bad seq transit octets rate run = record run { strays = seq ∷ run.strays }
+run_with _ seq transit octets rate run = record run { strays = seq ∷ run.strays }
 
 -- arrival less timestamp, modulo 2^32
 abbrev pub transit_of : (timestamp arrival : ℕ) → ℕ
@@ -125,11 +124,9 @@ run_of (report_came ntp rtp moment ∷ given) = run_of given
 run_of (block_made ∷ given) = let run = run_of given in record run { reported = run.counted }
 
 abbrev pub is_counted : Taken → Bool
-is_counted Counted = true
-is_counted Became = true
-is_counted Restarted = true
 is_counted Probation = false
 is_counted Bad = false
+is_counted _ = true
 
 -- A source has news where some packet was counted since its last block, or at all if no block was made.
 abbrev pub has_news_since : List Given → Bool

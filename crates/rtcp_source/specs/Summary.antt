@@ -111,14 +111,12 @@ numbers_of (p ∷ earlier) before =
 abbrev pub packet_count : List Given → ℕ
 packet_count [] = 0
 packet_count (packet_came seq timestamp arrival octets rate ∷ given) = packet_count given + 1
-packet_count (report_came ntp rtp moment ∷ given) = packet_count given
-packet_count (block_made ∷ given) = packet_count given
+packet_count (_ ∷ given) = packet_count given
 
 abbrev pub last_report_of : List Given → Option LastReportValue
 last_report_of [] = None
-last_report_of (packet_came seq timestamp arrival octets rate ∷ given) = last_report_of given
 last_report_of (report_came ntp rtp moment ∷ given) = Some (record { ntp = ntp; rtp = rtp; moment = moment })
-last_report_of (block_made ∷ given) = last_report_of given
+last_report_of (_ ∷ given) = last_report_of given
 
 abbrev pub summary_of : List Given → SourceValue
 summary_of given =

@@ -17,19 +17,13 @@ subject (Media ssrc seq timestamp octets rate) = ssrc
 
 -- whether it says that the source left
 abbrev pub is_gone : Fact → Bool
-is_gone (Heard ssrc) = false
-is_gone (Told ssrc ntp rtp) = false
-is_gone (Named ssrc) = false
 is_gone (Gone ssrc) = true
-is_gone (Media ssrc seq timestamp octets rate) = false
+is_gone _ = false
 
 -- whether it is an RTP packet
 abbrev pub is_media : Fact → Bool
-is_media (Heard ssrc) = false
-is_media (Told ssrc ntp rtp) = false
-is_media (Named ssrc) = false
-is_media (Gone ssrc) = false
 is_media (Media ssrc seq timestamp octets rate) = true
+is_media _ = false
 
 -- ---- The facts of packets
 

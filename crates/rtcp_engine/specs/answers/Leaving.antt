@@ -15,12 +15,8 @@ use Rattle.rtcp_engine.specs.answers.Outcomes.{Outcome, member_count}
 -- ---- Backing off
 
 abbrev pub is_bye : RtcpPacket → Bool
-is_bye (sr sender blocks extension) = false
-is_bye (rr ssrc blocks extension) = false
-is_bye (sdes chunks) = false
 is_bye (bye ids reason) = true
-is_bye (app subtype ssrc name octets) = false
-is_bye (other kind count octets) = false
+is_bye _ = false
 
 -- how many packets of a compound are BYE packets
 abbrev pub bye_count : List RtcpPacket → ℕ

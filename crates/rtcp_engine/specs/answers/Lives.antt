@@ -64,34 +64,29 @@ members_in_life setup (finished outcome) = 0
 
 abbrev pub senders_in_life : Setup → Life → ℕ
 senders_in_life setup (present outcome) = sender_count setup outcome
-senders_in_life setup (backing_off outcome backoff) = 0
-senders_in_life setup (finished outcome) = 0
+senders_in_life setup _ = 0
 
 -- how many sources are present, members or not, until the participant leaves
 abbrev pub entries_in_life : Setup → Life → ℕ
 entries_in_life setup (present outcome) = present_among (names outcome.trace) (stay_of setup.capacity outcome.trace)
-entries_in_life setup (backing_off outcome backoff) = 0
-entries_in_life setup (finished outcome) = 0
+entries_in_life setup _ = 0
 
 -- what the participant tells of a source goes by this, if it tells of it
 abbrev pub entry_in_life : Setup → Life → (ssrc : ℕ) → Option EntryValue
 entry_in_life setup (present outcome) ssrc = entry_at setup.capacity outcome.trace ssrc
-entry_in_life setup (backing_off outcome backoff) ssrc = None
-entry_in_life setup (finished outcome) ssrc = None
+entry_in_life setup _ ssrc = None
 
 -- Of the sources above `after` the one of least SSRC is told, by the trace, as long as the participant takes part.
 -- In a backoff it follows nobody any more, so nobody is told from its leave on.
 abbrev pub ListsInLife : Setup → (after : Option ℕ) → Life → Option StateValue → Type 0
 ListsInLife setup after (present outcome) listed =
     ListsAbove after setup.capacity outcome.trace listed
-ListsInLife setup after (backing_off outcome backoff) listed = listed ≡ None
-ListsInLife setup after (finished outcome) listed = listed ≡ None
+ListsInLife setup after _ listed = listed ≡ None
 
 -- what is told of all sources, one after the other
 abbrev pub WalksInLife : Setup → Life → List StateValue → Type 0
 WalksInLife setup (present outcome) states = IsWalk None setup.capacity outcome.trace states
-WalksInLife setup (backing_off outcome backoff) states = states ≡ []
-WalksInLife setup (finished outcome) states = states ≡ []
+WalksInLife setup _ states = states ≡ []
 
 -- ---- Changes of the others
 
@@ -107,14 +102,12 @@ moved_since setup before after =
 -- the same of a life that began as this outcome: nobody is told of from a leave on
 abbrev pub others_moved_into : Setup → (before : Outcome) → Life → Bool
 others_moved_into setup before (present after) = moved_since setup before after
-others_moved_into setup before (backing_off after backoff) = has_others setup before
-others_moved_into setup before (finished after) = has_others setup before
+others_moved_into setup before _ = has_others setup before
 
 -- Whether an act changes who of the others is a member, or who of them sends, as far as the participant tells.
 abbrev pub others_moved_by : Setup → Act → Life → Bool
 others_moved_by setup act (present outcome) = others_moved_into setup outcome (while_present setup act outcome)
-others_moved_by setup act (backing_off outcome backoff) = false
-others_moved_by setup act (finished outcome) = false
+others_moved_by setup act _ = false
 
 -- the moment to ask again, until the participant is gone
 abbrev pub next_in_life : Life → Option ℕ
@@ -126,8 +119,7 @@ next_in_life (finished outcome) = None
 -- at that moment. From its leave on the participant makes no check.
 abbrev pub silent_in_life : Setup → (t : ℕ) → Life → ℕ
 silent_in_life setup t (present outcome) = (horizons_of t (check_interval setup t outcome)).silent
-silent_in_life setup t (backing_off outcome backoff) = 0
-silent_in_life setup t (finished outcome) = 0
+silent_in_life setup t _ = 0
 
 -- ---- The whole
 

@@ -21,10 +21,9 @@ call_refusal moment latest calls =
 -- ---- Datagrams
 
 abbrev pub fault_in : Datagram → Option Refusal
-fault_in (rtcp size (Ok packets)) = None
 fault_in (rtcp size (Err fault)) = Some (Wire fault)
-fault_in (rtp (Ok head)) = None
 fault_in (rtp (Err fault)) = Some (Rtp fault)
+fault_in _ = None
 
 abbrev pub refusal_if : Bool → Refusal → Option Refusal
 refusal_if b refusal = if b then Some refusal else None
@@ -51,9 +50,8 @@ refusal_of history act =
 
 -- One that is gone takes nothing more, whatever else is wrong with an act.
 abbrev pub refusal_in : Life → Option Refusal → Option Refusal
-refusal_in (present outcome) refusal = refusal
-refusal_in (backing_off outcome backoff) refusal = refusal
 refusal_in (finished outcome) refusal = Some Left
+refusal_in _ refusal = refusal
 
 -- why an act is refused after a history, if it is
 abbrev pub refusal_after : History → Act → Option Refusal

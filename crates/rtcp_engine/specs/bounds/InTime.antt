@@ -29,8 +29,7 @@ recounted_by setup act outcome = outcome
 abbrev pub is_fall : Setup → Act → Life → Bool
 is_fall setup act (present outcome) =
     nat_lt (member_count setup (recounted_by setup act outcome)) (member_count setup outcome)
-is_fall setup act (backing_off outcome backoff) = false
-is_fall setup act (finished outcome) = false
+is_fall setup act _ = false
 
 -- the moment of the newest fall, 0 if there was none
 abbrev pub last_fall : Setup → (word : ℕ) → List Act → ℕ
