@@ -1,14 +1,15 @@
 -- A table and numbers that agree with an outcome agree, once they moved, with the outcome after the same act.
-use Rattle.std.proofs.Common.{None, ◌≡◌, ℕ, ◌+◌, ◌==◌, Bool, List, [], ◌∷◌, length, Option, is_some, refl, sym, ap, ◌∙◌, arith, subst}
+use Rattle.std.proofs.Common.{None, ◌≡◌, ℕ, ◌+◌, ◌==◌, Bool, List, [], ◌∷◌, length, map, Option, is_some, refl, sym, ap, ◌∙◌, arith, subst}
 use Rattle.std.proofs.lemmas.Bool.{ne_eqb}
 use Rattle.rtcp_wire.specs.declared.fact.Fact.{Fact}
 use Rattle.rtcp_wire.specs.RtpHeads.{RtpValue}
+use Rattle.rtcp_wire.specs.Values.{ReportBlock}
 use Rattle.rtcp_wire.specs.Writing.{written_all}
 use Rattle.rtcp_members.specs.Traces.{TraceStep, with_facts}
 use Rattle.rtcp_members.specs.Entries.{members_at, senders_at, counted_at}
 use Rattle.rtcp_members.specs.Tables.{StandsAt as IsTableAt, TableValue, counted, after_facts, members_in, senders_in, after_forgetting}
 use Rattle.rtcp_members.specs.Pending.{EntryRow, pending, after_blocks, blocks_of, last_reported}
-use Rattle.rtcp_members.specs.News.{pending_rows_at}
+use Rattle.rtcp_members.specs.News.{blocks_at, pending_rows_at}
 use Rattle.std.specs.FinMap as finite
 use Rattle.rtcp_members.specs.Traces.{names}
 use Rattle.rtcp_members.specs.Stays.{present_among, stay_of}
@@ -207,16 +208,35 @@ pending_agree s o a =
     ∙ tables.turns_follow_traces-rows (last_reported_in o.trace) s.table o.trace a.still.table
     ∙ ap (λ (c : ℕ). pending_rows_at (last_reported_in o.trace) c o.trace) a.still.capacity
 
-pub rows_agree : (s : State) (o : Outcome) (t : ℕ) → Agrees s o → rows_in t s ≡ reported_at s.setup t o
+-- They are the rows of those by the trace, as many as fit.
+rows_agree : (s : State) (o : Outcome) (t : ℕ) → Agrees s o → rows_in t s
+    ≡ fitting (reporter_at s.setup t o) s.setup.limit
+    (pending_rows_at (last_reported_in o.trace) s.setup.capacity o.trace)
 rows_agree s o t a =
     ap (λ (r : Reporter). fitting r s.setup.limit (pending s.cursor s.table)) (reporters_agree s o t a)
-    ∙ ap (fitting (reporter_at s.setup t o) s.setup.limit) (pending_agree s o a)
+    ∙ ap (λ (rows : List EntryRow). fitting (reporter_at s.setup t o) s.setup.limit rows) (pending_agree s o a)
+
+abbrev ssrcs_of : List EntryRow → List ℕ
+ssrcs_of rows = map (λ (row : EntryRow). row.0) rows
+
+sources_agree : (s : State) (o : Outcome) (t : ℕ) → Agrees s o → ssrcs_of (rows_in t s) ≡ reported_at s.setup t o
+sources_agree s o t a =
+    ap ssrcs_of (rows_agree s o t a)
+    ∙ reports.reports_are_of_stays-sources (reporter_at s.setup t o) s.setup.limit (last_reported_in o.trace)
+    s.setup.capacity o.trace
+
+blocks_agree : (s : State) (o : Outcome) (t : ℕ) → Agrees s o → blocks_of t (rows_in t s)
+    ≡ blocks_at t s.setup.capacity o.trace (reported_at s.setup t o)
+blocks_agree s o t a =
+    ap (blocks_of t) (rows_agree s o t a)
+    ∙ reports.reports_are_of_stays-blocks (reporter_at s.setup t o) s.setup.limit t (last_reported_in o.trace)
+    s.setup.capacity o.trace
 
 pub octets_agree : (s : State) (o : Outcome) (t : ℕ) → Agrees s o → octets_in t s ≡ report_octets s.setup t o
 octets_agree s o t a =
     ap (λ (r : Reporter). written_all (packets_with r (blocks_of t (rows_in t s)))) (reporters_agree s o t a)
-    ∙ ap (λ (rows : List EntryRow). written_all (packets_with (reporter_at s.setup t o) (blocks_of t rows)))
-    (rows_agree s o t a)
+    ∙ ap (λ (blocks : List ReportBlock). written_all (packets_with (reporter_at s.setup t o) blocks))
+    (blocks_agree s o t a)
 
 pub sent_reports_agree : (s : State) (o : Outcome) (t : ℕ) (own : OwnValue) → Adds s.own own report_sent → Agrees s o →
     Agrees (record s {
@@ -227,7 +247,7 @@ pub sent_reports_agree : (s : State) (o : Outcome) (t : ℕ) (own : OwnValue) �
       reports = s.reports + 1;
     }) (ticks.with_report s.setup t o)
 sent_reports_agree s o t own adds a =
-    let rows = rows_agree s o t a in
+    let sources = sources_agree s o t a in
     let kept = tables.bounds_are_kept-blocks s.table (rows_in t s) in
     record {
       timing = a.timing;
@@ -236,15 +256,15 @@ sent_reports_agree s o t own adds a =
           (length octets)) (octets_agree s o t a);
       pace = a.pace;
       still = record {
-        table = subst (λ (rs : List EntryRow). IsTableAt (after_blocks (rows_in t s) s.table) (with_blocks rs o.trace))
-            rows
+        table = subst (λ (ssrcs : List ℕ). IsTableAt (after_blocks (rows_in t s) s.table) (with_blocks ssrcs o.trace))
+            sources
             (reports.tables_follow_reports-stands (reporter_in t s) s.setup.limit s.cursor s.table o.trace
             a.still.table);
         capacity = kept.capacity ∙ a.still.capacity;
         own = adds o.own a.still.own;
         cursor = ap (λ (c : Option ℕ). last_reported c (rows_in t s)) a.still.cursor
-            ∙ ap (last_reported (last_reported_in o.trace)) rows
-            ∙ sym (last_block_is_newest (reported_at s.setup t o) o.trace);
+            ∙ sym (last_block_is_newest (rows_in t s) o.trace)
+            ∙ ap (λ (ssrcs : List ℕ). last_reported_in (with_blocks ssrcs o.trace)) sources;
         reports = omega (arith, a.still.reports);
       };
     }

@@ -8,7 +8,6 @@ use Rattle.rtcp_wire.specs.RtpHeads.{RtpValue}
 use Rattle.rtcp_wire.specs.Values.{RtcpPacket}
 use Rattle.rtcp_members.specs.Entries.{counted_at, entry_at, is_member, is_such}
 use Rattle.rtcp_members.specs.Lasting.{MayBring}
-use Rattle.rtcp_members.specs.Pending.{EntryRow}
 use Rattle.rtcp_members.specs.Traces.{TraceStep, block_made_of, check_made, source_forgotten}
 use Rattle.rtcp_members.proofs.Lasting.{member_on}
 use Rattle.rtcp_members.proofs.Introducing.{members_through, named_become_members}
@@ -36,12 +35,12 @@ module _ (ssrc : ℕ) where
   abbrev IsQuiet : Fact → Type 0
   IsQuiet fact = (is_gone fact && subject fact == ssrc) ≡ false
 
-  in_blocks : (capacity : ℕ) (rows : List EntryRow) (trace : List TraceStep) → IsIn capacity trace →
-      IsIn capacity (with_blocks rows trace)
+  in_blocks : (capacity : ℕ) (ssrcs : List ℕ) (trace : List TraceStep) → IsIn capacity trace →
+      IsIn capacity (with_blocks ssrcs trace)
   in_blocks capacity [] trace is = is
-  in_blocks capacity (row ∷ rows) trace is =
-      in_blocks capacity rows (block_made_of row.0 ∷ trace)
-      (member_on capacity ssrc (block_made_of row.0) trace is
+  in_blocks capacity (reported ∷ ssrcs) trace is =
+      in_blocks capacity ssrcs (block_made_of reported ∷ trace)
+      (member_on capacity ssrc (block_made_of reported) trace is
       (record { quiet = refl; kept = refl; heard = omega arith }))
 
   pub in_check : (setup : Setup) (t : ℕ) (outcome : Outcome) → IsIn setup.capacity outcome.trace →

@@ -5,7 +5,6 @@ use Rattle.std.proofs.lemmas.List.{drop-drop}
 use Rattle.rtcp_wire.specs.declared.fact.Fact.{Fact}
 use Rattle.rtcp_wire.specs.Facts.{facts_of}
 use Rattle.rtcp_members.specs.Entries.{EntryValue, counted_at, entry_at, members_at}
-use Rattle.rtcp_members.specs.Pending.{EntryRow}
 use Rattle.rtcp_members.specs.Roles.{IsSameRole}
 use Rattle.rtcp_members.specs.Traces.{TraceStep, block_made_of, fact_came, with_facts, source_forgotten}
 use Rattle.rtcp_members.proofs.LawLemmas as tables
@@ -49,9 +48,9 @@ facts_go_on : (facts : List Fact) (t : ℕ) (trace : List TraceStep) → GoesOn 
 facts_go_on [] t trace = goes_nowhere trace
 facts_go_on (fact ∷ facts) t trace = one_sooner (facts_go_on facts t (fact_came fact t ∷ trace))
 
-blocks_go_on : (rows : List EntryRow) (trace : List TraceStep) → GoesOn trace (with_blocks rows trace)
+blocks_go_on : (ssrcs : List ℕ) (trace : List TraceStep) → GoesOn trace (with_blocks ssrcs trace)
 blocks_go_on [] trace = goes_nowhere trace
-blocks_go_on (row ∷ rows) trace = one_sooner (blocks_go_on rows (block_made_of row.0 ∷ trace))
+blocks_go_on (ssrc ∷ ssrcs) trace = one_sooner (blocks_go_on ssrcs (block_made_of ssrc ∷ trace))
 
 -- ---- One that takes part
 

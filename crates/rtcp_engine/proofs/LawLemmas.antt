@@ -190,7 +190,8 @@ pub sent_reports_are_counted : (history : History) → reports_of (life_at histo
 sent_reports_are_counted history = reports_counted history.setup history.word history.acts
 
 pub last_block_is_newest : (rows : List EntryRow) (trace : List TraceStep) →
-    last_reported_in (with_blocks rows trace) ≡ last_reported (last_reported_in trace) rows
+    last_reported_in (with_blocks (map (λ (row : EntryRow). row.0) rows) trace)
+    ≡ last_reported (last_reported_in trace) rows
 last_block_is_newest [] trace = refl
 last_block_is_newest (row ∷ rows) trace = last_block_is_newest rows (block_made_of row.0 ∷ trace)
 

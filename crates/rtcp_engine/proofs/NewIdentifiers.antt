@@ -10,7 +10,6 @@ use Rattle.std.specs.List.{AllByRecursion, IsDistinct, list_any}
 use Rattle.std.specs.Set.{is_member}
 use Rattle.rtcp_members.specs.Traces.{TraceStep, names}
 use Rattle.rtcp_members.specs.Stays.{stay_of}
-use Rattle.rtcp_members.specs.Entries.{entry_at, entry_of}
 use Rattle.rtcp_members.proofs.LawLemmas.{present_were_named_and_fit-named, present_were_named_and_fit-fit}
 use Rattle.rtcp_engine.specs.declared.changes.IdentifierChange.{IdentifierChange}
 use Rattle.rtcp_engine.specs.declared.refusal.Refusal.TheVariants.{OwnSsrc}
@@ -260,24 +259,14 @@ held_is_among capacity trace named ssrc there is =
     ∙ is_member-filter number_equality held ssrc (λ other same. ap held (eqb-true ssrc other same)) named
     ∙ ap (λ (b : Bool). b && held ssrc) (sym (among_is_member named ssrc) ∙ is) ∙ there
 
-abbrev entry_is_stay : (capacity : ℕ) (trace : List TraceStep) (ssrc : ℕ) →
-    is_some (entry_at capacity trace ssrc) ≡ is_some (stay_of capacity trace ssrc)
-entry_is_stay capacity trace ssrc = mapped (stay_of capacity trace ssrc)
-  where
-    mapped : (stay : Option (List TraceStep)) → is_some (option_map (entry_of ssrc) stay) ≡ is_some stay
-    mapped None = refl
-    mapped (Some stay) = refl
-
 in_table_is_held : (setup : Setup) (life : Life) (ssrc : ℕ) → is_in_table setup life ssrc ≡ true →
     is_among (held_in setup life) ssrc ≡ true
 in_table_is_held setup (present outcome) ssrc is =
-    let there = sym (entry_is_stay setup.capacity outcome.trace ssrc) ∙ is in
-    held_is_among setup.capacity outcome.trace (names outcome.trace) ssrc there
-    (present_were_named_and_fit-named setup.capacity outcome.trace ssrc there)
+    held_is_among setup.capacity outcome.trace (names outcome.trace) ssrc is
+    (present_were_named_and_fit-named setup.capacity outcome.trace ssrc is)
 in_table_is_held setup (backing_off outcome backoff) ssrc is =
-    let there = sym (entry_is_stay setup.capacity outcome.trace ssrc) ∙ is in
-    held_is_among setup.capacity outcome.trace (names outcome.trace) ssrc there
-    (present_were_named_and_fit-named setup.capacity outcome.trace ssrc there)
+    held_is_among setup.capacity outcome.trace (names outcome.trace) ssrc is
+    (present_were_named_and_fit-named setup.capacity outcome.trace ssrc is)
 in_table_is_held setup (finished outcome) ssrc is = absurd cc
 
 one_instead : (a b c d : Bool) → (b ≡ true → c ≡ true) → (a || (b || d)) ≡ true → (a || (c || d)) ≡ true

@@ -8,7 +8,6 @@ use Rattle.rtcp_wire.specs.RtpHeads.{RtpValue}
 use Rattle.rtcp_wire.proofs.LawLemmas.{compounds_give_no_media}
 use Rattle.rtcp_members.specs.Clocks.{HasOneClock, HasRate}
 use Rattle.rtcp_members.specs.Entries.{counted_at}
-use Rattle.rtcp_members.specs.Pending.{EntryRow}
 use Rattle.rtcp_members.specs.Traces.{TraceStep, block_made_of, fact_came, with_facts}
 use Rattle.rtcp_report.specs.Traced.{with_blocks}
 use Rattle.rtcp_engine.specs.answers.Setups.{Setup, ClockValue, rate_among}
@@ -53,10 +52,10 @@ media_has own rate moment head true trace has =
     (fact_came (media_fact rate head) moment ∷ trace) (refl, has)
 media_has own rate moment head false trace has = (refl, has)
 
-blocks_have : (rate : ℕ) (rows : List EntryRow) (trace : List TraceStep) → HasOneClock rate trace →
-    HasOneClock rate (with_blocks rows trace)
+blocks_have : (rate : ℕ) (ssrcs : List ℕ) (trace : List TraceStep) → HasOneClock rate trace →
+    HasOneClock rate (with_blocks ssrcs trace)
 blocks_have rate [] trace has = has
-blocks_have rate (row ∷ rows) trace has = blocks_have rate rows (block_made_of row.0 ∷ trace) (tt, has)
+blocks_have rate (ssrc ∷ ssrcs) trace has = blocks_have rate ssrcs (block_made_of ssrc ∷ trace) (tt, has)
 
 -- ---- One that takes part
 

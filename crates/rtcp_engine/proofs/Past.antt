@@ -6,7 +6,6 @@ use Rattle.std.proofs.lemmas.List.Elements.{All-nil}
 use Rattle.rtcp_wire.specs.Facts.{facts_of}
 use Rattle.rtcp_members.specs.Entries.{counted_at}
 use Rattle.rtcp_members.specs.Past.{CameBy, IsKnownBy}
-use Rattle.rtcp_members.specs.Pending.{EntryRow}
 use Rattle.rtcp_members.specs.Listings.{StateValue}
 use Rattle.rtcp_members.specs.Traces.{TraceStep, block_made_of}
 use Rattle.rtcp_members.proofs.LawLemmas as tables
@@ -32,11 +31,11 @@ use Rattle.rtcp_engine.proofs.Sending.{in_time}
 
 -- ---- One that takes part
 
-blocks_came : (latest : ℕ) (rows : List EntryRow) (trace : List TraceStep) → CameBy latest trace →
-    CameBy latest (with_blocks rows trace)
+blocks_came : (latest : ℕ) (ssrcs : List ℕ) (trace : List TraceStep) → CameBy latest trace →
+    CameBy latest (with_blocks ssrcs trace)
 blocks_came latest [] trace came = came
-blocks_came latest (row ∷ rows) trace came =
-    blocks_came latest rows (block_made_of row.0 ∷ trace) (omega arith, came)
+blocks_came latest (ssrc ∷ ssrcs) trace came =
+    blocks_came latest ssrcs (block_made_of ssrc ∷ trace) (omega arith, came)
 
 report_came : (setup : Setup) (t first_word second_word : ℕ) (outcome : Outcome) → CameBy t outcome.trace →
     CameBy t (after_check setup t first_word second_word outcome).trace

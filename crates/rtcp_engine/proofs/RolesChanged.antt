@@ -5,7 +5,6 @@ use Rattle.rtcp_wire.specs.Facts.{facts_of}
 use Rattle.rtcp_wire.specs.RtpHeads.{RtpValue}
 use Rattle.rtcp_wire.specs.Values.{RtcpPacket}
 use Rattle.rtcp_members.specs.Entries.{counted_at}
-use Rattle.rtcp_members.specs.Pending.{EntryRow}
 use Rattle.rtcp_members.specs.Roles.{check_moves, facts_move, moved_within, step_moves, forgetting_moves}
 use Rattle.rtcp_members.specs.Tables.{counted, members_in}
 use Rattle.rtcp_members.specs.Traces.{Horizons, TraceStep, block_made_of, check_made, fact_came, with_facts, source_forgotten}
@@ -53,17 +52,17 @@ module _ (capacity : ℕ) where
       or_none false = refl
 
   -- Blocks move nobody.
-  blocks_since : (rows : List EntryRow) (before : ℕ) (trace : List TraceStep) → before ≤ length trace
-      → moved_within capacity (length (with_blocks rows trace) - before) (with_blocks rows trace) ≡ moved_within
+  blocks_since : (ssrcs : List ℕ) (before : ℕ) (trace : List TraceStep) → before ≤ length trace
+      → moved_within capacity (length (with_blocks ssrcs trace) - before) (with_blocks ssrcs trace) ≡ moved_within
       capacity (length trace - before) trace
   blocks_since [] before trace within = refl
-  blocks_since (row ∷ rows) before trace within =
-      blocks_since rows before (block_made_of row.0 ∷ trace) (omega (arith, within))
-      ∙ ap (λ (n : ℕ). moved_within capacity n (block_made_of row.0 ∷ trace)) one_more
+  blocks_since (ssrc ∷ ssrcs) before trace within =
+      blocks_since ssrcs before (block_made_of ssrc ∷ trace) (omega (arith, within))
+      ∙ ap (λ (n : ℕ). moved_within capacity n (block_made_of ssrc ∷ trace)) one_more
       ∙ ap (λ (b : Bool). b || moved_within capacity (length trace - before) trace)
-      (tables.roles_move_with_counts-block capacity row.0 trace)
+      (tables.roles_move_with_counts-block capacity ssrc trace)
     where
-      one_more : length (block_made_of row.0 ∷ trace) - before ≡ suc (length trace - before)
+      one_more : length (block_made_of ssrc ∷ trace) - before ≡ suc (length trace - before)
       one_more = omega (arith, within)
 
 -- ---- Arrivals

@@ -6,14 +6,16 @@ use Rattle.std.specs.List.{slice_get}
 use Rattle.std.specs.Option.{option_or}
 use Rattle.rtcp_clock.specs.Intervals.{drawn_interval}
 use Rattle.rtcp_clock.proofs.LawLemmas.{draw_within_bounds}
+use Rattle.rtcp_report.specs.Reports.{packets_with}
 use Rattle.rtcp_report.specs.Sizes.{IsShort}
-use Rattle.rtcp_report.proofs.LawLemmas.{compounds_are_small-report, compounds_are_small-empty, compounds_are_small-bye}
+use Rattle.rtcp_report.proofs.LawLemmas.{compounds_are_small-report, compounds_are_small-empty, compounds_are_small-bye, reports_are_of_stays-blocks}
 use Rattle.rtcp_timer.specs.Loads.{minimum_of}
 use Rattle.rtcp_timer.specs.Schedules as schedules
 use Rattle.rtcp_timer.specs.Schedules.{Happening, transmitted, tried, recounted, IsDue, IsInOrder, newest_transmission, schedule_at}
 use Rattle.rtcp_timer.proofs.LawLemmas.{interval_has_minimum, never_due_too_soon}
 use Rattle.rtcp_members.specs.News.{pending_rows_at}
-use Rattle.rtcp_wire.specs.Values.{ItemValue}
+use Rattle.rtcp_wire.specs.Values.{ItemValue, ReportBlock}
+use Rattle.rtcp_wire.specs.Writing.{written_all}
 use Rattle.rtcp_engine.specs.declared.refusal.Refusal.{Refusal}
 use Rattle.rtcp_engine.specs.declared.refusal.Refusal.TheVariants.{Backwards}
 use Rattle.rtcp_engine.specs.answers.Setups.{Setup, IsExtraItem, IsUsable}
@@ -132,9 +134,12 @@ report_is_within setup t outcome usable =
     let extra = short_if _ _ (short_read setup.extras _ usable.extras) in
     let empty = compounds_are_small-empty setup.ssrc (sent_of setup.ntp_base setup.rate t (own_of outcome.own))
     setup.cname (extra_item setup.extras (length outcome.reports + 1)) usable.cname.1 extra in
-    compounds_are_small-report (reporter_at setup t outcome) setup.limit t
-    (pending_rows_at (last_reported_in outcome.trace) setup.capacity outcome.trace)
-    (omega (arith, empty, usable.limit.0))
+    let last = last_reported_in outcome.trace in
+    subst (λ (blocks : List ReportBlock). length (written_all (packets_with (reporter_at setup t outcome) blocks))
+    ≤ setup.limit)
+    (reports_are_of_stays-blocks (reporter_at setup t outcome) setup.limit t last setup.capacity outcome.trace)
+    (compounds_are_small-report (reporter_at setup t outcome) setup.limit t
+    (pending_rows_at last setup.capacity outcome.trace) (omega (arith, empty, usable.limit.0)))
 
 bye_is_within : (setup : Setup) → IsUsable setup → length (bye_octets setup) ≤ setup.limit
 bye_is_within setup usable = omega (

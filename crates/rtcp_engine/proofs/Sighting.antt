@@ -4,7 +4,6 @@ use Rattle.std.specs.List.{list_any}
 use Rattle.rtcp_wire.specs.declared.fact.Fact.{Fact}
 use Rattle.rtcp_wire.specs.Facts.{subject, is_gone, facts_of}
 use Rattle.rtcp_members.specs.Entries.{counted_at}
-use Rattle.rtcp_members.specs.Pending.{EntryRow}
 use Rattle.rtcp_members.specs.Stays.{last_naming}
 use Rattle.rtcp_members.specs.Traces.{TraceStep, block_made_of, fact_came, is_naming, with_facts}
 use Rattle.rtcp_report.specs.Traced.{with_blocks}
@@ -67,10 +66,10 @@ module _ (ssrc at : ℕ) where
           sighted_after facts at (fact_came fact at ∷ trace) (omega arith) (named_first fact trace is)
       by false is any rest = rest any
 
-  sighted_blocks : (rows : List EntryRow) (trace : List TraceStep) → IsSighted trace →
-      IsSighted (with_blocks rows trace)
+  sighted_blocks : (ssrcs : List ℕ) (trace : List TraceStep) → IsSighted trace →
+      IsSighted (with_blocks ssrcs trace)
   sighted_blocks [] trace is = is
-  sighted_blocks (row ∷ rows) trace is = sighted_blocks rows (block_made_of row.0 ∷ trace) is
+  sighted_blocks (ssrc ∷ ssrcs) trace is = sighted_blocks ssrcs (block_made_of ssrc ∷ trace) is
 
   -- ---- Acts of one that takes part
 

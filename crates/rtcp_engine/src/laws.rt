@@ -268,7 +268,8 @@ pub fn one_clock_without_others()
 #[tactic(auto, using(crate::proofs::LawLemmas::last_block_is_newest))]
 pub fn last_block_is_newest()
     ensures { (rows : List EntryRow) (trace : List TraceStep) →
-        last_reported_in (with_blocks rows trace) ≡ last_reported (last_reported_in trace) rows }
+        last_reported_in (with_blocks (map (λ (row : EntryRow). row.0) rows) trace)
+        ≡ last_reported (last_reported_in trace) rows }
 {}
 
 /// Reports 3, 6, 9 and so on carry the extra items in turn, and no others carry one.

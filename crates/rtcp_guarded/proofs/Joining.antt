@@ -6,7 +6,6 @@ use Rattle.rtcp_wire.specs.Facts.{subject, facts_of}
 use Rattle.rtcp_members.specs.Traces.{Horizons, TraceStep, check_made as table_checked, block_made_of, source_forgotten, with_facts}
 use Rattle.rtcp_members.specs.Stays.{stay_of}
 use Rattle.rtcp_members.specs.Entries.{counted_at, entry_of}
-use Rattle.rtcp_members.specs.Pending.{EntryRow}
 use Rattle.rtcp_report.specs.Traced.{with_blocks}
 use Rattle.rtcp_guard.specs.declared.settings.Settings.{Settings}
 use Rattle.rtcp_guard.specs.declared.verdict.Verdict.{Verdict}
@@ -85,13 +84,13 @@ module _ (settings : Settings) where
     newest = j.newest;
   }
 
-  joined_blocks : (rows : List EntryRow) {steps : List GuardStep} {trace : List TraceStep} →
-      Joined settings steps trace → Joined settings steps (with_blocks rows trace)
+  joined_blocks : (ssrcs : List ℕ) {steps : List GuardStep} {trace : List TraceStep} →
+      Joined settings steps trace → Joined settings steps (with_blocks ssrcs trace)
   joined_blocks [] j = j
-  joined_blocks (row ∷ rows) j = joined_blocks rows (record {
-    joint = block_reported row.0 ∷ j.joint;
+  joined_blocks (ssrc ∷ ssrcs) j = joined_blocks ssrcs (record {
+    joint = block_reported ssrc ∷ j.joint;
     its_steps = j.its_steps;
-    its_trace = ap (λ (t : List TraceStep). block_made_of row.0 ∷ t) j.its_trace;
+    its_trace = ap (λ (t : List TraceStep). block_made_of ssrc ∷ t) j.its_trace;
     order = j.order;
     newest = j.newest;
   })

@@ -1,7 +1,7 @@
 -- The laws of this crate as lemmas, for the proofs of the crates above: each has the name of its law, and of the clause
 -- where the law has
 -- several. Nothing here names a representation.
-use Rattle.std.proofs.Common.{◌≡◌, ◌&&◌, ◌≤◌, ap, sym, refl, rules, is_some, false, All, IsTrue, ℕ, List, [], ◌∷◌, Option, Some, None}
+use Rattle.std.proofs.Common.{◌≡◌, ◌&&◌, ◌≤◌, ◌∙◌, arith, ap, sym, refl, rules, is_some, false, All, IsTrue, ℕ, List, [], ◌∷◌, Option, Some, None}
 use Rattle.std.specs.FinMap as finite
 use Rattle.rtcp_wire.specs.declared.fact.Fact.{Fact}
 use Rattle.rtcp_wire.specs.declared.fact.Fact.TheVariants.{Heard, Named, Told}
@@ -13,15 +13,23 @@ use Rattle.rtcp_members.specs.Entries.{EntryValue, members_at, senders_at, is_su
 use Rattle.rtcp_members.specs.Pending.{EntryRow, is_due_at, pending, after_blocks}
 use Rattle.rtcp_members.specs.Roles.{IsSameRole, facts_move}
 use Rattle.rtcp_members.proofs.moving.RoleCounts.{nobody_passes}
-use Rattle.rtcp_members.specs.Tables.{TableValue, StandsAt, KeepsBounds, HasFew, after_facts, members_in, senders_in}
+use Rattle.rtcp_members.specs.Tables.{TableValue, StandsAt, KeepsBounds, HasFew, after_facts}
 use Rattle.rtcp_members.proofs.stays.AtOnce.{once_said, once_moved}
 use Rattle.rtcp_members.proofs.stays.OneSource.{sole_says}
 use Rattle.rtcp_members.proofs.standing.Blocking.{blocks_keep_capacity}
 use Rattle.rtcp_members.proofs.standing.Capacity.{facts_keep_bounds, blocks_keep_bounds, facts_keep_capacity}
-use Rattle.rtcp_members.proofs.standing.Following.{facts_follow, count_agrees}
+use Rattle.rtcp_members.proofs.standing.Counts.{members_by_entries, senders_by_entries}
+use Rattle.rtcp_members.proofs.standing.Following.{facts_follow}
 use Rattle.rtcp_members.proofs.standing.Forgetting.{fewer_left}
 use Rattle.rtcp_members.proofs.stays.Packets.{few_facts}
 use Rattle.rtcp_members.proofs.turns.Turns.{due_row}
+pub use Rattle.rtcp_members.proofs.standing.Counts.{members_by_entries as counts_are_of_entries-members}
+pub use Rattle.rtcp_members.proofs.standing.Counts.{senders_by_entries as counts_are_of_entries-senders}
+pub use Rattle.rtcp_members.proofs.standing.Counts.{members_agree as counts_agree-members}
+pub use Rattle.rtcp_members.proofs.standing.Counts.{senders_agree as counts_agree-senders}
+pub use Rattle.rtcp_members.proofs.turns.NewsOfTraces.{pending_have_rows as rows_are_of_stays-all}
+pub use Rattle.rtcp_members.proofs.turns.NewsOfTraces.{pending_taken as rows_are_of_stays-sources}
+pub use Rattle.rtcp_members.proofs.turns.NewsOfTraces.{pending_blocks as rows_are_of_stays-blocks}
 pub use Rattle.rtcp_members.proofs.standing.Following.{none_stands as tables_follow_traces-none}
 pub use Rattle.rtcp_members.proofs.standing.Following.{fact_follows as tables_follow_traces-fact}
 pub use Rattle.rtcp_members.proofs.standing.Following.{check_follows as tables_follow_traces-check}
@@ -81,14 +89,6 @@ pub tables_follow_traces-facts : (table : TableValue) (trace : List TraceStep) (
     StandsAt (after_facts facts moment table) (with_facts facts moment trace)
 tables_follow_traces-facts = λ table trace facts moment. facts_follow facts table trace moment
 
-pub counts_agree-members : (table : TableValue) (trace : List TraceStep) → StandsAt table trace →
-    members_in table ≡ members_at table.capacity trace
-counts_agree-members = λ table trace stands. count_agrees table trace stands is_member
-
-pub counts_agree-senders : (table : TableValue) (trace : List TraceStep) → StandsAt table trace →
-    senders_in table ≡ senders_at table.capacity trace
-counts_agree-senders = λ table trace stands. count_agrees table trace stands is_sender
-
 pub bounds_are_kept-facts : (table : TableValue) (facts : List Fact) (moment : ℕ) →
     KeepsBounds table (after_facts facts moment table)
 bounds_are_kept-facts = λ table facts moment. facts_keep_bounds facts table moment
@@ -112,11 +112,21 @@ packets_are_few-facts = λ packets table facts moment. few_facts packets facts t
 
 pub forgetting_goes_as_silence-members : (capacity : ℕ) (trace : List TraceStep) (ssrc : ℕ) →
     members_at capacity (source_forgotten ssrc ∷ trace) ≤ members_at capacity trace
-forgetting_goes_as_silence-members = fewer_left is_member
+forgetting_goes_as_silence-members = λ capacity trace ssrc. omega (
+  arith,
+  fewer_left is_member capacity trace ssrc,
+  members_by_entries capacity trace,
+  members_by_entries capacity (source_forgotten ssrc ∷ trace),
+)
 
 pub forgetting_goes_as_silence-senders : (capacity : ℕ) (trace : List TraceStep) (ssrc : ℕ) →
     senders_at capacity (source_forgotten ssrc ∷ trace) ≤ senders_at capacity trace
-forgetting_goes_as_silence-senders = fewer_left is_sender
+forgetting_goes_as_silence-senders = λ capacity trace ssrc. omega (
+  arith,
+  fewer_left is_sender capacity trace ssrc,
+  senders_by_entries capacity trace,
+  senders_by_entries capacity (source_forgotten ssrc ∷ trace),
+)
 
 -- ---- Stays and senders
 
@@ -134,7 +144,7 @@ first_is_due-due = λ last table row rest is. search (rules, due_row last table 
 pub roles_move_with_counts-none : (capacity : ℕ) (trace : List TraceStep) → members_at capacity trace ≡ 0 →
     (ssrc : ℕ) → IsSameRole None (entry_at capacity trace ssrc)
 roles_move_with_counts-none = λ capacity trace none ssrc.
-    let no_member = nobody_passes is_member capacity trace none ssrc in
+    let no_member = nobody_passes is_member capacity trace (sym (members_by_entries capacity trace) ∙ none) ssrc in
     (sym no_member, sym (no_sender (entry_at capacity trace ssrc) no_member))
   where
     no_sender : (entry : Option EntryValue) → is_such is_member entry ≡ false → is_such is_sender entry ≡ false

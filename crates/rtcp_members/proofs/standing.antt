@@ -6,4 +6,5 @@ pub mod Forgetting
 pub mod Agreeing
 pub mod Holding
 pub mod TraceTables
+pub mod Counts
 pub mod Growing

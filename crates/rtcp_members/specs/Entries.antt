@@ -2,41 +2,27 @@
 -- 6.3).
 use Rattle.std.specs.Prelude.{ℕ, ◌≡◌, ◌≤◌, ◌||◌, ◌==◌, ◌&&◌, Bool, true, false, List, [], ◌∷◌, ◌++◌, filter, length, if◌then◌else◌, Option, Some, None, is_some, is_none, option_map}
 use Rattle.rtcp_wire.specs.declared.fact.Fact.{Fact}
-use Rattle.rtcp_wire.specs.declared.fact.Fact.TheVariants.{Heard, Told, Named, Gone, Media}
+use Rattle.rtcp_wire.specs.declared.fact.Fact.TheVariants.{Told, Named, Media}
 use Rattle.rtcp_clock.specs.Moments.{media_units}
 use Rattle.rtcp_source.specs.Packets.{Given, packet_came, report_came, block_made, taken_in, is_counted, run_of}
 use Rattle.rtcp_source.specs.Summary.{SourceValue, summary_of}
 use Rattle.rtcp_wire.specs.Facts.{subject}
-use Rattle.rtcp_members.specs.Traces.{Horizons, TraceStep, fact_came, check_made, block_made_of, source_forgotten, names}
+use Rattle.rtcp_members.specs.Traces.{Horizons, TraceStep, fact_came, check_made, block_made_of, names}
 use Rattle.rtcp_members.specs.Stays.{mark_of, before_mark, last_naming, is_before, stay_of}
-
-pub record EntryValue : Type 0 where
-  -- whether the source gave its CNAME, or a packet of it was counted
-  pub valid : Bool
-  -- when it sent a BYE
-  pub mark : Option ℕ
-  -- its last sighting
-  pub sighting : ℕ
-  -- the moment of its last counted packet before the mark, until a check with a later horizon for packets
-  pub sending : Option ℕ
-  pub source : SourceValue
 
 -- ---- Of the part of a stay before the mark
 
 abbrev pub given_by : (ssrc : ℕ) → Fact → (moment : ℕ) → List Given → List Given
-given_by ssrc (Heard other) moment given = given
 given_by ssrc (Told other ntp rtp) moment given =
     if other == ssrc then report_came ntp rtp moment ∷ given else given
-given_by ssrc (Named other) moment given = given
-given_by ssrc (Gone other) moment given = given
 given_by ssrc (Media other seq timestamp octets rate) moment given =
     if other == ssrc then packet_came seq timestamp (media_units moment rate) octets rate ∷ given else given
+given_by ssrc _ moment given = given
 
 abbrev pub given_with : (ssrc : ℕ) → TraceStep → List Given → List Given
 given_with ssrc (fact_came fact moment) given = given_by ssrc fact moment given
-given_with ssrc (check_made horizons) given = given
 given_with ssrc (block_made_of other) given = if other == ssrc then block_made ∷ given else given
-given_with ssrc (source_forgotten other) given = given
+given_with ssrc _ given = given
 
 -- What a stay gives of a source, with arrivals in units of the media's clock (5.1).
 abbrev pub given_of : (ssrc : ℕ) → List TraceStep → List Given
@@ -44,29 +30,18 @@ given_of ssrc [] = []
 given_of ssrc (step ∷ earlier) = given_with ssrc step (given_of ssrc earlier)
 
 abbrev pub is_counted_fact : (ssrc : ℕ) → Fact → List Given → Bool
-is_counted_fact ssrc (Heard other) given = false
-is_counted_fact ssrc (Told other ntp rtp) given = false
-is_counted_fact ssrc (Named other) given = false
-is_counted_fact ssrc (Gone other) given = false
 is_counted_fact ssrc (Media other seq timestamp octets rate) given =
     other == ssrc && is_counted (taken_in (run_of given) seq)
+is_counted_fact ssrc _ given = false
 
 -- Whether a step is a counted packet of the source, to which this was given before (A.1).
 abbrev pub is_counted_by : (ssrc : ℕ) → TraceStep → List Given → Bool
 is_counted_by ssrc (fact_came fact moment) given = is_counted_fact ssrc fact given
-is_counted_by ssrc (check_made horizons) given = false
-is_counted_by ssrc (block_made_of other) given = false
-is_counted_by ssrc (source_forgotten other) given = false
+is_counted_by ssrc _ given = false
 
 abbrev pub gives_name : (ssrc : ℕ) → TraceStep → Bool
-gives_name ssrc (fact_came (Heard other) moment) = false
-gives_name ssrc (fact_came (Told other ntp rtp) moment) = false
 gives_name ssrc (fact_came (Named other) moment) = other == ssrc
-gives_name ssrc (fact_came (Gone other) moment) = false
-gives_name ssrc (fact_came (Media other seq timestamp octets rate) moment) = false
-gives_name ssrc (check_made horizons) = false
-gives_name ssrc (block_made_of other) = false
-gives_name ssrc (source_forgotten other) = false
+gives_name ssrc _ = false
 
 -- A source is valid once it gave its name, or a packet of it was counted.
 abbrev pub is_valid : (ssrc : ℕ) → List TraceStep → Bool
@@ -81,8 +56,7 @@ abbrev pub sending_with : (ssrc : ℕ) → TraceStep → List Given → Option �
 sending_with ssrc (fact_came fact moment) given sending =
     if is_counted_fact ssrc fact given then Some moment else sending
 sending_with ssrc (check_made horizons) given sending = still_sending horizons sending
-sending_with ssrc (block_made_of other) given sending = sending
-sending_with ssrc (source_forgotten other) given sending = sending
+sending_with ssrc _ given sending = sending
 
 -- The moment of the last counted packet, as long as no check after it had a later horizon for packets.
 abbrev pub sending_of : (ssrc : ℕ) → List TraceStep → Option ℕ
@@ -103,7 +77,39 @@ counted_in_stay fact (Some stay) =
 abbrev pub counted_at : (capacity : ℕ) → List TraceStep → Fact → Bool
 counted_at capacity trace fact = counted_in_stay fact (stay_of capacity trace (subject fact))
 
+-- ---- Members and senders
+
+-- Members are valid and not marked (6.2.1, 6.3.7): by the stay of a source, if it is present.
+abbrev pub is_member_in : (ssrc : ℕ) → Option (List TraceStep) → Bool
+is_member_in ssrc None = false
+is_member_in ssrc (Some stay) = is_valid ssrc (before_mark ssrc stay) && is_none (mark_of ssrc stay)
+
+-- Senders are the members who send (6.3).
+abbrev pub is_sender_in : (ssrc : ℕ) → Option (List TraceStep) → Bool
+is_sender_in ssrc None = false
+is_sender_in ssrc (Some stay) =
+    is_member_in ssrc (Some stay) && is_some (sending_of ssrc (before_mark ssrc stay))
+
+abbrev pub members_at : (capacity : ℕ) → List TraceStep → ℕ
+members_at capacity trace =
+    length (filter (λ ssrc. is_member_in ssrc (stay_of capacity trace ssrc)) (names trace))
+
+abbrev pub senders_at : (capacity : ℕ) → List TraceStep → ℕ
+senders_at capacity trace =
+    length (filter (λ ssrc. is_sender_in ssrc (stay_of capacity trace ssrc)) (names trace))
+
 -- ---- Entries
+
+pub record EntryValue : Type 0 where
+  -- whether the source gave its CNAME, or a packet of it was counted
+  pub valid : Bool
+  -- when it sent a BYE
+  pub mark : Option ℕ
+  -- its last sighting
+  pub sighting : ℕ
+  -- the moment of its last counted packet before the mark, until a check with a later horizon for packets
+  pub sending : Option ℕ
+  pub source : SourceValue
 
 -- what a stay says of its source
 abbrev pub entry_of : (ssrc : ℕ) → List TraceStep → EntryValue
@@ -121,7 +127,6 @@ entry_of ssrc stay =
 abbrev pub entry_at : (capacity : ℕ) → List TraceStep → (ssrc : ℕ) → Option EntryValue
 entry_at capacity trace ssrc = option_map (entry_of ssrc) (stay_of capacity trace ssrc)
 
--- Members are valid and not marked (6.2.1, 6.3.7); senders are the members who send (6.3).
 abbrev pub is_member : EntryValue → Bool
 is_member entry = entry.valid && is_none entry.mark
 
@@ -132,16 +137,10 @@ abbrev pub is_such : (EntryValue → Bool) → Option EntryValue → Bool
 is_such test None = false
 is_such test (Some entry) = test entry
 
--- how many of the sources of a trace are such
+-- how many of the sources of a trace are such, by their entries (law `counts_are_of_entries`)
 abbrev pub count_at : (EntryValue → Bool) → (capacity : ℕ) → List TraceStep → ℕ
 count_at test capacity trace =
     length (filter (λ ssrc. is_such test (entry_at capacity trace ssrc)) (names trace))
-
-abbrev pub members_at : (capacity : ℕ) → List TraceStep → ℕ
-members_at = count_at is_member
-
-abbrev pub senders_at : (capacity : ℕ) → List TraceStep → ℕ
-senders_at = count_at is_sender
 
 -- ---- Senders in other words
 

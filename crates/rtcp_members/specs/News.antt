@@ -1,9 +1,11 @@
 -- Of which sources a block is due, by the trace of a session, and in which turn they are reported (RFC 3550,
 -- 6.4).
 use Rattle.std.specs.Prelude.{ℕ, ◌&&◌, Bool, false, not, nat_lt, List, [], ◌∷◌, ◌++◌, filter, filter_map, if◌then◌else◌, Option, Some, None, is_none}
+use Rattle.rtcp_wire.specs.Values.{ReportBlock}
 use Rattle.rtcp_source.specs.Packets.{has_news_since}
+use Rattle.rtcp_source.specs.Blocks.{block_over}
 use Rattle.rtcp_members.specs.Traces.{TraceStep, names}
-use Rattle.rtcp_members.specs.Stays.{mark_of, stay_of}
+use Rattle.rtcp_members.specs.Stays.{mark_of, before_mark, stay_of}
 use Rattle.rtcp_members.specs.Entries.{given_of}
 use Rattle.rtcp_members.specs.Tables.{row_at}
 use Rattle.rtcp_members.specs.Pending.{EntryRow, is_after}
@@ -16,6 +18,16 @@ is_due_in ssrc (Some stay) = is_none (mark_of ssrc stay) && has_news_since (give
 
 abbrev pub is_due_by : (capacity : ℕ) → List TraceStep → (ssrc : ℕ) → Bool
 is_due_by capacity trace ssrc = is_due_in ssrc (stay_of capacity trace ssrc)
+
+-- The block of a source at the moment `t`, by its stay: it is made of the packets and the sender reports before its mark,
+-- where some packet was counted.
+abbrev pub block_in : (ssrc t : ℕ) → Option (List TraceStep) → Option ReportBlock
+block_in ssrc t None = None
+block_in ssrc t (Some stay) = block_over ssrc t (given_of ssrc (before_mark ssrc stay))
+
+-- the blocks of these sources, in their order
+abbrev pub blocks_at : (t capacity : ℕ) → List TraceStep → List ℕ → List ReportBlock
+blocks_at t capacity trace ssrcs = filter_map (λ ssrc. block_in ssrc t (stay_of capacity trace ssrc)) ssrcs
 
 -- ---- By rising SSRC, in turn
 
@@ -38,7 +50,7 @@ abbrev pub pending_at : (last : Option ℕ) (capacity : ℕ) → List TraceStep 
 pending_at last capacity trace =
     ssrcs_in_turn last (filter (is_due_by capacity trace) (rising (names trace)))
 
--- The same sources, each with what the trace says of it.
+-- The same sources, each with its entry.
 abbrev pub pending_rows_at : (last : Option ℕ) (capacity : ℕ) → List TraceStep → List EntryRow
 pending_rows_at last capacity trace =
     filter_map (row_at capacity trace) (pending_at last capacity trace)

@@ -8,7 +8,7 @@ ghost use Rattle.rtcp_wire.specs.Facts.{subject, is_gone, is_media};
 ghost use Rattle.rtcp_members.specs.Traces.{Horizons, TraceStep, fact_came, check_made, block_made_of, source_forgotten, names, with_facts};
 ghost use Rattle.rtcp_source.specs.Blocks.{block_over};
 ghost use Rattle.rtcp_members.specs.Stays.{mark_of, present_among, stay_of};
-ghost use Rattle.rtcp_members.specs.Entries.{counted_at, given_of, is_such, members_at, senders_at};
+ghost use Rattle.rtcp_members.specs.Entries.{counted_at, count_at, given_of, is_member, is_sender, is_such, members_at, senders_at};
 ghost use Rattle.rtcp_members.specs.Pending.{EntryRow, block_at, is_due_at, after_block, after_blocks};
 ghost use Rattle.rtcp_members.specs.Tables.{TableValue, StandsAt, KeepsBounds, table_at, HasFew, IsFew, no_members, counted, after_fact, after_facts, after_check, after_forgetting, is_unmarked, members_in, senders_in};
 
@@ -54,6 +54,15 @@ pub fn counts_agree()
         senders_in table ≡ senders_at table.capacity trace }
     ensures counted { (table : TableValue) (trace : List TraceStep) (fact : Fact) → StandsAt table trace →
         counted table fact ≡ counted_at table.capacity trace fact }
+{}
+
+/// As many sources are members and senders by their stays as are by their entries.
+#[tactic(auto, using(crate::proofs::standing::Counts::members_by_entries, crate::proofs::standing::Counts::senders_by_entries))]
+pub fn counts_are_of_entries()
+    ensures members { (capacity : ℕ) (trace : List TraceStep) →
+        members_at capacity trace ≡ count_at is_member capacity trace }
+    ensures senders { (capacity : ℕ) (trace : List TraceStep) →
+        senders_at capacity trace ≡ count_at is_sender capacity trace }
 {}
 
 /// A table that stands at a trace has an entry of just the sources that have a stay; and the block of one that did not

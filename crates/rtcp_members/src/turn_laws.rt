@@ -1,13 +1,13 @@
 //! Laws of the turn in which sources are reported (RFC 3550, 6.4). Each is an empty function whose
 //! postcondition is the law.
 
-ghost use Rattle.std.specs.Prelude.{◌≡◌, ◌==◌, ℕ, List, ◌∷◌, Option, Some, IsTrue, count_by, map, if◌then◌else◌};
+ghost use Rattle.std.specs.Prelude.{◌≡◌, ◌==◌, ℕ, List, ◌∷◌, Option, Some, IsTrue, count_by, map, take, if◌then◌else◌};
 ghost use Rattle.std.specs.FinMap as finite;
 ghost use Rattle.rtcp_members.specs.Traces.{TraceStep};
 ghost use Rattle.rtcp_members.specs.Entries.{is_such, entry_at};
 ghost use Rattle.rtcp_members.specs.Tables.{TableValue, StandsAt};
-ghost use Rattle.rtcp_members.specs.Pending.{EntryRow, first_ssrc, is_due, is_due_at, pending, block_at, block_of_row, after_block};
-ghost use Rattle.rtcp_members.specs.News.{is_due_by, pending_at, pending_rows_at};
+ghost use Rattle.rtcp_members.specs.Pending.{EntryRow, first_ssrc, is_due, is_due_at, pending, block_at, block_of_row, blocks_of, after_block};
+ghost use Rattle.rtcp_members.specs.News.{is_due_by, blocks_at, pending_at, pending_rows_at};
 
 /// The first pending source is in the table, and a block is due of it: the one of its row. So `block_of` may
 /// be called with what `next_with_news` returns.
@@ -51,4 +51,17 @@ pub fn turns_follow_traces()
         pending last table ≡ pending_rows_at last table.capacity trace }
     ensures due { (capacity : ℕ) (trace : List TraceStep) (ssrc : ℕ) →
         is_such is_due (entry_at capacity trace ssrc) ≡ is_due_by capacity trace ssrc }
+{}
+
+/// The rows of the pending sources are of just these sources. Of as many of them as one likes, the blocks by what is kept
+/// of each are those of the packets and sender reports in its stay (RFC 3550, 6.4.1, A.3).
+pub fn rows_are_of_stays()
+    ensures all { (last : Option ℕ) (capacity : ℕ) (trace : List TraceStep) →
+        map (λ (row : EntryRow). row.0) (pending_rows_at last capacity trace) ≡ pending_at last capacity trace }
+    ensures sources { (most : ℕ) (last : Option ℕ) (capacity : ℕ) (trace : List TraceStep) →
+        map (λ (row : EntryRow). row.0) (take most (pending_rows_at last capacity trace))
+        ≡ take most (pending_at last capacity trace) }
+    ensures blocks { (t most : ℕ) (last : Option ℕ) (capacity : ℕ) (trace : List TraceStep) →
+        blocks_of t (take most (pending_rows_at last capacity trace))
+        ≡ blocks_at t capacity trace (take most (pending_at last capacity trace)) }
 {}

@@ -1,5 +1,5 @@
 -- A table after the blocks of a report.
-use Rattle.std.proofs.Common.{◌≡◌, ℕ, List, [], ◌∷◌, ◌++◌, Option, Some, IsTrue, drop, length, sym}
+use Rattle.std.proofs.Common.{◌≡◌, ℕ, List, [], ◌∷◌, ◌++◌, Option, Some, IsTrue, drop, length, map, sym}
 use Rattle.std.proofs.lemmas.List.{take-append-drop}
 use Rattle.rtcp_members.specs.Traces.{TraceStep, block_made_of}
 use Rattle.rtcp_members.specs.Tables.{TableValue, StandsAt, HasFew}
@@ -19,7 +19,7 @@ few_after_blocks packets (row ∷ rows) table few = few_after_blocks packets row
 -- A prefix of the pending sources is reported, one after the other.
 stands_after_rows : (rows rest : List EntryRow) (last : Option ℕ) (table : TableValue) (trace : List TraceStep) →
     pending last table ≡ rows ++ rest → StandsAt table trace →
-    StandsAt (after_blocks rows table) (with_blocks rows trace)
+    StandsAt (after_blocks rows table) (with_blocks (map (λ (row : EntryRow). row.0) rows) trace)
 stands_after_rows [] rest last table trace wait stands = stands
 stands_after_rows (row ∷ rows) rest last table trace wait stands =
     let due : IsTrue (is_due_at row.0 table) = first_is_due-due last table row (rows ++ rest) wait in
@@ -30,7 +30,7 @@ stands_after_rows (row ∷ rows) rest last table trace wait stands =
 pub stands_after : (reporter : Reporter) (limit : ℕ) (last : Option ℕ) (table : TableValue) (trace : List TraceStep) →
     StandsAt table trace
     → StandsAt (after_blocks (reported_rows reporter limit last table) table)
-    (with_blocks (reported_rows reporter limit last table) trace)
+    (with_blocks (map (λ (row : EntryRow). row.0) (reported_rows reporter limit last table)) trace)
 stands_after reporter limit last table trace stands =
     let count : ℕ = block_count reporter limit (length (pending last table)) in
     stands_after_rows (reported_rows reporter limit last table) (drop count (pending last table)) last table trace

@@ -8,5 +8,6 @@ mod WholeReports
 mod PutByes
 mod Following
 mod Fitting
+mod Stays
 mod examples
 pub mod LawLemmas

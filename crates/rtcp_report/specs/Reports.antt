@@ -66,6 +66,8 @@ bye_with ssrc items = packets_with (receiver_with ssrc items) [] ++ bye_packet s
 abbrev pub receiver_named : (ssrc : ℕ) → (cname : List ℕ) → Reporter
 receiver_named ssrc cname = receiver_with ssrc (cname_item cname ∷ [])
 
--- What a participant sends as it leaves: a report without blocks, and its BYE (6.3.7).
+-- What a participant sends as it leaves (6.3.7): the report of one that only receives, without blocks, and with its CNAME
+-- alone; and its BYE, without a reason (6.6).
 abbrev pub bye_of : (ssrc : ℕ) → (cname : List ℕ) → List RtcpPacket
-bye_of ssrc cname = bye_with ssrc (cname_item cname ∷ [])
+bye_of ssrc cname =
+    packets_with (record { ssrc = ssrc; sent = None; items = cname_item cname ∷ [] }) [] ++ bye (ssrc ∷ []) None ∷ []

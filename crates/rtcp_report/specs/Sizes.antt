@@ -36,14 +36,14 @@ abbrev pub greatest_passing : (ℕ → Bool) → (most : ℕ) → ℕ
 greatest_passing test zero = 0
 greatest_passing test (suc n) = if test (suc n) then suc n else greatest_passing test n
 
--- how many blocks a report has where so many sources are pending
-abbrev pub block_count : Reporter → (limit pending : ℕ) → ℕ
-block_count reporter limit pending =
-    greatest_passing (λ blocks. nat_le (report_size reporter blocks) limit) pending
+-- how many blocks a report has where so many sources wait for one
+abbrev pub block_count : Reporter → (limit waiting : ℕ) → ℕ
+block_count reporter limit waiting =
+    greatest_passing (λ blocks. nat_le (report_size reporter blocks) limit) waiting
 
 -- The sources that a report is of: the longest prefix of the pending ones that fits the limit.
-abbrev pub fitting : Reporter → (limit : ℕ) → List EntryRow → List EntryRow
-fitting reporter limit rows = take (block_count reporter limit (length rows)) rows
+abbrev pub fitting : {A : Type 0} → Reporter → (limit : ℕ) → List A → List A
+fitting reporter limit sources = take (block_count reporter limit (length sources)) sources
 
 abbrev pub reported_rows : Reporter → (limit : ℕ) → (last : Option ℕ) → TableValue → List EntryRow
 reported_rows reporter limit last table = fitting reporter limit (pending last table)

@@ -1,9 +1,8 @@
 -- The trace of a session after a report.
-use Rattle.std.specs.Prelude.{List, [], ◌∷◌}
+use Rattle.std.specs.Prelude.{ℕ, List, [], ◌∷◌}
 use Rattle.rtcp_members.specs.Traces.{TraceStep, block_made_of}
-use Rattle.rtcp_members.specs.Pending.{EntryRow}
 
 -- The trace, newest first, with a block of each of the sources, in their order.
-abbrev pub with_blocks : List EntryRow → List TraceStep → List TraceStep
+abbrev pub with_blocks : List ℕ → List TraceStep → List TraceStep
 with_blocks [] trace = trace
-with_blocks (row ∷ rows) trace = with_blocks rows (block_made_of row.0 ∷ trace)
+with_blocks (ssrc ∷ ssrcs) trace = with_blocks ssrcs (block_made_of ssrc ∷ trace)

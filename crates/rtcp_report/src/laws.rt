@@ -1,11 +1,12 @@
 //! Laws of the definitions of reports. Each is an empty function whose postcondition is the law.
 
-ghost use Rattle.std.specs.Prelude.{◌≡◌, ◌==◌, ◌≤◌, ℕ, List, Option, count_by, length};
+ghost use Rattle.std.specs.Prelude.{◌≡◌, ◌==◌, ◌≤◌, ℕ, List, Option, count_by, length, map};
 ghost use Rattle.rtcp_wire.specs.Values.{ReportBlock, ItemValue};
 ghost use Rattle.rtcp_wire.specs.Writing.{written_all};
 ghost use Rattle.rtcp_members.specs.Traces.{TraceStep};
 ghost use Rattle.rtcp_members.specs.Tables.{TableValue, StandsAt, HasFew};
 ghost use Rattle.rtcp_members.specs.Pending.{EntryRow, blocks_of, after_blocks};
+ghost use Rattle.rtcp_members.specs.News.{blocks_at, pending_at, pending_rows_at};
 ghost use Rattle.rtcp_report.specs.Reports.{SentValue, Reporter, packets_with, bye_of};
 ghost use Rattle.rtcp_report.specs.Sizes.{report_size, IsShort, fitting, reported_rows, IsLongestFitting};
 ghost use Rattle.rtcp_report.specs.Traced.{with_blocks};
@@ -46,12 +47,23 @@ pub fn compounds_are_small()
         length (written_all (bye_of ssrc cname)) ≤ 284 }
 {}
 
+/// The rows of a report are of just the pending sources that fit, and the blocks by what is kept of each are those of the
+/// packets and sender reports in its stay (RFC 3550, 6.4.1, A.3).
+pub fn reports_are_of_stays()
+    ensures sources { (reporter : Reporter) (limit : ℕ) (last : Option ℕ) (capacity : ℕ) (trace : List TraceStep) →
+        map (λ (row : EntryRow). row.0) (fitting reporter limit (pending_rows_at last capacity trace))
+        ≡ fitting reporter limit (pending_at last capacity trace) }
+    ensures blocks { (reporter : Reporter) (limit t : ℕ) (last : Option ℕ) (capacity : ℕ) (trace : List TraceStep) →
+        blocks_of t (fitting reporter limit (pending_rows_at last capacity trace))
+        ≡ blocks_at t capacity trace (fitting reporter limit (pending_at last capacity trace)) }
+{}
+
 /// A table that stands at a trace stands, once a report was made, at the trace with a block of each source of
 /// the report. If no source was given more than some number of packets before a report, none was after it.
 pub fn tables_follow_reports()
     ensures stands { (reporter : Reporter) (limit : ℕ) (last : Option ℕ) (table : TableValue)
         (trace : List TraceStep) → StandsAt table trace → let rows = reported_rows reporter limit last table in
-        StandsAt (after_blocks rows table) (with_blocks rows trace) }
+        StandsAt (after_blocks rows table) (with_blocks (map (λ (row : EntryRow). row.0) rows) trace) }
     ensures packets { (packets : ℕ) (rows : List EntryRow) (table : TableValue) → HasFew packets table →
         HasFew packets (after_blocks rows table) }
 {}

@@ -6,7 +6,7 @@ use Rattle.rtcp_wire.specs.declared.fact.Fact.{Fact}
 use Rattle.rtcp_wire.specs.declared.fact.Fact.TheVariants.{Named}
 use Rattle.rtcp_wire.specs.Values.{ItemValue, ReportBlock, RtcpPacket}
 use Rattle.rtcp_wire.specs.Facts.{facts_of, facts_of_packet}
-use Rattle.rtcp_members.specs.Pending.{blocks_of}
+use Rattle.rtcp_members.specs.News.{blocks_at}
 use Rattle.rtcp_report.specs.Reports.{SentValue, Reporter, reports_with, description_of, packets_with}
 use Rattle.rtcp_report.specs.Views.{items_of}
 use Rattle.rtcp_engine.specs.declared.changes.IdentifierChange.{IdentifierChange}
@@ -51,7 +51,7 @@ one_names setup t interval outcome true =
       packets = report_packets setup t outcome;
       written = refl;
       named = names_itself setup.ssrc (reporter_at setup t outcome).sent setup.cname
-          (extra_item setup.extras (length outcome.reports + 1)) (blocks_of t (reported_at setup t outcome));
+          (extra_item setup.extras (length outcome.reports + 1)) (blocks_at t setup.capacity outcome.trace (reported_at setup t outcome));
     }) (All-nil NamesItsSource)
 
 names_by : (setup : Setup) (changes : List IdentifierChange) (act : Act) (life : Life) →

@@ -7,10 +7,9 @@ use Rattle.rtcp_wire.specs.declared.fact.Fact.{Fact}
 use Rattle.rtcp_wire.specs.Facts.{subject, is_gone}
 use Rattle.rtcp_members.specs.Traces.{Horizons, TraceStep, fact_came, check_made, block_made_of, source_forgotten, names, with_facts}
 use Rattle.rtcp_members.specs.Stays.{mark_at, mark_of, ends_stay, is_removed, last_naming, stay_of, stay_with}
-use Rattle.rtcp_members.specs.Entries.{entry_of, entry_at, is_member, is_such, members_at}
-use Rattle.rtcp_members.specs.Pending.{EntryRow}
+use Rattle.rtcp_members.specs.Entries.{count_at, entry_of, entry_at, is_member, is_such, members_at}
 use Rattle.rtcp_members.proofs.Lasting.{all_before, member_on, naming_of_stay, stay_of_member}
-use Rattle.rtcp_members.proofs.LawLemmas.{present_were_named_and_fit-named, roles_move_with_counts-block, roles_move_with_counts-kept}
+use Rattle.rtcp_members.proofs.LawLemmas.{counts_are_of_entries-members, present_were_named_and_fit-named, roles_move_with_counts-block, roles_move_with_counts-kept}
 use Rattle.rtcp_report.specs.Traced.{with_blocks}
 
 -- whether one of these facts says that a source left
@@ -85,11 +84,11 @@ module _ (capacity : ℕ) where
       (roles_move_with_counts-kept capacity (block_made_of reported) trace
       (roles_move_with_counts-block capacity reported trace) ssrc).0
 
-  blocks_member : (ssrc : ℕ) (rows : List EntryRow) (trace : List TraceStep) →
-      member trace ssrc ≡ member (with_blocks rows trace) ssrc
+  blocks_member : (ssrc : ℕ) (ssrcs : List ℕ) (trace : List TraceStep) →
+      member trace ssrc ≡ member (with_blocks ssrcs trace) ssrc
   blocks_member ssrc [] trace = refl
-  blocks_member ssrc (row ∷ rows) trace =
-      block_member ssrc row.0 trace ∙ blocks_member ssrc rows (block_made_of row.0 ∷ trace)
+  blocks_member ssrc (reported ∷ ssrcs) trace =
+      block_member ssrc reported trace ∙ blocks_member ssrc ssrcs (block_made_of reported ∷ trace)
 
   -- ---- Facts
 
@@ -212,15 +211,15 @@ facts_known test t (fact ∷ facts) trace all =
     facts_known test t facts (fact_came fact t ∷ trace) (λ x is. still_in x fact trace (all x is)) in
     omega (arith, one, rest)
 
-blocks_known : (test : ℕ → Bool) (rows : List EntryRow) (trace : List TraceStep) →
-    length (filter test (names (with_blocks rows trace))) ≤ length (filter test (names trace))
+blocks_known : (test : ℕ → Bool) (ssrcs : List ℕ) (trace : List TraceStep) →
+    length (filter test (names (with_blocks ssrcs trace))) ≤ length (filter test (names trace))
 blocks_known test [] trace = le_refl _
-blocks_known test (row ∷ rows) trace = blocks_known test rows (block_made_of row.0 ∷ trace)
+blocks_known test (reported ∷ ssrcs) trace = blocks_known test ssrcs (block_made_of reported ∷ trace)
 
-blocks_name : (test : ℕ → Bool) (rows : List EntryRow) (trace : List TraceStep) →
-    length (filter test (names trace)) ≤ length (filter test (names (with_blocks rows trace)))
+blocks_name : (test : ℕ → Bool) (ssrcs : List ℕ) (trace : List TraceStep) →
+    length (filter test (names trace)) ≤ length (filter test (names (with_blocks ssrcs trace)))
 blocks_name test [] trace = le_refl _
-blocks_name test (row ∷ rows) trace = blocks_name test rows (block_made_of row.0 ∷ trace)
+blocks_name test (reported ∷ ssrcs) trace = blocks_name test ssrcs (block_made_of reported ∷ trace)
 
 -- ---- Counts
 
@@ -286,13 +285,13 @@ module _ (capacity : ℕ) where
     known = λ test all. le_refl _;
   }
 
-  pub with_blocks_too : (departs : ℕ → Bool) (rows : List EntryRow) (before now : List TraceStep) →
-      Leaves capacity departs before now → Leaves capacity departs before (with_blocks rows now)
-  with_blocks_too departs rows before now h = record {
-    roles = λ ssrc is. sym (blocks_member capacity ssrc rows now) ∙ h.roles ssrc is;
-    named = λ test. (let one = h.named test in let more = blocks_name test rows now in omega (arith, one, more));
+  pub with_blocks_too : (departs : ℕ → Bool) (ssrcs : List ℕ) (before now : List TraceStep) →
+      Leaves capacity departs before now → Leaves capacity departs before (with_blocks ssrcs now)
+  with_blocks_too departs ssrcs before now h = record {
+    roles = λ ssrc is. sym (blocks_member capacity ssrc ssrcs now) ∙ h.roles ssrc is;
+    named = λ test. (let one = h.named test in let more = blocks_name test ssrcs now in omega (arith, one, more));
     known = λ test all.
-        (let one = h.known test all in let more = blocks_known test rows now in omega (arith, one, more));
+        (let one = h.known test all in let more = blocks_known test ssrcs now in omega (arith, one, more));
   }
 
   -- Where there are fewer members than before, one of those departs.
@@ -306,12 +305,14 @@ module _ (capacity : ℕ) where
           any ≡ true
       by true is = refl
       by false none =
-          let kept : members_at capacity before ≤ length (filter (λ ssrc. member capacity now ssrc) (names before)) =
+          let kept : count_at is_member capacity before ≤ length
+          (filter (λ ssrc. member capacity now ssrc) (names before)) =
           no_fewer (λ ssrc. member capacity before ssrc) departs (λ ssrc. member capacity now ssrc) h.roles
           (names before) none in
-          let more : length (filter (λ ssrc. member capacity now ssrc) (names before)) ≤ members_at capacity now =
-          h.named (λ ssrc. member capacity now ssrc) in
-          absurd (omega (arith, fell, kept, more))
+          let more : length (filter (λ ssrc. member capacity now ssrc) (names before))
+          ≤ count_at is_member capacity now = h.named (λ ssrc. member capacity now ssrc) in
+          let members = counts_are_of_entries-members capacity in
+          absurd (omega (arith, fell, kept, more, members before, members now))
 
 -- ---- Who is new
 
@@ -378,10 +379,11 @@ module _ (capacity : ℕ) (departs : ℕ → Bool) (before now : List TraceStep)
         ≤ members_at capacity before
         + length (filter (λ ssrc. not (member capacity before ssrc) && member capacity now ssrc) (names now))
     departures_are_paid any found =
-        let all : length (filter was (names now)) ≤ members_at capacity before = h.known was was_named in
+        let all : length (filter was (names now)) ≤ count_at is_member capacity before = h.known was was_named in
         let even = balance was stays (names now) in
         let gone : (if any then 1 else 0) ≤ length (filter went (names now)) = at_least any found in
-        omega (arith, all, even, gone)
+        let members = counts_are_of_entries-members capacity in
+        omega (arith, all, even, gone, members before, members now)
       where
         at_least : (any : Bool) → list_any (λ ssrc. was ssrc && departs ssrc) (names before) ≡ any →
             (if any then 1 else 0) ≤ length (filter went (names now))

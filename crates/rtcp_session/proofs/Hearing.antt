@@ -11,7 +11,7 @@ use Rattle.std.proofs.lemmas.Map.Made.{is_member-filter, length-le_from_is_membe
 use Rattle.rtcp_members.specs.Traces.{TraceStep, names}
 use Rattle.rtcp_members.specs.Stays.{stay_of}
 use Rattle.rtcp_members.specs.Entries.{EntryValue, entry_at, entry_of, is_member, is_sender, is_such, count_at, members_at, senders_at}
-use Rattle.rtcp_members.proofs.LawLemmas.{present_were_named_and_fit-named}
+use Rattle.rtcp_members.proofs.LawLemmas.{counts_are_of_entries-members, counts_are_of_entries-senders, present_were_named_and_fit-named}
 use Rattle.rtcp_engine.specs.answers.Setups.{Setup}
 use Rattle.rtcp_engine.specs.answers.OwnStreams.{we_sent}
 use Rattle.rtcp_engine.specs.answers.Outcomes.{Outcome, load_of, one_if}
@@ -92,8 +92,11 @@ two_kinds f g h one (n ∷ rest) = by (f n) (g n) (h n) (one n) (two_kinds f g h
 members_are : (capacity : ℕ) (trace : List TraceStep) →
     members_at capacity trace ≡ senders_at capacity trace + count_at is_listener capacity trace
 members_are capacity trace =
-    two_kinds (such is_member) (such is_sender) (such is_listener)
+    counts_are_of_entries-members capacity trace
+    ∙ two_kinds (such is_member) (such is_sender) (such is_listener)
     (λ ssrc. by_entry ssrc (entry_at capacity trace ssrc)) (names trace)
+    ∙ ap (λ (senders : ℕ). senders + count_at is_listener capacity trace)
+    (sym (counts_are_of_entries-senders capacity trace))
   where
     such : (EntryValue → Bool) → ℕ → Bool
     such test ssrc = is_such test (entry_at capacity trace ssrc)
@@ -117,13 +120,13 @@ pub heard_members : (setup : Setup) (outcome : Outcome) (ssrcs : List ℕ) → A
     1 + length ssrcs ≤ (load_of setup outcome).members
 heard_members setup outcome ssrcs h =
     let counted = heard_counted is_member setup.capacity outcome.trace ssrcs h.apart h.heard in
-    omega (arith, counted)
+    omega (arith, counted, counts_are_of_entries-members setup.capacity outcome.trace)
 
 pub heard_senders : (setup : Setup) (outcome : Outcome) (ssrcs : List ℕ) → AreHeard is_sender setup outcome ssrcs →
     one_if (we_sent outcome.own) + length ssrcs ≤ (load_of setup outcome).senders
 heard_senders setup outcome ssrcs h =
     let counted = heard_counted is_sender setup.capacity outcome.trace ssrcs h.apart h.heard in
-    omega (arith, counted)
+    omega (arith, counted, counts_are_of_entries-senders setup.capacity outcome.trace)
 
 pub heard_listeners : (setup : Setup) (outcome : Outcome) (ssrcs : List ℕ) → AreHeard is_listener setup outcome ssrcs
     → one_if (not (we_sent outcome.own)) + length ssrcs

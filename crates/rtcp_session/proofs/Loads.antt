@@ -12,7 +12,7 @@ use Rattle.rtcp_wire.specs.Writing.{written, written_all}
 use Rattle.rtcp_members.specs.Traces.{TraceStep}
 use Rattle.rtcp_members.specs.Entries.{members_at, senders_at}
 use Rattle.rtcp_members.specs.Tables.{table_at}
-use Rattle.rtcp_members.specs.Pending.{blocks_of}
+use Rattle.rtcp_members.specs.News.{blocks_at}
 use Rattle.rtcp_members.proofs.LawLemmas.{trace_has_one_table-stands, counts_agree-members, counts_agree-senders, counts_are_ordered-senders}
 use Rattle.rtcp_report.specs.Reports.{SentValue, cname_item, receiver_named, bye_packet, packets_with}
 use Rattle.rtcp_report.specs.Sizes.{first_report_size, description_size, item_size}
@@ -131,7 +131,7 @@ report_is_large : (setup : Setup) (t : ℕ) (outcome : Outcome) →
     first_size_of setup ≤ length (report_octets setup t outcome)
 report_is_large setup t outcome =
     let reporter = reporter_at setup t outcome in
-    let blocks = blocks_of t (reported_at setup t outcome) in
+    let blocks = blocks_at t setup.capacity outcome.trace (reported_at setup t outcome) in
     omega (
       arith,
       size_is_that_of_the_octets reporter blocks,

@@ -9,7 +9,6 @@ use Rattle.rtcp_wire.specs.Values.{RtcpPacket}
 use Rattle.rtcp_wire.specs.Facts.{facts_of}
 use Rattle.rtcp_members.specs.Traces.{TraceStep, fact_came, check_made, block_made_of, with_facts, source_forgotten}
 use Rattle.rtcp_members.specs.Entries.{gives_name, counted_at}
-use Rattle.rtcp_members.specs.Pending.{EntryRow}
 use Rattle.rtcp_report.specs.Traced.{with_blocks}
 use Rattle.rtcp_engine.specs.declared.refusal.Refusal.{Refusal}
 use Rattle.rtcp_engine.specs.declared.refusal.Refusal.TheVariants.{Backwards}
@@ -51,10 +50,10 @@ module _ (ssrc : ℕ) where
   more_facts (fact ∷ facts) moment trace is =
       more_facts facts moment (fact_came fact moment ∷ trace) (one_more (fact_came fact moment) trace is)
 
-  more_blocks : (rows : List EntryRow) (trace : List TraceStep) → Knows trace → Knows (with_blocks rows trace)
+  more_blocks : (ssrcs : List ℕ) (trace : List TraceStep) → Knows trace → Knows (with_blocks ssrcs trace)
   more_blocks [] trace is = is
-  more_blocks (row ∷ rows) trace is =
-      more_blocks rows (block_made_of row.0 ∷ trace) (one_more (block_made_of row.0) trace is)
+  more_blocks (reported ∷ ssrcs) trace is =
+      more_blocks ssrcs (block_made_of reported ∷ trace) (one_more (block_made_of reported) trace is)
 
   -- the CNAME among the facts of a compound
   gives : (fact : Fact) (moment : ℕ) → fact ≡ Named ssrc → gives_name ssrc (fact_came fact moment) ≡ true

@@ -3,7 +3,7 @@
 use Rattle.std.specs.Prelude.{ℕ, ◌+◌, ◌==◌, ◌||◌, Bool, false, List, [], ◌∷◌, length, map, is_some, if◌then◌else◌, Option, Some, None, Ok, Err}
 use Rattle.std.specs.List.{list_any}
 use Rattle.rtcp_wire.specs.Facts.{subject, facts_of}
-use Rattle.rtcp_members.specs.Entries.{entry_at}
+use Rattle.rtcp_members.specs.Stays.{stay_of}
 use Rattle.rtcp_engine.specs.declared.changes.IdentifierChange.{IdentifierChange}
 use Rattle.rtcp_engine.specs.answers.Setups.{Setup}
 use Rattle.rtcp_engine.specs.answers.Acts.{Datagram, rtcp, rtp, Act, arrived}
@@ -33,23 +33,21 @@ changing_peers session = map (λ change. change.peer) session.changes
 -- A datagram is about this source: a fact of its compound is, or its RTP packet comes from it.
 abbrev pub is_about : (ssrc : ℕ) → Datagram → Bool
 is_about ssrc (rtcp size (Ok packets)) = list_any (λ fact. subject fact == ssrc) (facts_of packets)
-is_about ssrc (rtcp size (Err fault)) = false
 is_about ssrc (rtp (Ok head)) = head.ssrc == ssrc
-is_about ssrc (rtp (Err fault)) = false
+is_about ssrc _ = false
 
 -- all identifiers that a datagram names, contributing sources among them
 abbrev pub named_by : Datagram → List ℕ
 named_by (rtcp size (Ok packets)) = map subject (facts_of packets)
-named_by (rtcp size (Err fault)) = []
 named_by (rtp (Ok head)) = head.ssrc ∷ head.csrcs
-named_by (rtp (Err fault)) = []
+named_by _ = []
 
 -- ---- A new identifier
 
 -- whether the table has an entry of a source, marked or not: in a backoff as it stood at the leave
 abbrev pub is_in_table : Setup → Life → (ssrc : ℕ) → Bool
-is_in_table setup (present outcome) ssrc = is_some (entry_at setup.capacity outcome.trace ssrc)
-is_in_table setup (backing_off outcome backoff) ssrc = is_some (entry_at setup.capacity outcome.trace ssrc)
+is_in_table setup (present outcome) ssrc = is_some (stay_of setup.capacity outcome.trace ssrc)
+is_in_table setup (backing_off outcome backoff) ssrc = is_some (stay_of setup.capacity outcome.trace ssrc)
 is_in_table setup (finished outcome) ssrc = false
 
 -- An identifier is taken if the participant has or had it, if the table has it, or if the datagram names it.

@@ -22,8 +22,7 @@ sending_since [] = None
 sending_since (packet_sent moment timestamp octets ∷ earlier) = Some moment
 sending_since (check_passed idle ∷ earlier) =
     if is_before (sending_since earlier) idle then None else sending_since earlier
-sending_since (report_sent ∷ earlier) = sending_since earlier
-sending_since (counts_anew ∷ earlier) = sending_since earlier
+sending_since (_ ∷ earlier) = sending_since earlier
 
 abbrev pub we_sent : List OwnStep → Bool
 we_sent own = is_some (sending_since own)
@@ -33,24 +32,21 @@ we_sent own = is_some (sending_since own)
 abbrev pub packets_sent : List OwnStep → ℕ
 packets_sent [] = 0
 packets_sent (packet_sent moment timestamp octets ∷ earlier) = packets_sent earlier + 1
-packets_sent (check_passed idle ∷ earlier) = packets_sent earlier
-packets_sent (report_sent ∷ earlier) = packets_sent earlier
 packets_sent (counts_anew ∷ earlier) = 0
+packets_sent (_ ∷ earlier) = packets_sent earlier
 
 abbrev pub octets_sent : List OwnStep → ℕ
 octets_sent [] = 0
 octets_sent (packet_sent moment timestamp octets ∷ earlier) = octets_sent earlier + octets
-octets_sent (check_passed idle ∷ earlier) = octets_sent earlier
-octets_sent (report_sent ∷ earlier) = octets_sent earlier
 octets_sent (counts_anew ∷ earlier) = 0
+octets_sent (_ ∷ earlier) = octets_sent earlier
 
 -- whether a report or a packet was sent under the present identifier
 abbrev pub has_sent : List OwnStep → Bool
 has_sent [] = false
-has_sent (packet_sent moment timestamp octets ∷ earlier) = true
 has_sent (check_passed idle ∷ earlier) = has_sent earlier
-has_sent (report_sent ∷ earlier) = true
 has_sent (counts_anew ∷ earlier) = false
+has_sent (_ ∷ earlier) = true
 
 pub record PacketValue : Type 0 where
   pub moment : ℕ
@@ -60,9 +56,25 @@ abbrev pub newest_packet : List OwnStep → Option PacketValue
 newest_packet [] = None
 newest_packet (packet_sent moment timestamp octets ∷ earlier) =
     Some (record { moment = moment; timestamp = timestamp })
-newest_packet (check_passed idle ∷ earlier) = newest_packet earlier
-newest_packet (report_sent ∷ earlier) = newest_packet earlier
-newest_packet (counts_anew ∷ earlier) = newest_packet earlier
+newest_packet (_ ∷ earlier) = newest_packet earlier
+
+-- The RTP timestamp of a moment: that of the last packet, and the units of the media's clock since. (0 if no
+-- packet was sent.)
+abbrev pub timestamp_at : (rate t : ℕ) → Option PacketValue → ℕ
+timestamp_at rate t None = 0
+timestamp_at rate t (Some packet) = (packet.timestamp + media_units (t - packet.moment) rate) % 2 ^ 32
+
+-- the stream at the moment `t`, where the participant reports as a sender
+abbrev pub stream_at : (ntp_base rate t : ℕ) → List OwnStep → Option SentValue
+stream_at ntp_base rate t own =
+    if we_sent own
+    then Some (record {
+      ntp = ntp_moment ntp_base t;
+      rtp = timestamp_at rate t (newest_packet own);
+      packets = packets_sent own % 2 ^ 32;
+      octets = octets_sent own % 2 ^ 32;
+    })
+    else None
 
 -- ---- The few numbers that it comes to
 
@@ -89,13 +101,7 @@ own_of own = record {
 abbrev pub Adds : (old new : OwnValue) → OwnStep → Type 0
 Adds old new step = (own : List OwnStep) → old ≡ own_of own → new ≡ own_of (step ∷ own)
 
--- The RTP timestamp of a moment: that of the last packet, and the units of the media's clock since. (0 if no
--- packet was sent.)
-abbrev pub timestamp_at : (rate t : ℕ) → Option PacketValue → ℕ
-timestamp_at rate t None = 0
-timestamp_at rate t (Some packet) = (packet.timestamp + media_units (t - packet.moment) rate) % 2 ^ 32
-
--- the stream, where the participant reports as a sender
+-- the stream by these numbers, where the participant reports as a sender
 abbrev pub sent_of : (ntp_base rate t : ℕ) → OwnValue → Option SentValue
 sent_of ntp_base rate t own =
     if is_some own.sending

@@ -3,13 +3,12 @@ use Rattle.std.specs.Prelude.{ℕ, ◌+◌, ◌-◌, ◌/◌, ◌%◌, ◌==◌,
 use Rattle.rtcp_wire.specs.Values.{ItemValue, RtcpPacket}
 use Rattle.rtcp_wire.specs.Writing.{written_all}
 use Rattle.rtcp_members.specs.Traces.{TraceStep, fact_came, check_made, block_made_of, source_forgotten}
-use Rattle.rtcp_members.specs.Pending.{EntryRow, blocks_of}
-use Rattle.rtcp_members.specs.News.{pending_rows_at}
+use Rattle.rtcp_members.specs.News.{blocks_at, pending_at}
 use Rattle.rtcp_report.specs.Reports.{Reporter, packets_with, bye_of}
 use Rattle.rtcp_report.specs.Sizes.{fitting}
 use Rattle.rtcp_report.specs.Views.{items_of}
 use Rattle.rtcp_engine.specs.answers.Setups.{Setup}
-use Rattle.rtcp_engine.specs.answers.OwnStreams.{OwnValue, own_of, sent_of}
+use Rattle.rtcp_engine.specs.answers.OwnStreams.{OwnValue, sent_of, stream_at}
 use Rattle.rtcp_engine.specs.answers.Outcomes.{Outcome}
 
 -- ---- Items
@@ -25,13 +24,18 @@ extra_item items number =
 -- the source of the newest block
 abbrev pub last_reported_in : List TraceStep → Option ℕ
 last_reported_in [] = None
-last_reported_in (fact_came fact moment ∷ earlier) = last_reported_in earlier
-last_reported_in (check_made horizons ∷ earlier) = last_reported_in earlier
-last_reported_in (source_forgotten ssrc ∷ earlier) = last_reported_in earlier
 last_reported_in (block_made_of ssrc ∷ earlier) = Some ssrc
+last_reported_in (_ ∷ earlier) = last_reported_in earlier
 
--- who makes the report of this number at a moment: a sender or a receiver, with its CNAME and the extra item whose turn
--- it is
+-- who makes the report at a moment: a sender or a receiver, with its CNAME and the extra item whose turn it is
+abbrev pub reporter_at : Setup → (t : ℕ) → Outcome → Reporter
+reporter_at setup t outcome = record {
+  ssrc = setup.ssrc;
+  sent = stream_at setup.ntp_base setup.rate t outcome.own;
+  items = items_of setup.cname (extra_item setup.extras (length outcome.reports + 1));
+}
+
+-- the same of the report of this number, by the few numbers of the own stream
 abbrev pub reporter_by : Setup → OwnValue → (number t : ℕ) → Reporter
 reporter_by setup own number t = record {
   ssrc = setup.ssrc;
@@ -39,18 +43,16 @@ reporter_by setup own number t = record {
   items = items_of setup.cname (extra_item setup.extras number);
 }
 
-abbrev pub reporter_at : Setup → (t : ℕ) → Outcome → Reporter
-reporter_at setup t outcome = reporter_by setup (own_of outcome.own) (length outcome.reports + 1) t
-
 -- The sources that a report is of: as many of the pending ones as fit, in turn after the last one reported.
-abbrev pub reported_at : Setup → (t : ℕ) → Outcome → List EntryRow
+abbrev pub reported_at : Setup → (t : ℕ) → Outcome → List ℕ
 reported_at setup t outcome =
     fitting (reporter_at setup t outcome) setup.limit
-    (pending_rows_at (last_reported_in outcome.trace) setup.capacity outcome.trace)
+    (pending_at (last_reported_in outcome.trace) setup.capacity outcome.trace)
 
 abbrev pub report_packets : Setup → (t : ℕ) → Outcome → List RtcpPacket
 report_packets setup t outcome =
-    packets_with (reporter_at setup t outcome) (blocks_of t (reported_at setup t outcome))
+    packets_with (reporter_at setup t outcome)
+    (blocks_at t setup.capacity outcome.trace (reported_at setup t outcome))
 
 abbrev pub report_octets : Setup → (t : ℕ) → Outcome → List ℕ
 report_octets setup t outcome = written_all (report_packets setup t outcome)

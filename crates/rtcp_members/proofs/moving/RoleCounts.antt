@@ -12,6 +12,7 @@ use Rattle.rtcp_members.specs.Roles.{IsSameRole, step_moves, moved_within}
 use Rattle.rtcp_members.proofs.maps.Counting.{has, IsOnce, passing, same_passing, first_and_rest, one_or_none, one_more, no_more}
 use Rattle.rtcp_members.proofs.stays.Naming.{names_are_once, present_is_named, still_named}
 use Rattle.rtcp_members.proofs.stays.TraceStepLemmas.{other_entry_at, checked_entry_at}
+use Rattle.rtcp_members.proofs.standing.Counts.{members_by_entries, senders_by_entries}
 use Rattle.rtcp_members.proofs.standing.Growing.{more_pass, checked_such, checked_sender}
 use Rattle.rtcp_members.proofs.standing.Blocking.{reported_if, own_stay, other_stay}
 use Rattle.rtcp_members.proofs.standing.Forgetting.{forgotten_entry_at, kept_such}
@@ -233,9 +234,11 @@ module _ (capacity : ℕ) where
       step_moves capacity step trace ≡ false
   same_roles_stay step trace same =
       let members : members_at capacity (step ∷ trace) ≡ members_at capacity trace =
-      count_stays is_member capacity step trace (λ ssrc. (same ssrc).0) in
+      members_by_entries capacity (step ∷ trace) ∙ count_stays is_member capacity step trace (λ ssrc. (same ssrc).0)
+      ∙ sym (members_by_entries capacity trace) in
       let senders : senders_at capacity (step ∷ trace) ≡ senders_at capacity trace =
-      count_stays is_sender capacity step trace (λ ssrc. (same ssrc).1) in
+      senders_by_entries capacity (step ∷ trace) ∙ count_stays is_sender capacity step trace (λ ssrc. (same ssrc).1)
+      ∙ sym (senders_by_entries capacity trace) in
       (λ i. not ((members i == members_at capacity trace) && (senders i == senders_at capacity trace)))
       ∙ none_moves (members_at capacity trace) (senders_at capacity trace)
     where
@@ -243,10 +246,14 @@ module _ (capacity : ℕ) where
       none_moves n m = grind (arith, nat_tests)
 
   counts_stay : (step : TraceStep) (trace : List TraceStep) → step_moves capacity step trace ≡ false →
-      (members_at capacity (step ∷ trace) ≡ members_at capacity trace)
-      × (senders_at capacity (step ∷ trace) ≡ senders_at capacity trace)
-  counts_stay step trace still = both_equal (members_at capacity (step ∷ trace)) (members_at capacity trace)
-      (senders_at capacity (step ∷ trace)) (senders_at capacity trace) still
+      (count_at is_member capacity (step ∷ trace) ≡ count_at is_member capacity trace)
+      × (count_at is_sender capacity (step ∷ trace) ≡ count_at is_sender capacity trace)
+  counts_stay step trace still =
+      let both = both_equal (members_at capacity (step ∷ trace)) (members_at capacity trace)
+      (senders_at capacity (step ∷ trace)) (senders_at capacity trace) still in (
+        sym (members_by_entries capacity (step ∷ trace)) ∙ both.0 ∙ members_by_entries capacity trace,
+        sym (senders_by_entries capacity (step ∷ trace)) ∙ both.1 ∙ senders_by_entries capacity trace,
+      )
     where
       both_equal : (a b c d : ℕ) → not ((a == b) && (c == d)) ≡ false → (a ≡ b) × (c ≡ d)
       both_equal a b c d e = (grind (arith, nat_tests, e), grind (arith, nat_tests, e))

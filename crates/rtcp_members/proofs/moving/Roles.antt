@@ -2,10 +2,11 @@
 use Rattle.std.proofs.Common.{◌≡◌, ℕ, suc, ◌+◌, ◌==◌, ◌&&◌, ◌||◌, not, Bool, true, false, List, [], ◌∷◌, length, arith, refl, sym, ap, ◌∙◌}
 use Rattle.rtcp_wire.specs.declared.fact.Fact.{Fact}
 use Rattle.rtcp_members.specs.Traces.{Horizons, TraceStep, fact_came, check_made, source_forgotten, with_facts}
-use Rattle.rtcp_members.specs.Entries.{is_member, is_sender, members_at, senders_at}
+use Rattle.rtcp_members.specs.Entries.{members_at, senders_at}
 use Rattle.rtcp_members.specs.Tables.{TableValue, StandsAt, KeepsBounds, after_fact, after_check, after_forgetting, members_in, senders_in}
 use Rattle.rtcp_members.specs.Roles.{step_moves, moved_within, counts_differ, facts_move, check_moves, forgetting_moves}
-use Rattle.rtcp_members.proofs.standing.Following.{fact_follows, check_follows, count_agrees}
+use Rattle.rtcp_members.proofs.standing.Counts.{members_agree, senders_agree}
+use Rattle.rtcp_members.proofs.standing.Following.{fact_follows, check_follows}
 use Rattle.rtcp_members.proofs.standing.Capacity.{fact_keeps_bounds, check_keeps_bounds, forgetting_keeps_bounds}
 use Rattle.rtcp_members.proofs.standing.Removing.{forgetting_follows}
 
@@ -18,17 +19,17 @@ later_first false false c = refl
 module _ (before after : TableValue) (step : TraceStep) (trace : List TraceStep) (keeps : KeepsBounds before after)
     (stands : StandsAt before trace) (next : StandsAt after (step ∷ trace)) where
   members_then : members_in after ≡ members_at before.capacity (step ∷ trace)
-  members_then = count_agrees after (step ∷ trace) next is_member
+  members_then = members_agree after (step ∷ trace) next
       ∙ (λ i. members_at (keeps.capacity i) (step ∷ trace))
 
   senders_then : senders_in after ≡ senders_at before.capacity (step ∷ trace)
-  senders_then = count_agrees after (step ∷ trace) next is_sender
+  senders_then = senders_agree after (step ∷ trace) next
       ∙ (λ i. senders_at (keeps.capacity i) (step ∷ trace))
 
   -- one step
   pub step_agrees : counts_differ before after ≡ step_moves before.capacity step trace
-  step_agrees = λ i. not ((members_then i == count_agrees before trace stands is_member i)
-      && (senders_then i == count_agrees before trace stands is_sender i))
+  step_agrees = λ i. not ((members_then i == members_agree before trace stands i)
+      && (senders_then i == senders_agree before trace stands i))
 
 none_first : (n : ℕ) → 0 + n ≡ n
 none_first n = omega arith

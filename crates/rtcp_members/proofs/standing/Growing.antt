@@ -14,6 +14,7 @@ use Rattle.rtcp_members.specs.Entries.{EntryValue, still_sending, is_member, is_
 use Rattle.rtcp_members.specs.Tables.{TableValue, changes, entry_after, entry_after_check, after_check, members_in, senders_in, updated}
 use Rattle.rtcp_members.proofs.maps.Counting.{has, passing, passing_entries, keys_of, own_keys_once, has_own_key}
 use Rattle.rtcp_members.proofs.maps.Updated.{get_updated}
+use Rattle.rtcp_members.proofs.standing.Counts.{members_by_entries}
 use Rattle.rtcp_members.proofs.stays.Naming.{room_at}
 use Rattle.rtcp_members.proofs.stays.TraceStepLemmas.{kept_by, own_entry_at, other_entry_at}
 
@@ -90,7 +91,13 @@ module _ (capacity : ℕ) (trace : List TraceStep) (fact : Fact) (moment : ℕ) 
       (names trace) in
       let further : passing next (names trace) ≤ passing next (names (fact_came fact moment ∷ trace)) =
       no_fewer_names next (is_gone fact || has (subject fact) (names trace)) in
-      omega (arith, more, further)
+      omega (
+        arith,
+        more,
+        further,
+        members_by_entries capacity trace,
+        members_by_entries capacity (fact_came fact moment ∷ trace),
+      )
 
 -- ---- Counts of a table
 

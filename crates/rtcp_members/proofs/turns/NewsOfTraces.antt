@@ -1,21 +1,22 @@
 -- The pending sources of a table, as a list over the names of its trace.
-use Rattle.std.proofs.Common.{◌≡◌, ℕ, ◌<◌, Bool, true, false, T, cond, if◌then◌else◌, not, ◌||◌, ◌==◌, ◌&&◌, nat_lt, nat_cmp, is_lt, List, [], ◌∷◌, ◌++◌, filter, filter_map, map, Option, Some, None, is_some, is_none, option_map, arith, refl, sym, ap, ◌∙◌}
+use Rattle.std.proofs.Common.{◌≡◌, ℕ, zero, suc, take, ◌<◌, Bool, true, false, T, cond, if◌then◌else◌, not, ◌||◌, ◌==◌, ◌&&◌, nat_lt, nat_cmp, is_lt, List, [], ◌∷◌, ◌++◌, filter, filter_map, map, Option, Some, None, is_some, is_none, option_map, arith, refl, sym, ap, ◌∙◌}
 use Rattle.std.proofs.lemmas.Bool.{or_parts}
 use Rattle.std.proofs.lemmas.Bool.Decides.{nat_tests}
 use Rattle.std.specs.List.{All, cons_option}
+use Rattle.std.proofs.lemmas.List.{take-map}
 use Rattle.std.proofs.lemmas.List.Elements.{All-nil, All-cons, All-head, All-tail, All-append, All-filter}
 use Rattle.std.specs.Cmp.{nat_cmp_total}
 use Rattle.std.specs.FinMap as finite
 use Rattle.std.specs.FinMap.{nat_cmp-IsAntisymmetric}
 use Rattle.std.specs.FinMap.Entries.{below_all}
 use Rattle.rtcp_source.specs.Packets.{has_news_since}
-use Rattle.rtcp_source.proofs.LawLemmas.{summary_suffices-news}
+use Rattle.rtcp_source.proofs.LawLemmas.{summary_suffices-block, summary_suffices-news}
 use Rattle.rtcp_members.specs.Traces.{TraceStep, names}
 use Rattle.rtcp_members.specs.Stays.{mark_of, before_mark, stay_of}
 use Rattle.rtcp_members.specs.Entries.{EntryValue, given_of, entry_of, entry_at, is_such}
 use Rattle.rtcp_members.specs.Tables.{EntryMap, TableValue, StandsAt}
-use Rattle.rtcp_members.specs.Pending.{EntryRow, is_due, due_rows, is_above, is_after, pending}
-use Rattle.rtcp_members.specs.News.{is_due_in, is_due_by, put_rising, rising, pending_at, pending_rows_at}
+use Rattle.rtcp_members.specs.Pending.{EntryRow, is_due, due_rows, is_above, is_after, pending, blocks_of}
+use Rattle.rtcp_members.specs.News.{is_due_in, is_due_by, block_in, blocks_at, put_rising, rising, pending_at, pending_rows_at}
 use Rattle.rtcp_members.proofs.maps.Counting.{has, IsOnce}
 use Rattle.rtcp_members.proofs.turns.LeastDue.{is_less, joined}
 use Rattle.rtcp_members.proofs.stays.Naming.{names_are_once, present_is_named}
@@ -247,13 +248,49 @@ such_is_there test None h = absurd cc
 such_is_there test (Some e) h = refl
 
 -- Each source that is pending has an entry, so the rows are those of all of them.
-pub pending_have_rows : (last : Option ℕ) (capacity : ℕ) (trace : List TraceStep) →
-    map (λ (row : EntryRow). row.0) (pending_rows_at last capacity trace) ≡ pending_at last capacity trace
-pending_have_rows last capacity trace =
-    let entry : ℕ → Option EntryValue = entry_at capacity trace in
-    let all = have_passing entry (is_due_by capacity trace)
-    (λ ssrc news. such_is_there is_due (entry ssrc) (due_at_trace capacity trace ssrc ∙ news))
-    (rising (names trace)) in
-    ssrcs_of_rows entry (pending_at last capacity trace)
-    (All-append (Has entry) _ _ (All-filter (is_after last) (Has entry) _ all)
-    (All-filter (λ ssrc. not (is_after last ssrc)) (Has entry) _ all))
+module _ (last : Option ℕ) (capacity : ℕ) (trace : List TraceStep) where
+  pending_are_there : All (Has (entry_at capacity trace)) (pending_at last capacity trace)
+  pending_are_there =
+      let entry : ℕ → Option EntryValue = entry_at capacity trace in
+      let all = have_passing entry (is_due_by capacity trace)
+      (λ ssrc news. such_is_there is_due (entry ssrc) (due_at_trace capacity trace ssrc ∙ news))
+      (rising (names trace)) in
+      All-append (Has entry) _ _ (All-filter (is_after last) (Has entry) _ all)
+      (All-filter (λ ssrc. not (is_after last ssrc)) (Has entry) _ all)
+
+  pub pending_have_rows : map (λ (row : EntryRow). row.0) (pending_rows_at last capacity trace)
+      ≡ pending_at last capacity trace
+  pending_have_rows = ssrcs_of_rows (entry_at capacity trace) (pending_at last capacity trace) pending_are_there
+
+-- ---- Their blocks
+
+module _ (t capacity : ℕ) (trace : List TraceStep) where
+  -- those of the first of the rows
+  blocks_taken : (most : ℕ) (ssrcs : List ℕ) → All (Has (entry_at capacity trace)) ssrcs →
+      blocks_of t (take most (rows (entry_at capacity trace) ssrcs)) ≡ blocks_at t capacity trace (take most ssrcs)
+  blocks_taken zero ssrcs all = refl
+  blocks_taken (suc most) [] all = refl
+  blocks_taken (suc most) (ssrc ∷ ssrcs) all =
+      let has_entry : ℕ → Type 0 = Has (entry_at capacity trace) in
+      let rest = blocks_taken most ssrcs (All-tail has_entry ssrc ssrcs all) in
+      let later : List EntryRow = rows (entry_at capacity trace) ssrcs in
+      elim (stay_of capacity trace ssrc) as (λ stay. is_some (option_map (entry_of ssrc) stay) ≡ true →
+      blocks_of t (take (suc most) (cons_option (option_map (λ e. (ssrc, e)) (option_map (entry_of ssrc) stay)) later))
+      ≡ cons_option (block_in ssrc t stay) (blocks_at t capacity trace (take most ssrcs))) [
+        | None ↦ λ h. absurd cc
+        | Some stay ↦ λ h i. cons_option (summary_suffices-block (given_of ssrc (before_mark ssrc stay)) ssrc t i)
+            (rest i)
+      ] (All-head has_entry ssrc ssrcs all)
+
+pub pending_blocks : (t most : ℕ) (last : Option ℕ) (capacity : ℕ) (trace : List TraceStep) →
+    blocks_of t (take most (pending_rows_at last capacity trace))
+    ≡ blocks_at t capacity trace (take most (pending_at last capacity trace))
+pending_blocks t most last capacity trace = blocks_taken t capacity trace most (pending_at last capacity trace)
+    (pending_are_there last capacity trace)
+
+pub pending_taken : (most : ℕ) (last : Option ℕ) (capacity : ℕ) (trace : List TraceStep) →
+    map (λ (row : EntryRow). row.0) (take most (pending_rows_at last capacity trace))
+    ≡ take most (pending_at last capacity trace)
+pending_taken most last capacity trace =
+    sym (take-map (λ (row : EntryRow). row.0) most (pending_rows_at last capacity trace))
+    ∙ ap (take most) (pending_have_rows last capacity trace)
