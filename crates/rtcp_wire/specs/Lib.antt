@@ -5,6 +5,7 @@ pub mod Views
 pub mod Parts
 pub mod Validity
 pub mod RtpHeads
+pub mod RtpReadings
 pub mod Facts
 pub mod FactsLeft
 pub mod About
