@@ -19,6 +19,8 @@ pub use Rattle.rtcp_wire.proofs.FewFacts.{few_facts as facts_are_few}
 pub use Rattle.rtcp_wire.proofs.RtpFaults.{one_head, one_fault as one_rtp_fault}
 pub use Rattle.rtcp_wire.proofs.RtpFaults.{never_both as packet_or_fault-never_both}
 pub use Rattle.rtcp_wire.proofs.RtpFaults.{always_one as packet_or_fault-always_one}
+pub use Rattle.rtcp_wire.proofs.RtpComputed.{of_head as rtp_readings_are_computed-head}
+pub use Rattle.rtcp_wire.proofs.RtpComputed.{of_fault as rtp_readings_are_computed-fault}
 pub use Rattle.rtcp_wire.proofs.RtpRanges.{payload_type as heads_are_in_range-payload_type}
 pub use Rattle.rtcp_wire.proofs.RtpRanges.{sequence as heads_are_in_range-sequence}
 pub use Rattle.rtcp_wire.proofs.RtpRanges.{few_csrcs as heads_are_in_range-csrcs, words as heads_are_in_range-words}

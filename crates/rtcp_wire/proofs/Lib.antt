@@ -35,6 +35,7 @@ mod NoMedia
 mod RtpLists
 mod RtpHeading
 mod RtpFaults
+mod RtpComputed
 mod ReadingRtp
 mod RtpRanges
 mod RtpPlaces

@@ -1,9 +1,10 @@
 //! Laws of RTP packets (`specs/RtpHeads`), whatever reads the octets. Each is an empty function whose
 //! postcondition is the law; `proofs/LawLemmas` has a lemma of its name, or one for each clause.
 
-ghost use Rattle.std.specs.Prelude.{◌≡◌, ℕ, ◌^◌, ◌<◌, ◌≤◌, ◌⊎◌, List, All, length};
+ghost use Rattle.std.specs.Prelude.{◌≡◌, ◌↔◌, ℕ, ◌^◌, ◌<◌, ◌≤◌, ◌⊎◌, List, All, length, Ok, Err};
 ghost use Rattle.rtcp_wire.specs.Grammar.{AreOctets};
 ghost use Rattle.rtcp_wire.specs.RtpHeads.{RtpValue, IsReserved, IsRtpHead, IsRtpFault};
+ghost use Rattle.rtcp_wire.specs.RtpReadings.{rtp_in};
 ghost use Rattle.rtcp_wire.specs.declared.rtp.fault.RtpFault.{RtpFault};
 
 /// Octets are at most one RTP packet.
@@ -22,6 +23,13 @@ pub fn packet_or_fault()
         IsRtpHead octets head → IsRtpFault octets fault → ⊥ }
     ensures always_one { (octets : List ℕ) →
         ((head : RtpValue) × IsRtpHead octets head) ⊎ ((fault : RtpFault) × IsRtpFault octets fault) }
+{}
+
+/// What octets say as an RTP packet, or their first fault, is computed: `rtp_in` gives a packet exactly where the
+/// octets are that packet, and a fault exactly where it is their first one.
+pub fn rtp_readings_are_computed()
+    ensures head { (octets : List ℕ) (head : RtpValue) → (IsRtpHead octets head) ↔ (rtp_in octets ≡ Ok head) }
+    ensures fault { (octets : List ℕ) (fault : RtpFault) → (IsRtpFault octets fault) ↔ (rtp_in octets ≡ Err fault) }
 {}
 
 /// The numbers of an RTP packet are in the ranges of their fields: the payload type is below 128 and none of
