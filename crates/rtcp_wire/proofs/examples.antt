@@ -1,6 +1,7 @@
 mod Rows
 mod RowsOfTypes
 mod RtpRows
+mod RtpReadingRows
 mod FactRows
 mod SoleRows
 mod AboutRows
