@@ -150,7 +150,7 @@ plain_body kind count body room not_sdes not_bye =
     ]
 
 -- With room for its identifiers a BYE's body is some packet's, or what follows them is no reason.
-goodbye_from : (kind count : ℕ) (body : List ℕ) → kind ≡ 203 → length body % 4 ≡ 0 →
+pub goodbye_from : (kind count : ℕ) (body : List ℕ) → kind ≡ 203 → length body % 4 ≡ 0 →
     least_size kind count ≤ length body → IsSomeBody kind count body ⊎ IsNoReason (drop (4 * count) body)
 goodbye_from kind count body is words room =
     let size : ℕ = 4 * count in

@@ -18,6 +18,9 @@ mod Passing
 mod BodyOrFault
 mod PacketOrFault
 mod Walking
+-- The function that reads a datagram or tells its first fault.
+mod ReadBodies
+mod ReadDatagrams
 -- What the tests see of the sources, and compounds about one source.
 mod Summing
 mod Reporters

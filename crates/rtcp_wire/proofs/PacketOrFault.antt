@@ -93,11 +93,11 @@ not_both_bits p set clear = cc
 
 module _ (first : Bool) (b : List ℕ) where
   -- Each test of a header that finds nothing leads to the next.
-  before_version : 4 ≤ length b → NoneBefore 2 first b
+  pub before_version : 4 ≤ length b → NoneBefore 2 first b
   before_version enough = next_test Short first b (none_at_first first b)
       (λ (few : length b < 4). omega (arith, few, enough))
 
-  before_type : 4 ≤ length b → version_of b ≡ 2 → NoneBefore 3 first b
+  pub before_type : 4 ≤ length b → version_of b ≡ 2 → NoneBefore 3 first b
   before_type enough version = next_test Version first b (before_version enough) (λ differs. differs version)
 
   pub before_first_padding : 4 ≤ length b → version_of b ≡ 2 → (first ≡ true → (type_of b ≡ 200) ⊎ (type_of b ≡ 201)) →
@@ -110,7 +110,7 @@ module _ (first : Bool) (b : List ℕ) where
       next_test FirstPadding first b (before_first_padding enough version (λ is_first. (may is_first).0))
       (λ bad. not_both_bits (is_padded b) bad.1 (may bad.0).1)
 
-  before_padding : IsWhole first b → NoneBefore 6 first b
+  pub before_padding : IsWhole first b → NoneBefore 6 first b
   before_padding good = next_test Length first b (before_length good.header good.version good.may_stand)
       (λ (few : length b < size_of b). omega (arith, few, good.size))
 
@@ -163,7 +163,7 @@ words_are_left : (n size words padding : ℕ) → n ≡ size - 4 - padding → s
 words_are_left n size words padding is e even = omega arith
 
 -- The body of a packet with good padding is whole words.
-body_is_words : (s : List ℕ) → length s ≡ size_of s → (is_padded s ≡ true → IsPadding (size_of s) (padding_of s)) →
+pub body_is_words : (s : List ℕ) → length s ≡ size_of s → (is_padded s ≡ true → IsPadding (size_of s) (padding_of s)) →
     length (body_of s) % 4 ≡ 0
 body_is_words s size good =
     let fits : size_of s - 4 - padding_of s ≤ length (drop 4 s) = within (size_of s) (padding_of s) (length s)

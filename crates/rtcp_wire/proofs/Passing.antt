@@ -132,7 +132,7 @@ chunk_passed octets after room words p =
     ((octets_taken, whole, (chunk, made)), rest_words)
 
 -- In whole words, with room for an identifier, a chunk is passed or ends too early.
-chunk_from : (octets : List ℕ) → 4 ≤ length octets → length octets % 4 ≡ 0 →
+pub chunk_from : (octets : List ℕ) → 4 ≤ length octets → length octets % 4 ≡ 0 →
     EndsInChunk octets ⊎ ((left : List ℕ) × (TakesPrefix octets left IsSomeChunk × (length left % 4 ≡ 0)))
 chunk_from octets room words =
     elim (items_from (suc (length (drop 4 octets))) (drop 4 octets) (drop 4 octets) (omega arith)
@@ -178,7 +178,7 @@ all_chunks turns count body left h all none =
     (sdes h.chunks, (refl, h.counted ∙ all, subst (Joins IsChunk h.chunks) (sym whole) h.taken.2))
 
 -- Where a chunk is missing or octets are left, the body ends beside its chunks,
-chunks_beside : (turns count : ℕ) (body left : List ℕ) → HasTakenChunks turns body left →
+pub chunks_beside : (turns count : ℕ) (body left : List ℕ) → HasTakenChunks turns body left →
     ((turns < count) × (length left < 4)) ⊎ ((turns ≡ count) × (left ≢ [])) → EndsBesideChunks count body
 chunks_beside turns count body left h stop = record {
   chunks = h.chunks;
@@ -190,7 +190,7 @@ chunks_beside turns count body left h stop = record {
 }
 
 -- and where the next one ends too early, inside it.
-chunks_inside : (turns count : ℕ) (body left : List ℕ) → HasTakenChunks turns body left → turns < count →
+pub chunks_inside : (turns count : ℕ) (body left : List ℕ) → HasTakenChunks turns body left → turns < count →
     EndsInChunk left → EndsInsideChunk count body
 chunks_inside turns count body left h expected e = record {
   chunks = h.chunks;

@@ -15,5 +15,6 @@ pub mod Writing
 pub mod WriterViews
 pub mod Puts
 pub mod Walks
+pub mod Readings
 pub mod Summaries
 pub mod Sole

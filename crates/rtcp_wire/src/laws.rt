@@ -2,12 +2,13 @@
 //! is an empty function whose postcondition is the law; `proofs/LawLemmas` has a lemma of its name, or one
 //! for each clause.
 
-ghost use Rattle.std.specs.Prelude.{◌≡◌, ℕ, ◌==◌, ◌≤◌, ◌++◌, ◌⊎◌, false, List, All, filter, length};
+ghost use Rattle.std.specs.Prelude.{◌≡◌, ℕ, ◌==◌, ◌≤◌, ◌++◌, ◌⊎◌, ◌↔◌, false, List, Ok, Err, All, filter, length};
 ghost use Rattle.rtcp_wire.specs.About.{blocks_about};
 ghost use Rattle.rtcp_wire.specs.Contents.{all_blocks};
 ghost use Rattle.rtcp_wire.specs.Grammar.{IsSpelling, IsAccepted};
 ghost use Rattle.rtcp_wire.specs.Faults.{IsFirstFault};
 ghost use Rattle.rtcp_wire.specs.Facts.{is_media, facts_of};
+ghost use Rattle.rtcp_wire.specs.Readings.{rtcp_in};
 ghost use Rattle.rtcp_wire.specs.Walks.{packets_in};
 ghost use Rattle.rtcp_wire.specs.Values.{RtcpPacket};
 ghost use Rattle.rtcp_wire.specs.declared.fault.WireFault.{WireFault};
@@ -36,6 +37,16 @@ pub fn accepted_or_faulty()
         IsAccepted octets packets → IsFirstFault octets fault → ⊥ }
     ensures always_one { (octets : List ℕ) → ((packets : List RtcpPacket) × IsAccepted octets packets)
         ⊎ ((fault : WireFault) × IsFirstFault octets fault) }
+{}
+
+/// What the octets of a datagram say is computed: the packets that it is accepted as are those that `rtcp_in`
+/// reads of it, and its first fault is the one that `rtcp_in` tells. So this one function is the whole grammar,
+/// and the reasons and places of its refusals.
+pub fn readings_are_computed()
+    ensures accepted { (octets : List ℕ) (packets : List RtcpPacket) →
+        (IsAccepted octets packets) ↔ (rtcp_in octets ≡ Ok packets) }
+    ensures faulty { (octets : List ℕ) (fault : WireFault) →
+        (IsFirstFault octets fault) ↔ (rtcp_in octets ≡ Err fault) }
 {}
 
 /// RTCP packets say nothing of RTP packets that came: no fact of a compound is `Media`.
