@@ -18,10 +18,12 @@ use Rattle.rtcp_wire.proofs.BodyOrFault.{plain_body, goodbye_from}
 
 -- ---- Items
 
+-- the octets of an item that were passed
 skipped : (a r : List ℕ) → do_items_end (length a) (a ++ r) ≡ do_items_end 0 r
 skipped [] r = refl
 skipped (o ∷ a) r = skipped a r
 
+-- One item tells nothing of the end,
 after_item : (item : ItemValue) (rest : List ℕ) → item.kind ≢ 0 →
     do_items_end 0 (item.kind ∷ length item.text ∷ (item.text ++ rest)) ≡ do_items_end 0 rest
 after_item item rest some =
@@ -29,7 +31,7 @@ after_item item rest some =
     (ne_eqb item.kind 0 some)
     ∙ skipped item.text rest
 
--- Whole items tell nothing of the end.
+-- and neither do more.
 after_items : (items : List ItemValue) (a r : List ℕ) → Joins IsItem items a →
     do_items_end 0 (a ++ r) ≡ do_items_end 0 r
 after_items [] a r h = ap (λ (t : List ℕ). do_items_end 0 (t ++ r)) h
@@ -39,6 +41,7 @@ after_items (item ∷ items) a r h =
     ∙ ap (λ (t : List ℕ). item.kind ∷ length item.text ∷ t) (append_assoc item.text h.1 r) in
     ap (do_items_end 0) whole ∙ after_item item (h.1 ++ r) h.3.0 ∙ after_items items h.1 r h.4
 
+-- Where an item runs past the octets no end is found.
 past_the_end : (skip : ℕ) (octets : List ℕ) → length octets ≤ skip → do_items_end skip octets ≡ false
 past_the_end skip [] few = refl
 past_the_end zero (o ∷ octets) few = absurd (omega arith)
@@ -71,6 +74,7 @@ abbrev pub BodyTested : ℕ → ℕ → List ℕ → Option FaultReason → Type
 BodyTested kind count body found =
     MatchOption found (IsSomeBody kind count body) (λ reason. FindsInBody reason kind count body)
 
+-- the chunks that are still to come, after those that were taken
 chunks_tested : (more turns count : ℕ) (body left : List ℕ) → count ≡ turns + more → HasTakenChunks turns body left →
     BodyTested 202 count body (chunks_fault more left)
 chunks_tested zero turns count body [] sum h = all_chunks turns count body [] h (omega (arith, sum)) refl
@@ -96,6 +100,7 @@ chunks_tested (suc more) turns count body left sum h =
 
 -- ---- Reasons
 
+-- The test of a reason is the grammar's.
 wrong_reason : (octets : List ℕ) → is_reason_wrong octets ≡ true → IsNoReason octets
 wrong_reason [] e = absurd cc
 wrong_reason (size ∷ text) e =
@@ -115,6 +120,7 @@ right_reason (size ∷ text) e bad =
 
 -- ---- Bodies
 
+-- a BYE's, with room for its identifiers
 goodbye_tested : (kind count : ℕ) (body : List ℕ) → kind ≡ 203 → length body % 4 ≡ 0 →
     least_size kind count ≤ length body →
     BodyTested kind count body (if is_reason_wrong (drop (4 * count) body) then Some Reason else None)
@@ -128,6 +134,7 @@ goodbye_tested kind count body is words room =
       ])
     ]
 
+-- The body of a packet is some packet's, or has the fault that is told.
 pub body_tested : (kind count : ℕ) (body : List ℕ) → length body % 4 ≡ 0 →
     BodyTested kind count body (body_fault kind count body)
 body_tested kind count body words =

@@ -1,4 +1,4 @@
--- What `rtcp_in` finds is what the grammar says: it reads the packets that are accepted, and its fault is the first one.
+-- What `rtcp_in` finds is what the grammar says: it reads the packets that are accepted, and tells the first fault.
 use Rattle.std.proofs.Common.{◌≡◌, ◌≢◌, ℕ, zero, suc, ◌+◌, ◌-◌, ◌%◌, ◌<◌, ◌≤◌, ◌⊎◌, ◌==◌, Bool, true, false, if◌then◌else◌, List, [], ◌∷◌, length, drop, Option, Some, None, Result, Ok, Err, MatchResult, refl, sym, ap, subst, ◌∙◌, arith, inl, inr}
 use Rattle.std.specs.Prelude.{MatchOption, ◌&&◌, not, nat_le, ◌↔◌}
 use Rattle.std.proofs.lemmas.Bool.{cases_lt, cases_eq, cases_Bool, lt-ltb, le-ltb, eq-eqb, ne_eqb, eqb-true, eqb-false, leb-true, le-leb, and_parts, or_cases, or_parts, not-true, not-false}
@@ -10,7 +10,7 @@ use Rattle.rtcp_wire.specs.Values.{RtcpPacket}
 use Rattle.rtcp_wire.specs.Grammar.{version_of, is_padded, count_of, type_of, size_of, padding_of, body_of, IsPadding, IsAccepted}
 use Rattle.rtcp_wire.specs.Faults.{IsFirstFound, MayStand, IsFirstFault}
 use Rattle.rtcp_wire.specs.Parts.{IsWhole}
-use Rattle.rtcp_wire.specs.Readings.{is_report, is_padding, body_fault, packet_fault, fault_after, rtcp_in}
+use Rattle.rtcp_wire.specs.Readings.{is_report, is_padding_right, body_fault, packet_fault, fault_after, rtcp_in}
 use Rattle.rtcp_wire.specs.Validity.{IsSomeDatagram}
 use Rattle.rtcp_wire.specs.Walks.{packets_in}
 use Rattle.rtcp_wire.proofs.PacketOrFault.{TakesPacket, HasBody, none_at_first, before_version, before_type, before_first_padding, before_length, before_padding, body_is_words, packet_passed}
@@ -24,6 +24,7 @@ use Rattle.rtcp_wire.proofs.Walking.{HasPassed, none_passed, stops_next, passed_
 
 -- ---- Tests
 
+-- Each test of the first packet's type and padding, and of a number of padding octets, is the grammar's.
 wrong_type : (first : Bool) (kind : ℕ) → (first && not (is_report kind)) ≡ true →
     (first ≡ true) × (kind ≢ 200) × (kind ≢ 201)
 wrong_type first kind e =
@@ -44,7 +45,7 @@ unpadded : (first padded : Bool) → (first && padded) ≡ false → first ≡ t
 unpadded false padded e is_first = absurd cc
 unpadded true padded e is_first = e
 
-is_good : (size padding : ℕ) → is_padding size padding ≡ true → IsPadding size padding
+is_good : (size padding : ℕ) → is_padding_right size padding ≡ true → IsPadding size padding
 is_good size padding e =
     let tests = and_parts (not (padding == 0) && (padding % 4 == 0)) (nat_le padding (size - 4)) e in
     let words = and_parts (not (padding == 0)) (padding % 4 == 0) tests.0 in (
@@ -53,26 +54,27 @@ is_good size padding e =
       leb-true padding (size - 4) tests.1,
     )
 
-good_is : (size padding : ℕ) → IsPadding size padding → is_padding size padding ≡ true
+good_is : (size padding : ℕ) → IsPadding size padding → is_padding_right size padding ≡ true
 good_is size padding h = rw (ne_eqb padding 0 h.0, eq-eqb (padding % 4) 0 h.1, le-leb padding (size - 4) h.2) refl
 
-wrong_padding : (padded : Bool) (size padding : ℕ) → (padded && not (is_padding size padding)) ≡ true →
+wrong_padding : (padded : Bool) (size padding : ℕ) → (padded && not (is_padding_right size padding)) ≡ true →
     (padded ≡ true) × (IsPadding size padding → ⊥)
 wrong_padding padded size padding e =
-    let tests = and_parts padded (not (is_padding size padding)) e in
-    let is_not : is_padding size padding ≡ false = not-true (is_padding size padding) tests.1 in
-    (tests.0, λ good. (let is : is_padding size padding ≡ true = good_is size padding good in cc))
+    let tests = and_parts padded (not (is_padding_right size padding)) e in
+    let is_not : is_padding_right size padding ≡ false = not-true (is_padding_right size padding) tests.1 in
+    (tests.0, λ good. (let is : is_padding_right size padding ≡ true = good_is size padding good in cc))
 
-right_padding : (padded : Bool) (size padding : ℕ) → (padded && not (is_padding size padding)) ≡ false →
+right_padding : (padded : Bool) (size padding : ℕ) → (padded && not (is_padding_right size padding)) ≡ false →
     padded ≡ true → IsPadding size padding
 right_padding false size padding e set = absurd cc
-right_padding true size padding e set = is_good size padding (not-false (is_padding size padding) e)
+right_padding true size padding e set = is_good size padding (not-false (is_padding_right size padding) e)
 
 -- ---- Packets
 
 -- what the tests of a packet found
 abbrev pub PacketTested : Bool → List ℕ → Option FaultReason → Type 0
-PacketTested first b found = MatchOption found (TakesPacket first b (drop (size_of b) b)) (λ reason. IsFirstFound reason first b)
+PacketTested first b found =
+    MatchOption found (TakesPacket first b (drop (size_of b) b)) (λ reason. IsFirstFound reason first b)
 
 module _ (first : Bool) (b : List ℕ) where
   -- What is found in the body is found of the packet.
@@ -83,12 +85,13 @@ module _ (first : Bool) (b : List ℕ) where
   of_its_body (Some reason) has bad =
       packet_passed first b (body_of b) (type_of b) (count_of b) has {A = Unit {0}} (Err reason) bad
 
+  -- the padding and the body of a packet whose header is good
   padding_tested : IsWhole first b → PacketTested first b
-      (if is_padded b && not (is_padding (size_of b) (padding_of b)) then Some Padding
+      (if is_padded b && not (is_padding_right (size_of b) (padding_of b)) then Some Padding
       else body_fault (type_of b) (count_of b) (body_of b))
   padding_tested good =
       let mine = is_own b good.size in
-      elim (cases_Bool (is_padded b && not (is_padding (size_of b) (padding_of b)))) [
+      elim (cases_Bool (is_padded b && not (is_padding_right (size_of b) (padding_of b)))) [
         | inl bad ↦ rw bad (record {
           found = wrong_padding (is_padded b) (size_of b) (padding_of b) bad;
           no_earlier = before_padding first b good;
@@ -105,6 +108,7 @@ module _ (first : Bool) (b : List ℕ) where
             (body_tested (type_of b) (count_of b) (body_of b) words)))
       ]
 
+  -- the tests in their order
   packet_tested : PacketTested first b (packet_fault first b)
   packet_tested =
       elim (cases_lt (length b) 4) [
@@ -202,6 +206,7 @@ step bound datagram further (o ∷ rest) place below h some is =
               (λ none. more (ap length none)) (omega (arith, is, whole, sum, before))
         ])
 
+-- all of them, by a bound on the octets that are left
 walk : (bound : ℕ) (datagram : List ℕ) → IsTested bound datagram
 walk zero datagram = λ left place below h some is. absurd (omega (arith, below))
 walk (suc n) datagram = step n datagram (walk n datagram)
@@ -228,6 +233,7 @@ in_datagram octets =
     by None read = accepted_as_read octets read
     by (Some fault) first = first
 
+-- As no datagram has two readings or two faults, or one of each, the outcome is the only one.
 module _ (octets : List ℕ) where
   reading : (said : Result (List RtcpPacket) WireFault) → MatchResult said (IsAccepted octets) (IsFirstFault octets) →
       (packets : List RtcpPacket) → (IsAccepted octets packets) ↔ (said ≡ Ok packets)

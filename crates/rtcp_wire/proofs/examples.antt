@@ -6,5 +6,6 @@ mod FactRows
 mod SoleRows
 mod AboutRows
 mod WalkRows
+mod ReadingRows
 mod ContentRows
 mod WrongRows

@@ -1,6 +1,6 @@
--- What the octets of a datagram say, or the first fault in them: one function, `rtcp_in`. The faults are told here, by
--- tests in the order of RFC 3550, appendix A.2, each under the section that it stands for. What is read of octets
--- without one is told by Walks. A law says that this is the grammar (`readings_are_computed`).
+-- What the octets of a datagram say, or the first fault in them, in one function: `rtcp_in`. Faults are found by tests
+-- in the order of RFC 3550, appendix A.2; where there is none, the packets are those that a walk reads (specs/Walks).
+-- A law says that this is the grammar (`readings_are_computed`).
 use Rattle.std.specs.Prelude.{ℕ, zero, suc, ◌+◌, ◌-◌, ◌*◌, ◌%◌, ◌==◌, ◌&&◌, ◌||◌, nat_lt, nat_le, not, Bool, true, false, if◌then◌else◌, List, [], ◌∷◌, Option, Some, None, Result, Ok, Err, length, drop, slice_index}
 use Rattle.rtcp_wire.specs.declared.fault.FaultReason.{FaultReason}
 use Rattle.rtcp_wire.specs.declared.fault.FaultReason.TheVariants.{Short, Version, FirstType, FirstPadding, Length, Padding, Body, Item, Reason, TooLong}
@@ -12,15 +12,17 @@ use Rattle.rtcp_wire.specs.Walks.{chunk_in, chunk_size, packets_in}
 
 -- ---- Bodies
 
--- 6.5: an item is a type, the length of its text, and the text; a zero octet in the place of a type ends the items.
--- Whether one does, after so many octets that belong to an item.
+-- The bodies of packets are whole words, so that what fills a word is never cut.
+
+-- 6.5: an item is its type, the length of its text, and the text. Items end at a zero octet in the place of a type.
+-- This is whether they do, after so many octets that belong to an item.
 abbrev pub do_items_end : (skip : ℕ) → List ℕ → Bool
 do_items_end skip [] = false
 do_items_end zero (kind ∷ rest) = if kind == 0 then true else do_items_end (suc (slice_index rest 0)) rest
 do_items_end (suc skip) (octet ∷ rest) = do_items_end skip rest
 
 -- 6.5: a source description is as many chunks as the count says, and nothing after them. A chunk is an identifier of
--- four octets, items and their zero octet, and what fills the word.
+-- four octets, items and their zero octet, and up to three octets that fill the word.
 abbrev pub chunks_fault : (count : ℕ) → List ℕ → Option FaultReason
 chunks_fault zero [] = None
 chunks_fault zero (octet ∷ rest) = Some Body
@@ -30,14 +32,14 @@ chunks_fault (suc count) octets =
     chunks_fault count (drop (chunk_size (chunk_in octets).items) octets)
     else Some Item
 
--- 6.6: a reason is the length of its text, the text, and up to three octets that fill the word. Where there is one, this
--- is whether its text runs past the end, or a word or more is left after it.
+-- 6.6: a reason, where there is one, is the length of its text, the text, and up to three octets that fill the word. It
+-- is wrong where the text runs past the end, or a word or more is left after it.
 abbrev pub is_reason_wrong : List ℕ → Bool
 is_reason_wrong [] = false
 is_reason_wrong (size ∷ text) = nat_lt (length text) size || nat_le (size + 4) (length text)
 
--- A body has the octets that its type and count ask for (6.4.1, 6.4.2, 6.6, 6.7). Chunks (6.5) and the reason of a BYE
--- (6.6) are looked into.
+-- 6.4.1, 6.4.2, 6.6, 6.7: a body has the octets that its type and count ask for. What is in them is free, but for the
+-- chunks of a source description (6.5) and the reason of a BYE (6.6).
 abbrev pub body_fault : (kind count : ℕ) → List ℕ → Option FaultReason
 body_fault kind count body =
     if nat_lt (length body) (least_size kind count) then Some Body
@@ -47,16 +49,16 @@ body_fault kind count body =
 
 -- ---- Packets
 
--- 6.1: a compound begins with a report.
+-- 6.1: a compound begins with a sender's or a receiver's report.
 abbrev pub is_report : (kind : ℕ) → Bool
 is_report kind = (kind == 200) || (kind == 201)
 
--- 6.4.1: the number of padding octets counts itself, and is a multiple of four. It leaves the header.
-abbrev pub is_padding : (size padding : ℕ) → Bool
-is_padding size padding = (not (padding == 0) && (padding % 4 == 0)) && nat_le padding (size - 4)
+-- 6.4.1: the number of padding octets is a multiple of four, and counts its own octet. It leaves the header.
+abbrev pub is_padding_right : (size padding : ℕ) → Bool
+is_padding_right size padding = (not (padding == 0) && (padding % 4 == 0)) && nat_le padding (size - 4)
 
--- The tests where a packet should begin, in their order (A.2): its header, with the version (6.4.1); the first packet's
--- type and padding (6.1, A.2); its length (6.4.1, A.2); its padding, where it has some; its body.
+-- A.2: the tests where a packet should begin, in their order: four octets of header, and version 2 (6.4.1); the type of
+-- the first packet (6.1), which has no padding; the length and the padding (6.4.1); and the body.
 abbrev pub packet_fault : (is_first : Bool) → List ℕ → Option FaultReason
 packet_fault is_first octets =
     if nat_lt (length octets) 4 then Some Short
@@ -64,13 +66,13 @@ packet_fault is_first octets =
     else if is_first && not (is_report (type_of octets)) then Some FirstType
     else if is_first && is_padded octets then Some FirstPadding
     else if nat_lt (length octets) (size_of octets) then Some Length
-    else if is_padded octets && not (is_padding (size_of octets) (padding_of octets)) then Some Padding
+    else if is_padded octets && not (is_padding_right (size_of octets) (padding_of octets)) then Some Padding
     else body_fault (type_of octets) (count_of octets) (body_of octets)
 
 -- ---- Datagrams
 
--- Packets stand one after the other, to the datagram's end (A.2). This is the fault of the first that has one, with its
--- place: the octets before it. So many octets were passed, and so many more belong to a packet.
+-- 6.1, A.2: packets stand one after the other, to the datagram's end. The first that has a fault is told, with its
+-- place: the octets before it. Here so many octets were passed, and so many more belong to a packet.
 abbrev pub fault_after : (skip place : ℕ) → List ℕ → Option WireFault
 fault_after skip place [] = None
 fault_after zero place (octet ∷ rest) = elim (packet_fault (place == 0) (octet ∷ rest)) [
@@ -79,7 +81,7 @@ fault_after zero place (octet ∷ rest) = elim (packet_fault (place == 0) (octet
 ]
 fault_after (suc skip) place (octet ∷ rest) = fault_after skip (suc place) rest
 
--- What a datagram says, or its first fault. UDP carries at most 65,535 octets; an empty datagram has no header.
+-- What a datagram says, or its first fault. It has at most 65,535 octets, UDP's own limit; an empty one lacks a header.
 abbrev pub rtcp_in : List ℕ → Result (List RtcpPacket) WireFault
 rtcp_in octets =
     if nat_lt 65535 (length octets) then Err (record { reason = TooLong; place = 0 })
