@@ -12,7 +12,7 @@ use Rattle.rtcp_wire.specs.Walks.{chunk_in, chunk_size, packets_in}
 
 -- ---- Bodies
 
--- The bodies of packets are whole words, so that what fills a word is never cut.
+-- The bodies of packets are whole words, as their sizes and paddings are: so what fills a word is never cut.
 
 -- 6.5: an item is its type, the length of its text, and the text. Items end at a zero octet in the place of a type.
 -- This is whether they do, after so many octets that belong to an item.
@@ -38,8 +38,8 @@ abbrev pub is_reason_wrong : List ℕ → Bool
 is_reason_wrong [] = false
 is_reason_wrong (size ∷ text) = nat_lt (length text) size || nat_le (size + 4) (length text)
 
--- 6.4.1, 6.4.2, 6.6, 6.7: a body has the octets that its type and count ask for. What is in them is free, but for the
--- chunks of a source description (6.5) and the reason of a BYE (6.6).
+-- 6.4.1, 6.4.2, 6.6, 6.7: a body has the octets that its type and count ask for. Any octets serve, but for the chunks
+-- of a source description (6.5) and the reason of a BYE (6.6).
 abbrev pub body_fault : (kind count : ℕ) → List ℕ → Option FaultReason
 body_fault kind count body =
     if nat_lt (length body) (least_size kind count) then Some Body
