@@ -5,6 +5,8 @@ use Rattle.rtcp_wire.specs.RtpHeads.{RtpValue}
 use Rattle.rtcp_wire.specs.declared.fault.WireFault.{WireFault}
 use Rattle.rtcp_wire.specs.declared.rtp.fault.RtpFault.{RtpFault}
 use Rattle.std.specs.Option.{option_or}
+use Rattle.rtcp_wire.specs.Readings.{rtcp_in}
+use Rattle.rtcp_wire.specs.RtpReadings.{rtp_in}
 use Rattle.rtcp_engine.specs.declared.arrival.Arrival.{Arrival}
 use Rattle.rtcp_engine.specs.declared.arrival.Arrival.TheVariants.{Rtcp, Rtp}
 use Rattle.rtcp_engine.specs.declared.changes.IdentifierChange.{IdentifierChange}
@@ -22,7 +24,7 @@ use Rattle.rtcp_engine.specs.answers.Steps.{AnswerValue}
 use Rattle.rtcp_engine.specs.state.Views.{datagram_of}
 use Rattle.rtcp_engine.proofs.ActLemmas.{IsTaken, refuses}
 use Rattle.rtcp_engine.proofs.AnswerLemmas.{refusal_is}
-use Rattle.rtcp_engine.proofs.LawLemmas.{one_reading-once, one_reading-rtp_once}
+use Rattle.rtcp_engine.proofs.LawLemmas.{one_reading-computed, one_reading-once, one_reading-rtp_computed, one_reading-rtp_once}
 
 -- one that was read has no fault
 no_fault : (arrival : Arrival) → fault_in (datagram_of arrival) ≡ None
@@ -97,18 +99,18 @@ may_is p h peer stands = ap (λ (changes : List IdentifierChange). may_change
 -- ---- The event
 
 -- Octets say one thing, so the event of a datagram is one act.
-pub as_compound : {p q : ParticipantValue} {moment peer word : ℕ} {octets : List ℕ} {given : AnswerValue}
+pub as_compound : {p q : ParticipantValue} {moment peer word : ℕ} {given : AnswerValue} (octets : List ℕ)
     (reading : Result (List RtcpPacket) WireFault) → IsReading octets reading →
     Promised p (rtcp_came moment peer word octets reading) given q → (act : Act) →
     IsActOfEvent (rtcp_arrived moment peer word octets) act → Promised p act given q
-as_compound {p} {q} {moment} {peer} {word} {octets} {given} reading reads takes act (other, is, same) =
-    subst (λ (act : Act). Promised p act given q)
-    (ap (rtcp_came moment peer word octets) (one_reading-once octets reading other reads is) ∙ sym same) takes
+as_compound {p} {q} {moment} {peer} {word} {given} octets reading reads takes act is =
+    let one = one_reading-once octets reading (rtcp_in octets) reads (one_reading-computed octets) in
+    subst (λ (act : Act). Promised p act given q) (ap (rtcp_came moment peer word octets) one ∙ sym is) takes
 
-pub as_packet : {p q : ParticipantValue} {moment peer word : ℕ} {octets : List ℕ} {given : AnswerValue}
+pub as_packet : {p q : ParticipantValue} {moment peer word : ℕ} {given : AnswerValue} (octets : List ℕ)
     (reading : Result RtpValue RtpFault) → IsRtpReading octets reading →
     Promised p (rtp_came moment peer word reading) given q → (act : Act) →
     IsActOfEvent (rtp_arrived moment peer word octets) act → Promised p act given q
-as_packet {p} {q} {moment} {peer} {word} {octets} {given} reading reads takes act (other, is, same) =
-    subst (λ (act : Act). Promised p act given q)
-    (ap (rtp_came moment peer word) (one_reading-rtp_once octets reading other reads is) ∙ sym same) takes
+as_packet {p} {q} {moment} {peer} {word} {given} octets reading reads takes act is =
+    let one = one_reading-rtp_once octets reading (rtp_in octets) reads (one_reading-rtp_computed octets) in
+    subst (λ (act : Act). Promised p act given q) (ap (rtp_came moment peer word) one ∙ sym is) takes

@@ -7,6 +7,8 @@ use Rattle.rtcp_wire.specs.Values.{RtcpPacket}
 use Rattle.rtcp_wire.specs.RtpHeads.{RtpValue}
 use Rattle.rtcp_wire.specs.declared.fault.WireFault.{WireFault}
 use Rattle.rtcp_wire.specs.declared.rtp.fault.RtpFault.{RtpFault}
+use Rattle.rtcp_wire.specs.Readings.{rtcp_in}
+use Rattle.rtcp_wire.specs.RtpReadings.{rtp_in}
 use Rattle.rtcp_engine.specs.declared.refusal.Refusal.{Refusal}
 use Rattle.rtcp_engine.specs.declared.refusal.Refusal.TheVariants.{OwnSsrc}
 use Rattle.rtcp_engine.specs.answers.Acts.{Act, Datagram, EventValue, IsActOfEvent, IsReading, IsRtpReading, arrived, moment_of, rtcp_arrived, rtcp_came, rtp_arrived, rtp_came}
@@ -19,7 +21,7 @@ use Rattle.rtcp_engine.specs.state.Promises.{Foretells}
 use Rattle.rtcp_engine.specs.state.States.{ParticipantValue, StandsAt, refusal_by}
 use Rattle.rtcp_engine.proofs.ActLemmas.{IsTaken}
 use Rattle.rtcp_engine.proofs.AnswerLemmas.{refusal_is}
-use Rattle.rtcp_engine.proofs.LawLemmas.{one_reading-once, one_reading-rtp_once}
+use Rattle.rtcp_engine.proofs.LawLemmas.{one_reading-computed, one_reading-once, one_reading-rtp_computed, one_reading-rtp_once}
 
 pub told_refusal : (h : History) (act : Act) (reason : Refusal) → refusal_after h act ≡ Some reason →
     Err reason ≡ taken_under h act
@@ -58,21 +60,21 @@ fault_foretold {p} t peer word datagram {reason} none fault h stands =
 
 -- ---- The event: octets say one thing, so it is one act
 
-pub of_compound : {p : ParticipantValue} {moment peer word : ℕ} {octets : List ℕ} {told : Result ℕ Refusal}
+pub of_compound : {p : ParticipantValue} {moment peer word : ℕ} {told : Result ℕ Refusal} (octets : List ℕ)
     (reading : Result (List RtcpPacket) WireFault) → IsReading octets reading →
     ((h : History) → StandsAt p h → told ≡ taken_under h (rtcp_came moment peer word octets reading)) →
     Foretells p (rtcp_arrived moment peer word octets) told
-of_compound {p} {moment} {peer} {word} {octets} {told} reading reads foretold act h (other, is, same) stands =
-    foretold h stands ∙ ap (taken_under h)
-    (ap (rtcp_came moment peer word octets) (one_reading-once octets reading other reads is) ∙ sym same)
+of_compound {p} {moment} {peer} {word} {told} octets reading reads foretold act h is stands =
+    let one = one_reading-once octets reading (rtcp_in octets) reads (one_reading-computed octets) in
+    foretold h stands ∙ ap (taken_under h) (ap (rtcp_came moment peer word octets) one ∙ sym is)
 
-pub of_packet : {p : ParticipantValue} {moment peer word : ℕ} {octets : List ℕ} {told : Result ℕ Refusal}
+pub of_packet : {p : ParticipantValue} {moment peer word : ℕ} {told : Result ℕ Refusal} (octets : List ℕ)
     (reading : Result RtpValue RtpFault) → IsRtpReading octets reading →
     ((h : History) → StandsAt p h → told ≡ taken_under h (rtp_came moment peer word reading)) →
     Foretells p (rtp_arrived moment peer word octets) told
-of_packet {p} {moment} {peer} {word} {octets} {told} reading reads foretold act h (other, is, same) stands =
-    foretold h stands ∙ ap (taken_under h)
-    (ap (rtp_came moment peer word) (one_reading-rtp_once octets reading other reads is) ∙ sym same)
+of_packet {p} {moment} {peer} {word} {told} octets reading reads foretold act h is stands =
+    let one = one_reading-rtp_once octets reading (rtp_in octets) reads (one_reading-rtp_computed octets) in
+    foretold h stands ∙ ap (taken_under h) (ap (rtp_came moment peer word) one ∙ sym is)
 
 -- ---- Numbers that are compared
 

@@ -1,6 +1,6 @@
 -- The laws of this crate as lemmas, for the proofs of the crates above: each has the name of its law, and of the
 -- clause where the law has several.
-use Rattle.std.proofs.Common.{◌≡◌, ◌↔◌, map, ℕ, ◌≤◌, ◌^◌, Bool, false, is_some, option_map, List, [], ◌∷◌, ◌++◌, IfSome, Option, Some, None, Ok, Err, if◌then◌else◌, refl, sym, ap, ◌∙◌, arith, inl, inr}
+use Rattle.std.proofs.Common.{◌≡◌, ◌↔◌, map, ℕ, ◌≤◌, ◌^◌, Bool, false, is_some, option_map, List, [], ◌∷◌, ◌++◌, IfSome, Option, Some, None, Result, Ok, Err, if◌then◌else◌, refl, sym, ap, ◌∙◌, arith, inl, inr}
 use Rattle.std.specs.Option.{option_or}
 use Rattle.std.proofs.lemmas.Bool.{lt-ltb, le-ltb, cases_lt}
 use Rattle.rtcp_wire.proofs.LawLemmas as wire
@@ -9,6 +9,12 @@ use Rattle.rtcp_members.specs.Stays.{is_before}
 use Rattle.rtcp_members.specs.Pending.{EntryRow, last_reported}
 use Rattle.rtcp_members.specs.Listings.{StateValue}
 use Rattle.rtcp_report.specs.Traced.{with_blocks}
+use Rattle.rtcp_wire.specs.declared.fault.WireFault.{WireFault}
+use Rattle.rtcp_wire.specs.declared.rtp.fault.RtpFault.{RtpFault}
+use Rattle.rtcp_wire.specs.Values.{RtcpPacket}
+use Rattle.rtcp_wire.specs.RtpHeads.{RtpValue}
+use Rattle.rtcp_wire.specs.Readings.{rtcp_in}
+use Rattle.rtcp_wire.specs.RtpReadings.{rtp_in}
 use Rattle.rtcp_engine.specs.declared.refusal.Refusal.{Refusal}
 use Rattle.rtcp_engine.specs.answers.Setups.{Setup, SettingsValue, IsUsable, settings_of, with_settings}
 use Rattle.rtcp_engine.specs.answers.Refused.{error_in}
@@ -52,11 +58,15 @@ pub use Rattle.rtcp_engine.proofs.ChangeRest.{rest_stays as changes_touch_the_id
 
 -- ---- Readings
 
+pub one_reading-computed : (octets : List ℕ) → IsReading octets (rtcp_in octets)
+one_reading-computed octets = by_case (rtcp_in octets) refl
+  where
+    by_case : (reading : Result (List RtcpPacket) WireFault) → rtcp_in octets ≡ reading → IsReading octets reading
+    by_case (Ok packets) is = (wire.readings_are_computed-accepted octets packets).1 is
+    by_case (Err fault) is = (wire.readings_are_computed-faulty octets fault).1 is
+
 pub one_reading-always : IsTotal IsReading
-one_reading-always octets = elim (wire.accepted_or_faulty-always_one octets) [
-  | inl read ↦ (Ok read.0, read.1)
-  | inr fault ↦ (Err fault.0, fault.1)
-]
+one_reading-always octets = (rtcp_in octets, one_reading-computed octets)
 
 pub one_reading-once : IsUnique IsReading
 one_reading-once octets (Ok ps) (Ok qs) h k = ap Ok (wire.one_reading octets ps qs h k)
@@ -64,11 +74,15 @@ one_reading-once octets (Ok ps) (Err fault) h k = absurd (wire.accepted_or_fault
 one_reading-once octets (Err fault) (Ok qs) h k = absurd (wire.accepted_or_faulty-never_both octets qs fault k h)
 one_reading-once octets (Err fault) (Err other) h k = ap Err (wire.one_fault octets fault other h k)
 
+pub one_reading-rtp_computed : (octets : List ℕ) → IsRtpReading octets (rtp_in octets)
+one_reading-rtp_computed octets = by_case (rtp_in octets) refl
+  where
+    by_case : (reading : Result RtpValue RtpFault) → rtp_in octets ≡ reading → IsRtpReading octets reading
+    by_case (Ok head) is = (wire.rtp_readings_are_computed-head octets head).1 is
+    by_case (Err fault) is = (wire.rtp_readings_are_computed-fault octets fault).1 is
+
 pub one_reading-rtp_always : IsTotal IsRtpReading
-one_reading-rtp_always octets = elim (wire.packet_or_fault-always_one octets) [
-  | inl read ↦ (Ok read.0, read.1)
-  | inr fault ↦ (Err fault.0, fault.1)
-]
+one_reading-rtp_always octets = (rtp_in octets, one_reading-rtp_computed octets)
 
 pub one_reading-rtp_once : IsUnique IsRtpReading
 one_reading-rtp_once octets (Ok g) (Ok h) a b = ap Ok (wire.one_head octets g h a b)

@@ -3,6 +3,8 @@
 
 ghost use Rattle.std.specs.Prelude.{◌≡◌, ◌↔◌, ◌≤◌, ◌^◌, ◌<◌, ℕ, ◌+◌, ◌*◌, ◌%◌, map, List, [], ◌++◌, length, slice_get, All, IfSome, Option, Some, None, true, false};
 ghost use Rattle.rtcp_wire.specs.Values.{ItemValue};
+ghost use Rattle.rtcp_wire.specs.Readings.{rtcp_in};
+ghost use Rattle.rtcp_wire.specs.RtpReadings.{rtp_in};
 ghost use Rattle.rtcp_members.specs.Clocks.{HasOneClock};
 ghost use Rattle.rtcp_members.specs.Traces.{TraceStep};
 ghost use Rattle.rtcp_members.specs.Past.{IsKnownBy};
@@ -36,12 +38,15 @@ ghost use Rattle.rtcp_engine.specs.bounds.Spacing.{newest_moment, LiesAfter, Kee
 ghost use Rattle.rtcp_engine.specs.bounds.InTime.{AllInTime};
 ghost use Rattle.rtcp_engine.specs.declared.refusal.Refusal.{Refusal as Reason};
 
-/// The octets of a datagram have exactly one reading: packets, or a first fault.
+/// The octets of a datagram have exactly one reading by the grammar, packets or a first fault. It is the one that is
+/// computed.
 pub fn one_reading()
     ensures always { IsTotal IsReading }
     ensures once { IsUnique IsReading }
+    ensures computed { (octets : List ℕ) → IsReading octets (rtcp_in octets) }
     ensures rtp_always { IsTotal IsRtpReading }
     ensures rtp_once { IsUnique IsRtpReading }
+    ensures rtp_computed { (octets : List ℕ) → IsRtpReading octets (rtp_in octets) }
 {}
 
 /// A setup is usable exactly where no reason to refuse it applies.
@@ -256,8 +261,8 @@ pub fn listed_moments_have_passed()
 {}
 
 /// Where nothing is said of the clocks of payload types, and no settings change the rate, all RTP packets that came
-/// count in units of clocks of one rate, the usual one. So each source has the jitter of its whole run, in units of that clock (rtcp_members's law
-/// `one_clock_is_one_rate`): it is as if there were no payload types.
+/// count in units of clocks of one rate, the usual one. So each source has the jitter of its whole run, in units of that
+/// clock (rtcp_members's law `one_clock_is_one_rate`): it is as if there were no payload types.
 pub fn one_clock_without_others()
     ensures { (setup : Setup) (word : ℕ) (acts : List Act) (outcome : Outcome) → setup.clocks ≡ [] →
         AllByRecursion (GivesNoClocks setup.rate) acts → (session_of setup word acts).life ≡ present outcome →

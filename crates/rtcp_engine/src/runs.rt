@@ -1,11 +1,10 @@
 //! Runs of a participant over events.
 
-ghost use Rattle.std.specs.Prelude.{◌≡◌, ◌≤◌, ◌<◌, ◌+◌, ◌-◌, ◌^◌, ◌++◌, true, false, List, length, take};
-ghost use Rattle.rtcp_engine.specs.answers.Acts.{Act};
+ghost use Rattle.std.specs.Prelude.{◌≡◌, ◌≤◌, ◌<◌, ◌+◌, ◌-◌, ◌^◌, ◌++◌, true, false, length, map, take};
 ghost use Rattle.rtcp_engine.specs.answers.Outcomes.{one_if};
 ghost use Rattle.rtcp_engine.specs.answers.Histories.{History};
 ghost use Rattle.rtcp_engine.specs.answers.Answers.{answers_to, followed_by_all};
-ghost use Rattle.rtcp_engine.specs.state.Views.{AreActsOf};
+ghost use Rattle.rtcp_engine.specs.state.Views.{act_told};
 ghost use Rattle.rtcp_engine.specs.bounds.Runs.{HandsOver, taken_since};
 ghost use Rattle.rtcp_engine.specs.state.States.{KeepsCapacity, StandsAt};
 
@@ -50,12 +49,10 @@ pub fn run<T: MemberTable, S: Sink>(
 
     // The sink has the answers of the whole history to the events that it was told of, and the participant
     // stands at the history followed by all that were told.
-    ensures told { (history : History) (acts : List Act) → StandsAt participant.old history →
-        AreActsOf events.now acts → S.content sink.new ≡ S.content sink.old
-        ++ answers_to history (take (result.taken - one_if result.stopped) acts) }
-    ensures stands { (history : History) (acts : List Act) → StandsAt participant.old history →
-        AreActsOf events.now acts →
-        StandsAt participant.new (followed_by_all history (take result.taken acts)) }
+    ensures told { (history : History) → StandsAt participant.old history → S.content sink.new ≡ S.content sink.old
+        ++ answers_to history (take (result.taken - one_if result.stopped) (map act_told events.now)) }
+    ensures stands { (history : History) → StandsAt participant.old history →
+        StandsAt participant.new (followed_by_all history (take result.taken (map act_told events.now))) }
 
     // The table never passes its capacity.
     ensures within { KeepsCapacity participant.old.presence → KeepsCapacity participant.new.presence }
@@ -63,8 +60,8 @@ pub fn run<T: MemberTable, S: Sink>(
     // The compounds of the answers that the sink took, each at the moment of its event, keep the bounds, together with
     // all that was sent before: reports lie apart, the first one too, and few lie in a window; the BYE of leaving comes
     // last, and nothing but refusals after it; few identifiers are given up; no compound passes the limit.
-    ensures sends { (history : History) (acts : List Act) → StandsAt participant.old history →
-        AreActsOf events.now acts → HandsOver history (take (result.taken - one_if result.stopped) acts)
+    ensures sends { (history : History) → StandsAt participant.old history →
+        HandsOver history (take (result.taken - one_if result.stopped) (map act_told events.now))
         (taken_since (S.content sink.old) (S.content sink.new)) }
 {
     let mut taken = 0;

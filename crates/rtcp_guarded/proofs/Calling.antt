@@ -8,9 +8,11 @@ use Rattle.rtcp_guard.specs.Guarding.{after, datagram_came, check_made, verdict_
 use Rattle.rtcp_guard.specs.declared.settings.Settings.{Settings}
 use Rattle.rtcp_guard.specs.declared.verdict.Verdict.{Verdict}
 use Rattle.rtcp_guard.specs.declared.verdict.Verdict.TheVariants.{Pass}
+use Rattle.rtcp_wire.specs.Readings.{rtcp_in}
+use Rattle.rtcp_wire.specs.RtpReadings.{rtp_in}
 use Rattle.rtcp_engine.specs.declared.refusal.Refusal.{Refusal}
 use Rattle.rtcp_engine.specs.declared.step.WrittenStep.{WrittenStep}
-use Rattle.rtcp_engine.specs.answers.Acts.{Act, Datagram, rtcp, rtp, ticked, time_passed, EventValue, IsActOfEvent, arrived, rtcp_arrived, rtcp_came, rtp_arrived, rtp_came}
+use Rattle.rtcp_engine.specs.answers.Acts.{Act, act_of, Datagram, rtcp, rtp, ticked, time_passed, EventValue, IsActOfEvent, arrived, rtcp_arrived, rtcp_came, rtp_arrived, rtp_came}
 use Rattle.rtcp_engine.specs.answers.Answers.{taken_under}
 use Rattle.rtcp_engine.specs.answers.Histories.{History, life_at, session_at, session_for, setup_at}
 use Rattle.rtcp_engine.specs.answers.Lives.{silent_in_life}
@@ -18,7 +20,7 @@ use Rattle.rtcp_engine.specs.answers.Refusals.{refusal_after}
 use Rattle.rtcp_engine.specs.state.Promises.{Foretells, Replies as ParticipantReplies, Takes as ParticipantTakes}
 use Rattle.rtcp_engine.specs.state.States.{KeepsCapacity, ParticipantValue, StandsAt as IsAtHistory}
 use Rattle.rtcp_engine.specs.state.Views.{LeavesRest, reply_value as participant_reply}
-use Rattle.rtcp_engine.proofs.LawLemmas.{one_reading-once, one_reading-rtp_once}
+use Rattle.rtcp_engine.proofs.LawLemmas.{one_reading-computed, one_reading-once, one_reading-rtp_computed, one_reading-rtp_once}
 use Rattle.rtcp_guarded.specs.declared.untaken.Reason.{Reason}
 use Rattle.rtcp_guarded.specs.declared.untaken.Untaken.TheVariants.{HeldBack, Refused}
 use Rattle.rtcp_guarded.specs.Guarded.{Course, GuardedAnswer, GuardedHistory, goodbye_in, names_in, origin_of, passed_at, reason_for, steps_with, verdict_in}
@@ -159,21 +161,31 @@ replied (Err refusal) replies takes = record {
 
 -- ---- Octets say one thing, so the event of a datagram is one act
 
-of_compound : {old new : GuardedValue} {moment peer word : ℕ} {octets : List ℕ} {given : GuardedAnswer}
+its_compound : (moment peer word : ℕ) (octets : List ℕ) (packets : List RtcpPacket) → IsAccepted octets packets →
+    rtcp_came moment peer word octets (Ok packets) ≡ act_of (rtcp_arrived moment peer word octets)
+its_compound moment peer word octets packets reads = ap (rtcp_came moment peer word octets)
+    (one_reading-once octets (Ok packets) (rtcp_in octets) reads (one_reading-computed octets))
+
+its_packet : (moment peer word : ℕ) (octets : List ℕ) (head : RtpValue) → IsRtpHead octets head →
+    rtp_came moment peer word (Ok head) ≡ act_of (rtp_arrived moment peer word octets)
+its_packet moment peer word octets head reads = ap (rtp_came moment peer word)
+    (one_reading-rtp_once octets (Ok head) (rtp_in octets) reads (one_reading-rtp_computed octets))
+
+of_compound : {old new : GuardedValue} {moment peer word : ℕ} {given : GuardedAnswer}
+    (octets : List ℕ)
     (packets : List RtcpPacket) → IsAccepted octets packets →
     Takes old (rtcp_came moment peer word octets (Ok packets)) given new → (act : Act) →
     IsActOfEvent (rtcp_arrived moment peer word octets) act → Takes old act given new
-of_compound {old} {new} {moment} {peer} {word} {octets} {given} packets reads takes act (other, is, same) =
-    subst (λ (act : Act). Takes old act given new)
-    (ap (rtcp_came moment peer word octets) (one_reading-once octets (Ok packets) other reads is) ∙ sym same) takes
+of_compound {old} {new} {moment} {peer} {word} {given} octets packets reads takes act is =
+    subst (λ (act : Act). Takes old act given new) (its_compound moment peer word octets packets reads ∙ sym is) takes
 
-of_packet : {old new : GuardedValue} {moment peer word : ℕ} {octets : List ℕ} {given : GuardedAnswer}
+of_packet : {old new : GuardedValue} {moment peer word : ℕ} {given : GuardedAnswer}
+    (octets : List ℕ)
     (head : RtpValue) → IsRtpHead octets head →
     Takes old (rtp_came moment peer word (Ok head)) given new → (act : Act) →
     IsActOfEvent (rtp_arrived moment peer word octets) act → Takes old act given new
-of_packet {old} {new} {moment} {peer} {word} {octets} {given} head reads takes act (other, is, same) =
-    subst (λ (act : Act). Takes old act given new)
-    (ap (rtp_came moment peer word) (one_reading-rtp_once octets (Ok head) other reads is) ∙ sym same) takes
+of_packet {old} {new} {moment} {peer} {word} {given} octets head reads takes act is =
+    subst (λ (act : Act). Takes old act given new) (its_packet moment peer word octets head reads ∙ sym is) takes
 
 kept_within : {old new : ParticipantValue} → new ≡ old → KeepsCapacity old.presence → KeepsCapacity new.presence
 kept_within same keeps = subst (λ (p : ParticipantValue). KeepsCapacity p.presence) (sym same) keeps
@@ -186,8 +198,9 @@ pub held_compound : {old new : GuardedValue} {moment peer word ssrc : ℕ} {octe
     Replies old (rtcp_arrived moment peer word octets) room room (Err (HeldBack reason)) new
 held_compound {old} {new} {moment} {peer} {word} {ssrc} {octets} packets {verdict} {reason} reads foretold j is same =
     record {
-      takes = of_compound packets reads (held_act moment peer word ssrc _ verdict reason
-          (λ h at. foretold (rtcp_came moment peer word octets (Ok packets)) h (Ok packets, reads, refl) at) j is same);
+      takes = of_compound octets packets reads (held_act moment peer word ssrc _ verdict reason
+          (λ h at. foretold (rtcp_came moment peer word octets (Ok packets)) h
+          (its_compound moment peer word octets packets reads) at) j is same);
       untaken = same;
       within = kept_within same;
       standing = tt;
@@ -204,8 +217,9 @@ pub passed_compound : {old new : GuardedValue} {moment peer word ssrc : ℕ} {oc
 passed_compound {old} {new} {moment} {peer} {word} {ssrc} {octets} {before} {after} packets {verdict} reply reads
     foretold j is replies =
     let act = rtcp_came moment peer word octets (Ok packets) in
-    let its : IsActOfEvent (rtcp_arrived moment peer word octets) act = (Ok packets, reads, refl) in
-    replied reply replies (of_compound packets reads (passed_act after moment peer word ssrc _ verdict reply
+    let its : IsActOfEvent (rtcp_arrived moment peer word octets) act =
+    its_compound moment peer word octets packets reads in
+    replied reply replies (of_compound octets packets reads (passed_act after moment peer word ssrc _ verdict reply
     (λ h at. foretold act h its at) j is (replies.takes act its)))
 
 pub held_packet : {old new : GuardedValue} {moment peer word ssrc : ℕ} {octets room : List ℕ} (head : RtpValue)
@@ -216,8 +230,9 @@ pub held_packet : {old new : GuardedValue} {moment peer word ssrc : ℕ} {octets
     Replies old (rtp_arrived moment peer word octets) room room (Err (HeldBack reason)) new
 held_packet {old} {new} {moment} {peer} {word} {ssrc} {octets} head {verdict} {reason} reads foretold j is same =
     record {
-      takes = of_packet head reads (held_act moment peer word ssrc _ verdict reason
-          (λ h at. foretold (rtp_came moment peer word (Ok head)) h (Ok head, reads, refl) at) j is same);
+      takes = of_packet octets head reads (held_act moment peer word ssrc _ verdict reason
+          (λ h at. foretold (rtp_came moment peer word (Ok head)) h (its_packet moment peer word octets head reads)
+          at) j is same);
       untaken = same;
       within = kept_within same;
       standing = tt;
@@ -234,8 +249,8 @@ pub passed_packet : {old new : GuardedValue} {moment peer word ssrc : ℕ} {octe
 passed_packet {old} {new} {moment} {peer} {word} {ssrc} {octets} {before} {after} head {verdict} reply reads foretold j
     is replies =
     let act = rtp_came moment peer word (Ok head) in
-    let its : IsActOfEvent (rtp_arrived moment peer word octets) act = (Ok head, reads, refl) in
-    replied reply replies (of_packet head reads (passed_act after moment peer word ssrc _ verdict reply
+    let its : IsActOfEvent (rtp_arrived moment peer word octets) act = its_packet moment peer word octets head reads in
+    replied reply replies (of_packet octets head reads (passed_act after moment peer word ssrc _ verdict reply
     (λ h at. foretold act h its at) j is (replies.takes act its)))
 
 -- ---- What the guard does not see

@@ -12,7 +12,10 @@ use Rattle.rtcp_serve.specs.Endings.{AreHeeded, IsCut, IsHeeded, MayAnswer, Paus
 use Rattle.rtcp_serve.specs.Links.{Call, LinkValue, GrowsBy, WereCalled, clock_read, compound_sent, port_heard, datagram, how_many, is_failed_receive, is_failed_send}
 use Rattle.rtcp_serve.specs.Observers.{Notice, event_told, send_tried, telling}
 use Rattle.rand_core.specs.Stream.{Stream, next_u32}
-use Rattle.rtcp_engine.specs.answers.Acts.{ticked, left as asked_to_leave, EventValue, IsActOfEvent, rtcp_arrived, rtp_arrived, packet_sent, time_passed, leave_asked, settings_given, forget_asked}
+use Rattle.rtcp_wire.specs.Readings.{rtcp_in}
+use Rattle.rtcp_wire.specs.RtpReadings.{rtp_in}
+use Rattle.rtcp_engine.proofs.LawLemmas.{one_reading-computed, one_reading-once, one_reading-rtp_computed, one_reading-rtp_once}
+use Rattle.rtcp_engine.specs.answers.Acts.{rtcp_came, rtp_came, ticked, left as asked_to_leave, EventValue, IsActOfEvent, rtcp_arrived, rtp_arrived, packet_sent, time_passed, leave_asked, settings_given, forget_asked}
 use Rattle.rtcp_engine.specs.declared.step.Step.{Step}
 use Rattle.rtcp_engine.specs.answers.Steps.{OutValue}
 use Rattle.rtcp_guarded.specs.Guarded.{GuardedAnswer}
@@ -103,8 +106,10 @@ moves_by run call s t x y goes fits called = record {
 
 -- The act that a reader finds in an event is one of it.
 pub is_act_in : (reader : Reader) → IsReader reader → (event : EventValue) → IsActOfEvent event (act_in reader event)
-is_act_in reader reads (rtcp_arrived moment peer word octets) = (reader.rtcp octets, reads.rtcp octets, refl)
-is_act_in reader reads (rtp_arrived moment peer word octets) = (reader.rtp octets, reads.rtp octets, refl)
+is_act_in reader reads (rtcp_arrived moment peer word octets) = ap (rtcp_came moment peer word octets)
+    (one_reading-once octets (reader.rtcp octets) (rtcp_in octets) (reads.rtcp octets) (one_reading-computed octets))
+is_act_in reader reads (rtp_arrived moment peer word octets) = ap (rtp_came moment peer word)
+    (one_reading-rtp_once octets (reader.rtp octets) (rtp_in octets) (reads.rtp octets) (one_reading-rtp_computed octets))
 is_act_in reader reads (packet_sent moment timestamp octets) = refl
 is_act_in reader reads (time_passed moment first_word second_word) = refl
 is_act_in reader reads (leave_asked moment word) = refl

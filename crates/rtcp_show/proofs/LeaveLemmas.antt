@@ -35,8 +35,8 @@ moved_present setup act (backing_off outcome backoff) never moved = absurd (fals
 moved_present setup act (finished outcome) never moved = absurd (false≢true moved)
 
 no_leave : (event : EventValue) (act : Act) → IsActOfEvent event act → is_leave event ≡ false → is_left act ≡ false
-no_leave (rtcp_arrived moment peer word octets) act is never = ap is_left is.2
-no_leave (rtp_arrived moment peer word octets) act is never = ap is_left is.2
+no_leave (rtcp_arrived moment peer word octets) act is never = ap is_left is
+no_leave (rtp_arrived moment peer word octets) act is never = ap is_left is
 no_leave (packet_sent moment timestamp octets) act is never = ap is_left is
 no_leave (time_passed moment first_word second_word) act is never = ap is_left is
 no_leave (leave_asked moment word) act is never = absurd (false≢true (sym never))

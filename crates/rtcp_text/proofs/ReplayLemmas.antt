@@ -1,12 +1,11 @@
 -- The text of a session: each line says one act or has one fault, and what holds a participant answers as its history
 -- does.
 use Rattle.std.proofs.Common.{◌≡◌, ℕ, ◌⊎◌, inl, inr, List, [], ◌++◌, Option, Result, Ok, Err, refl, sym, ◌∙◌, ap, subst}
-use Rattle.rtcp_engine.specs.answers.Acts.{Act, rtcp_came, rtp_came, rtp_sent, ticked, left as asked_to_leave, configured, forgotten, EventValue, rtcp_arrived, rtp_arrived, packet_sent, time_passed, leave_asked, settings_given, forget_asked, IsActOfEvent}
+use Rattle.rtcp_engine.specs.answers.Acts.{Act, act_of, EventValue, IsActOfEvent}
 use Rattle.rtcp_engine.specs.answers.Steps.{AnswerValue}
 use Rattle.rtcp_engine.specs.answers.Answers.{answer_of, followed_by}
 use Rattle.rtcp_engine.specs.answers.Histories.{History}
 use Rattle.rtcp_engine.specs.state.States.{ParticipantValue, StandsAt}
-use Rattle.rtcp_engine.proofs.LawLemmas.{one_reading-always, one_reading-once, one_reading-rtp_always, one_reading-rtp_once}
 use Rattle.rtcp_text.specs.AnswerText.{answer_text}
 use Rattle.rtcp_text.specs.EventLines.{event_in}
 use Rattle.rtcp_text.specs.declared.fault.LineFault.{LineFault}
@@ -18,26 +17,10 @@ use Rattle.rtcp_text.proofs.ClauseLemmas.{Continues}
 -- ---- Each event is one act
 
 pub act_exists : (event : EventValue) → (act : Act) × IsActOfEvent event act
-act_exists (rtcp_arrived moment peer word octets) =
-    let found = one_reading-always octets in (rtcp_came moment peer word octets found.0, (found.0, found.1, refl))
-act_exists (rtp_arrived moment peer word octets) =
-    let found = one_reading-rtp_always octets in (rtp_came moment peer word found.0, (found.0, found.1, refl))
-act_exists (packet_sent moment timestamp octets) = (rtp_sent moment timestamp octets, refl)
-act_exists (time_passed moment first_word second_word) = (ticked moment first_word second_word, refl)
-act_exists (leave_asked moment word) = (asked_to_leave moment word, refl)
-act_exists (settings_given moment settings) = (configured moment settings, refl)
-act_exists (forget_asked moment ssrc) = (forgotten moment ssrc, refl)
+act_exists event = (act_of event, refl)
 
 pub one_act : (event : EventValue) (act act' : Act) → IsActOfEvent event act → IsActOfEvent event act' → act ≡ act'
-one_act (rtcp_arrived moment peer word octets) act act' h k = h.2 ∙ ap (rtcp_came moment peer word octets)
-    (one_reading-once octets h.0 k.0 h.1 k.1) ∙ sym k.2
-one_act (rtp_arrived moment peer word octets) act act' h k = h.2
-    ∙ ap (rtp_came moment peer word) (one_reading-rtp_once octets h.0 k.0 h.1 k.1) ∙ sym k.2
-one_act (packet_sent moment timestamp octets) act act' h k = h ∙ sym k
-one_act (time_passed moment first_word second_word) act act' h k = h ∙ sym k
-one_act (leave_asked moment word) act act' h k = h ∙ sym k
-one_act (settings_given moment settings) act act' h k = h ∙ sym k
-one_act (forget_asked moment ssrc) act act' h k = h ∙ sym k
+one_act event act act' h k = h ∙ sym k
 
 -- ---- Each line has an answer or a fault, and only one
 

@@ -6,7 +6,9 @@ use Rattle.rtcp_wire.specs.declared.rtp.fault.RtpFault.{RtpFault}
 use Rattle.rtcp_wire.specs.Values.{RtcpPacket}
 use Rattle.rtcp_wire.specs.Grammar.{IsAccepted}
 use Rattle.rtcp_wire.specs.Faults.{IsFirstFault}
+use Rattle.rtcp_wire.specs.Readings.{rtcp_in}
 use Rattle.rtcp_wire.specs.RtpHeads.{RtpValue, IsRtpHead, IsRtpFault}
+use Rattle.rtcp_wire.specs.RtpReadings.{rtp_in}
 use Rattle.rtcp_engine.specs.answers.Setups.{SettingsValue}
 
 -- What a datagram says that came.
@@ -47,8 +49,8 @@ rtp_came moment peer word reading = arrived moment peer word (rtp reading)
 
 -- ---- Octets
 
--- What the octets of an RTCP datagram say. There is exactly one reading (rtcp_wire's law
--- `accepted_or_faulty`).
+-- What the octets of an RTCP datagram say, by their grammar. There is exactly one reading, and it is `rtcp_in octets`
+-- (law `one_reading`).
 abbrev pub IsReading : List ℕ → Result (List RtcpPacket) WireFault → Type 0
 IsReading octets (Ok packets) = IsAccepted octets packets
 IsReading octets (Err fault) = IsFirstFault octets fault
@@ -86,14 +88,14 @@ pub data EventValue : Type 0 where
   forget_asked : (moment ssrc : ℕ) → EventValue
 
 -- The act of an event: what the octets of a datagram say stands in it.
+abbrev pub act_of : EventValue → Act
+act_of (rtcp_arrived moment peer word octets) = rtcp_came moment peer word octets (rtcp_in octets)
+act_of (rtp_arrived moment peer word octets) = rtp_came moment peer word (rtp_in octets)
+act_of (packet_sent moment timestamp octets) = rtp_sent moment timestamp octets
+act_of (time_passed moment first_word second_word) = ticked moment first_word second_word
+act_of (leave_asked moment word) = left moment word
+act_of (settings_given moment settings) = configured moment settings
+act_of (forget_asked moment ssrc) = forgotten moment ssrc
+
 abbrev pub IsActOfEvent : EventValue → Act → Type 0
-IsActOfEvent (rtcp_arrived moment peer word octets) act =
-    (reading : Result (List RtcpPacket) WireFault) × IsReading octets reading
-    × (act ≡ rtcp_came moment peer word octets reading)
-IsActOfEvent (rtp_arrived moment peer word octets) act =
-    (reading : Result RtpValue RtpFault) × IsRtpReading octets reading × (act ≡ rtp_came moment peer word reading)
-IsActOfEvent (packet_sent moment timestamp octets) act = act ≡ rtp_sent moment timestamp octets
-IsActOfEvent (time_passed moment first_word second_word) act = act ≡ ticked moment first_word second_word
-IsActOfEvent (leave_asked moment word) act = act ≡ left moment word
-IsActOfEvent (settings_given moment settings) act = act ≡ configured moment settings
-IsActOfEvent (forget_asked moment ssrc) act = act ≡ forgotten moment ssrc
+IsActOfEvent event act = act ≡ act_of event

@@ -21,7 +21,9 @@ use Rattle.rtcp_engine.specs.declared.event.Event.TheVariants.{ArriveRtcp, Arriv
 use Rattle.rtcp_report.specs.Reports.{Reporter}
 use Rattle.rtcp_engine.specs.answers.Reporting.{reporter_by}
 use Rattle.rtcp_engine.specs.answers.Setups.{Setup, SettingsValue, ClockValue}
-use Rattle.rtcp_engine.specs.answers.Acts.{Datagram, rtcp, rtp, Act, EventValue, rtcp_arrived, rtp_arrived, packet_sent, time_passed, leave_asked, settings_given, forget_asked, IsActOfEvent}
+use Rattle.rtcp_wire.specs.Readings.{rtcp_in}
+use Rattle.rtcp_wire.specs.RtpReadings.{rtp_in}
+use Rattle.rtcp_engine.specs.answers.Acts.{Datagram, rtcp, rtp, Act, arrived, rtp_sent, ticked, left, configured, forgotten, EventValue, rtcp_arrived, rtp_arrived, packet_sent, time_passed, leave_asked, settings_given, forget_asked}
 use Rattle.rtcp_engine.specs.answers.Changes.{named_by}
 use Rattle.rtcp_engine.specs.answers.Steps.{OutValue, StepValue, AnswerValue}
 use Rattle.rtcp_engine.specs.state.States.{PhaseValue, taking_part, leaving, over}
@@ -156,12 +158,12 @@ event_value (Leave now word) = leave_asked now word
 event_value (Configure now settings) = settings_given now (settings_value settings.now)
 event_value (Forget now ssrc) = forget_asked now ssrc
 
-abbrev pub IsActOf : Event → Act → Type 0
-IsActOf event act = IsActOfEvent (event_value event) act
-
--- one act for each event, in their order
-abbrev pub AreActsOf : List Event → List Act → Type 0
-AreActsOf [] [] = Unit {0}
-AreActsOf [] (act ∷ acts) = ⊥
-AreActsOf (event ∷ events) [] = ⊥
-AreActsOf (event ∷ events) (act ∷ acts) = IsActOf event act × AreActsOf events acts
+-- What a participant is told by an event. What the octets of a datagram say stands in it.
+abbrev pub act_told : Event → Act
+act_told (ArriveRtcp now peer word bytes) = arrived now peer word (rtcp (length bytes.now) (rtcp_in bytes.now))
+act_told (ArriveRtp now peer word bytes) = arrived now peer word (rtp (rtp_in bytes.now))
+act_told (SentRtp now timestamp octets) = rtp_sent now timestamp octets
+act_told (Tick now first_word second_word) = ticked now first_word second_word
+act_told (Leave now word) = left now word
+act_told (Configure now settings) = configured now (settings_value settings.now)
+act_told (Forget now ssrc) = forgotten now ssrc

@@ -7,12 +7,12 @@ use Rattle.rtcp_engine.proofs.participant.Participant.arrive_rtcp_into.Goals as 
 
 pub returns-in-Some : goal.returns-in-Some
 returns-in-Some g c =
-    call_refused (λ act is. ap moment_of is.2) (sym c.refusal.ensures.exact ∙ c.in-Some.is) c.refusal.ensures.within
+    call_refused (λ act is. ap moment_of is) (sym c.refusal.ensures.exact ∙ c.in-Some.is) c.refusal.ensures.within
 
 pub returns-in-Err : goal.returns-in-Err
 returns-in-Err g c =
     let fault = c.in-Err.fault in
-    refused (as_compound (Err fault) (c.in-Err.ensures.refused fault refl)
+    refused (as_compound c.args.bytes.now (Err fault) (c.in-Err.ensures.refused fault refl)
     (fault_answered c.args.now c.args.peer c.args.w (rtcp (length c.args.bytes.now) (Err fault))
     (sym c.refusal.ensures.exact ∙ c.in_default.is) refl)) c.refusal.ensures.within
 
@@ -21,7 +21,7 @@ arrive_as_own-requires-clause-few g c = few_named c.args.bytes.now c.in-Ok.compo
 
 pub returns-then-is_named_by : goal.returns-then-is_named_by
 returns-then-is_named_by g c = record {
-  takes = as_compound (Ok c.in-Ok.compound) c.in-Ok.ensures.accepted c.arrive_as_own.ensures.takes;
+  takes = as_compound c.args.bytes.now (Ok c.in-Ok.compound) c.in-Ok.ensures.accepted c.arrive_as_own.ensures.takes;
   spares = c.arrive_as_own.ensures.spares;
   writes = c.arrive_as_own.ensures.writes;
 }
@@ -29,6 +29,6 @@ returns-then-is_named_by g c = record {
 pub returns : goal.returns
 returns g c =
     let other = c.arrive_as_other.ensures in
-    replied (as_compound (Ok c.in-Ok.compound) c.in-Ok.ensures.accepted
+    replied (as_compound c.args.bytes.now (Ok c.in-Ok.compound) c.in-Ok.ensures.accepted
     (other.takes c.args.peer c.args.w c.args.octets.now c.ranges.w.fits)) other.within other.standing other.empty
     leaves_all

@@ -9,12 +9,12 @@ use Rattle.rtcp_engine.proofs.participant.Participant.inspect_rtp.Goals as goal
 
 pub returns-in-Some-clause-foretold : goal.returns-in-Some-clause-foretold
 returns-in-Some-clause-foretold g c =
-    call_foretold (rtp_arrived c.args.now c.args.peer c.args.w c.args.bytes.now) (λ act is. ap moment_of is.2) (sym c.refusal.ensures.exact ∙ c.in-Some.is)
+    call_foretold (rtp_arrived c.args.now c.args.peer c.args.w c.args.bytes.now) (λ act is. ap moment_of is) (sym c.refusal.ensures.exact ∙ c.in-Some.is)
 
 pub returns-in-Err-clause-foretold : goal.returns-in-Err-clause-foretold
 returns-in-Err-clause-foretold g c =
     let fault = c.in-Err.fault in
-    of_packet (Err fault) (c.in-Err.ensures.refused fault refl)
+    of_packet c.args.bytes.now (Err fault) (c.in-Err.ensures.refused fault refl)
     (fault_foretold c.args.now c.args.peer c.args.w (rtp (Err fault))
     (sym c.refusal.ensures.exact ∙ c.in_default.is) refl)
 
@@ -23,7 +23,7 @@ returns-then-ssrc-present-clause-foretold g c =
     let p = c.args.self.now in
     let head = c.in-Ok.head in
     let present = c.ssrc-present.ensures ∙ ap (λ (x : ParticipantValue). x.presence.setup.ssrc) c.self.view_is in
-    of_packet (Ok head) c.in-Ok.ensures.accepted (λ h stands.
+    of_packet c.args.bytes.now (Ok head) c.in-Ok.ensures.accepted (λ h stands.
     let own = present ∙ ap (λ (s : Setup). s.ssrc) stands.session.setup in
     ap Ok own ∙ told_ssrc h (rtp_came c.args.now c.args.peer c.args.w (Ok head)) None
     (plain p h c.args.now c.args.peer c.args.w (Rtp head) stands (sym c.refusal.ensures.exact ∙ c.in_default.is)
@@ -36,12 +36,12 @@ ssrc_for_own-requires-clause-own g c =
 
 pub returns-in-Err-ssrc_for_own-clause-foretold : goal.returns-in-Err-ssrc_for_own-clause-foretold
 returns-in-Err-ssrc_for_own-clause-foretold g c =
-    of_packet (Ok c.in-Ok.head) c.in-Ok.ensures.accepted
+    of_packet c.args.bytes.now (Ok c.in-Ok.head) c.in-Ok.ensures.accepted
     (λ h stands. c.in-Err-ssrc_for_own.ensures c.args.now h (sym c.refusal.ensures.exact ∙ c.in_default.is) stands)
 
 pub returns-in-Ok-read-clause-foretold : goal.returns-in-Ok-read-clause-foretold
 returns-in-Ok-read-clause-foretold g c =
-    of_packet (Ok c.in-Ok.head) c.in-Ok.ensures.accepted
+    of_packet c.args.bytes.now (Ok c.in-Ok.head) c.in-Ok.ensures.accepted
     (λ h stands. c.in-Ok-ssrc_for_own.ensures c.args.now h (sym c.refusal.ensures.exact ∙ c.in_default.is) stands)
 
 pub returns-in-Err-read-clause-foretold : goal.returns-in-Err-read-clause-foretold
