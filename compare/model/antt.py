@@ -332,19 +332,10 @@ class Definitions:
         if name not in self.module(module).relations:
             return None
         names, fields = self.module(module).relations[name]
-        unknown, held = [], ("name", "Unit")
-        for field, text in reversed(fields):
-            tokens = tokens_of(text)
-            if self.is_value(tokens):
-                unknown.insert(0, (field, " ".join(tokens)))
-            else:
-                held = ("operator", "×", Reader(tokens).expression(), held)
-        return [([("named", one) for one in names], ("parts_of_record", unknown, held) if unknown else held)]
-
-    @staticmethod
-    def is_value(tokens):
-        """Whether a field's type is one of values, and says nothing: a list, or a name alone."""
-        return tokens[0] in ("List", "Option") or len(tokens) == 1
+        held = ("name", "Unit")
+        for _, text in reversed(fields):
+            held = ("operator", "×", Reader(tokens_of(text)).expression(), held)
+        return [([("named", one) for one in names], held)]
 
     def variants(self, module, name):
         """The Python of all values of an enum that has no fields."""
@@ -394,38 +385,6 @@ def remembered(function, kept):
             found = kept[given] = function(*given)
         return found
     return call
-
-
-def conjuncts(tree):
-    """What holds together, one after the other."""
-    if tree[:2] == ("operator", "×"):
-        return conjuncts(tree[2]) + conjuncts(tree[3])
-    return [tree]
-
-
-def parts_of(tree):
-    """The parts of a list: lists, and single members as lists."""
-    if tree[:2] == ("operator", "++"):
-        return parts_of(tree[2]) + parts_of(tree[3])
-    if tree[:2] == ("operator", "∷"):
-        return [("operator", "∷", tree[2], ("name", "[]")), *parts_of(tree[3])]
-    return [] if tree == ("name", "[]") else [tree]
-
-
-def mentions(tree, names):
-    if isinstance(tree, tuple) and tree[:1] == ("name",):
-        return tree[1] in names
-    return isinstance(tree, (tuple, list)) and any(mentions(part, names) for part in tree)
-
-
-def is_split(tree, octets, names):
-    """Whether an equation says of what parts a list that is known consists: lists that are to be found, single
-    members, or what is known."""
-    if tree[:2] != ("operator", "≡") or mentions(tree[2], names):
-        return False
-    sought = [part for part in parts_of(tree[3]) if mentions(part, names)]
-    return any(part[0] == "name" for part in sought) and all(
-        part[:2] == ("operator", "∷") if part[0] != "name" else part[1] in octets for part in sought)
 
 
 class Writer:
@@ -539,73 +498,6 @@ class Writer:
         names = {name: self.fresh() for name in tree[1]}
         body = self.expression(tree[3], {**scope, **names})
         return f"every({kinds}, {len(names)}, lambda {', '.join(names.values())}: {body})"
-
-    def of_parts_of_record(self, tree, scope):
-        return self.of_parts(tree[1], conjuncts(tree[2]), scope)
-
-    def of_some(self, tree, scope):
-        unknown, wanted = [], [tree]
-        while wanted[-1][0] == "some":
-            _, names, kind, body = wanted.pop()
-            unknown += [(name, kind) for name in names]
-            wanted += conjuncts(body)
-        return self.of_parts(unknown, wanted, scope)
-
-    def of_parts(self, unknown, wanted, scope):
-        """Whether there are such values of which this holds. A list of octets is looked for where it is a part of a
-        list that is known; other values are proposed by library.PROPOSED, and tried."""
-        names = [name for name, _ in unknown]
-        ready = [one for one in wanted if not mentions(one, names)]
-        wanted = [one for one in wanted if mentions(one, names)]
-        tests = [self.expression(one, scope) for one in ready]
-        if not unknown:
-            return "(" + (" and ".join(tests) or "True") + ")"
-        octets = [name for name, kind in unknown if kind == "List ℕ"]
-        whole = next((one for one in wanted if is_split(one, octets, names)), None)
-        if whole:
-            tests.append(self.of_split(whole, unknown, [one for one in wanted if one is not whole], scope))
-        else:
-            tests.append(self.of_proposal(unknown, wanted, scope))
-        return "(" + " and ".join(tests) + ")"
-
-    def of_split(self, whole, unknown, wanted, scope):
-        parts, places, tests, inner = [], [], [], dict(scope)
-        for part in parts_of(whole[3]):
-            if not mentions(part, list(dict(unknown))):
-                parts.append(f"({self.expression(part, scope)}, None)")
-                continue
-            places.append(self.fresh())
-            if part[0] == "name":
-                inner[part[1]] = places[-1]
-                parts.append(f"(None, {self.sizes(part[1], wanted, dict(unknown), scope)})")
-            else:
-                tests.append((places[-1], part))
-                parts.append("(None, range(1, 2))")
-        left = [one for one in unknown if one[0] not in inner]
-        held = [f"{place} is {self.expression(part, inner)}" for place, part in tests]
-        body = " and ".join([*held, self.of_parts(left, wanted, inner)])
-        whole = self.expression(whole[2], scope)
-        return f"any({body} for {', '.join(places)}, in splits({whole}, [{', '.join(parts)}]))"
-
-    def sizes(self, name, wanted, unknown, scope):
-        """Which size a part has, where something says that."""
-        size = ("call", ("name", "length"), [("name", name)])
-        for one in wanted:
-            if one[:2] == ("operator", "≡") and size in one[2:]:
-                other = one[3] if one[2] == size else one[2]
-                if not mentions(other, list(unknown)):
-                    value = self.expression(other, scope)
-                    return f"range({value}, {value} + 1)"
-            if one[:3] == ("operator", "<", size) and not mentions(one[3], list(unknown)):
-                return f"range({self.expression(one[3], scope)})"
-        return "None"
-
-    def of_proposal(self, unknown, wanted, scope):
-        (name, kind), left = unknown[0], unknown[1:]
-        place = self.fresh()
-        known = ", ".join(scope.values())
-        body = self.of_parts(left, wanted, {**scope, name: place})
-        return f"any({body} for {place} in proposed({kind!r}, [{known}]))"
 
     def of_elim(self, tree, scope):
         name, text = self.fresh(), "no_case()"

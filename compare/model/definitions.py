@@ -1,7 +1,6 @@
 #!/usr/bin/env python3
 """A second model of `rtcp replay`: its answers are those of the definitions in specs/ that the contract of
-`rtcp_engine::run` names, computed from the whole history at each line. What a datagram says, and the command line, are
-read as by participant.py.
+`rtcp_engine::run` names, computed from the whole history at each line. The command line is read as by participant.py.
 
 usage: compare/model/definitions.py replay OPTION VALUE ... < LINES"""
 import sys
@@ -86,42 +85,6 @@ def rtp_reading(octets):
         "timestamp": timestamp, "ssrc": ssrc, "csrcs": listed(csrcs), "payload": listed(octets[end - size:end])}))
 
 
-# ---- What may be meant by octets, for what the definitions say of some packets, chunks or items
-
-
-def octet_lists(known):
-    for one in known:
-        values = list(items(one)) if isinstance(one, Node) and one.tag in ("[]", "∷") else [None]
-        if all(isinstance(value, int) for value in values):
-            yield bytes(values)
-
-
-def whole_chunks(octets):
-    """The chunks that these octets are, or none."""
-    for count in range(len(octets) // 4 + 1):
-        try:
-            return [packet_value(202, count, octets).parts[0]]
-        except decoder.Fault:
-            pass
-    return []
-
-
-def whole_items(octets):
-    pairs = []
-    while len(octets) > 1 and octets[0] and len(octets) >= 2 + octets[1]:
-        pairs.append((octets[0], octets[2:2 + octets[1]]))
-        octets = octets[2 + octets[1]:]
-    return [] if octets else [item_values(pairs)]
-
-
-library.PROPOSED.update({
-    "List RtcpPacket": lambda known: [reading.parts[0] for reading in map(rtcp_reading, octet_lists(known))
-                                      if reading.tag == "Ok"],
-    "List ChunkValue": lambda known: [value for one in octet_lists(known) for value in whole_chunks(one)],
-    "List ItemValue": lambda known: [value for one in octet_lists(known) for value in whole_items(one)],
-})
-
-
 def numbered(letter, names, tag):
     return f"{letter}{names.index(tag) + 1} {tag}"
 
@@ -179,11 +142,12 @@ class Defined:
         return is_history(self.history) and hands_over(self.start, listed(self.acts), listed(self.answers))
 
     def rtcp_came(self, moment, peer, word, octets):
-        reading = node("rtcp", len(octets), rtcp_reading(octets))
+        reading = node("rtcp", len(octets), defined_reading(octets, True, self.definitions))
         return self.answer(node("arrived", moment, peer, word, reading))
 
     def rtp_came(self, moment, peer, word, octets):
-        return self.answer(node("arrived", moment, peer, word, node("rtp", rtp_reading(octets))))
+        reading = node("rtp", defined_reading(octets, False, self.definitions))
+        return self.answer(node("arrived", moment, peer, word, reading))
 
     def packet_sent(self, *values):
         return self.answer(node("rtp_sent", *values))
@@ -203,9 +167,10 @@ class Defined:
         return self.answer(node("forgotten", *values))
 
 
-def is_reading(octets, reading, is_rtcp, definitions):
-    """Whether the definitions say that a datagram says this."""
-    return definitions.call(ACTS, "IsReading" if is_rtcp else "IsRtpReading")(listed(octets), reading)
+def defined_reading(octets, is_rtcp, definitions):
+    """What a datagram says by the definitions."""
+    place = ("rtcp_wire.specs.Readings", "rtcp_in") if is_rtcp else ("rtcp_wire.specs.RtpReadings", "rtp_in")
+    return definitions.call(*place)(listed(octets))
 
 
 def replay(arguments, octets, definitions, look=lambda defined: None):

@@ -185,37 +185,8 @@ FUNCTIONS = {
 # the numbers that what holds of all numbers is tried with
 NUMBERS = set()
 
-# of a type of values, a function that proposes some, by values that are known
-PROPOSED = {}
-
-
 def every(values, count, holds):
     return all(holds(*given) for given in itertools.product(values, repeat=count))
-
-
-def proposed(kind, known):
-    return PROPOSED[kind](known)
-
-
-def splits(whole, parts):
-    """The ways in which a list consists of parts: of each its value, or none and the sizes that it may have."""
-    if not parts:
-        if whole is NIL:
-            yield ()
-        return
-    (value, sizes), rest = parts[0], parts[1:]
-    if value is not None:
-        size = sum(1 for _ in items(value))
-        if taken(size, whole) is value:
-            yield from splits(dropped(size, whole), rest)
-        return
-    most = sum(1 for _ in items(whole))
-    if not rest:
-        sizes = range(most, most + 1) if sizes is None or most in sizes else ()
-    for size in range(most + 1) if sizes is None else sizes:
-        if size <= most:
-            for others in splits(dropped(size, whole), rest):
-                yield taken(size, whole), *others
 
 
 OPERATORS = {
@@ -242,7 +213,7 @@ PLACES = {name: f"std{number}" for number, name in enumerate(FUNCTIONS)}
 SPACE = {
     "NIL": NIL, "NONE": NONE, "node": node, "record": record, "cons": cons, "some": some, "appended": appended,
     "Lam": Lam, "maker": maker, "no_case": no_case, "every": every,
-    "NUMBERS": NUMBERS, "proposed": proposed, "splits": splits,
+    "NUMBERS": NUMBERS,
     "quotient": lambda one, other: one // other if other else 0,
     "remainder": lambda one, other: one % other if other else one,
     **{PLACES[name]: function for name, (_, function) in FUNCTIONS.items()},
