@@ -2,7 +2,7 @@
 use Rattle.std.specs.Prelude.{ℕ, ◌≡◌, ◌+◌, ◌-◌, ◌^◌, min, pos, Option, Some, None, is_some, if◌then◌else◌, ◌==◌}
 use Rattle.rtcp_source.specs.declared.reception.Reception.{Reception}
 use Rattle.rtcp_source.specs.declared.reception.LastReport.{LastReport}
-use Rattle.rtcp_source.specs.Summary.{LastReportValue}
+use Rattle.rtcp_source.specs.Fields.{LastReportValue}
 use Rattle.rtcp_source.specs.LastBlocks.{LastBlockValue}
 use Rattle.rtcp_source.specs.Receptions.{ReceptionValue}
 use Rattle.rtcp_members.specs.Listings.{StateValue}

@@ -5,11 +5,11 @@ use Rattle.rtcp_wire.specs.declared.fact.Fact.{Fact}
 use Rattle.rtcp_wire.specs.RtpHeads.{RtpValue}
 use Rattle.rtcp_wire.specs.Values.{ReportBlock}
 use Rattle.rtcp_wire.specs.Writing.{written_all}
-use Rattle.rtcp_members.specs.Traces.{TraceStep, with_facts}
+use Rattle.rtcp_members.specs.Traces.{TraceStep, with_facts, with_blocks}
 use Rattle.rtcp_members.specs.Entries.{members_at, senders_at, counted_at}
 use Rattle.rtcp_members.specs.Tables.{StandsAt as IsTableAt, TableValue, counted, after_facts, members_in, senders_in, after_forgetting}
-use Rattle.rtcp_members.specs.Pending.{EntryRow, pending, after_blocks, blocks_of, last_reported}
-use Rattle.rtcp_members.specs.News.{blocks_at, pending_rows_at}
+use Rattle.rtcp_members.specs.Pending.{EntryRow, pending, after_blocks, blocks_of, last_reported, pending_rows_at}
+use Rattle.rtcp_members.specs.News.{blocks_at}
 use Rattle.std.specs.FinMap as finite
 use Rattle.rtcp_members.specs.Traces.{names}
 use Rattle.rtcp_members.specs.Stays.{present_among, stay_of}
@@ -17,7 +17,6 @@ use Rattle.rtcp_members.specs.Listings.{StateValue, state_above, states_above, L
 use Rattle.rtcp_members.proofs.LawLemmas as tables
 use Rattle.rtcp_report.specs.Reports.{Reporter, packets_with}
 use Rattle.rtcp_report.specs.Sizes.{fitting, reported_rows, report_of}
-use Rattle.rtcp_report.specs.Traced.{with_blocks}
 use Rattle.rtcp_report.proofs.LawLemmas as reports
 use Rattle.rtcp_timer.specs.declared.load.Load.{Load}
 use Rattle.rtcp_timer.specs.Averages.{moved_average}

@@ -1,7 +1,7 @@
 -- Whether a number is among those of a list.
 use Rattle.std.proofs.Common.{◌≡◌, ℕ, ◌==◌, ◌&&◌, ◌||◌, Bool, true, false, List, [], ◌∷◌, map, refl, sym, ap}
 use Rattle.std.specs.List.{list_any}
-use Rattle.rtcp_engine.specs.answers.Identities.{is_among}
+use Rattle.rtcp_engine.specs.answers.Changes.{is_among}
 
 -- a number that some element of a list gives
 pub among_map : {A : Type 0} → (number_of : A → ℕ) (list : List A) (number : ℕ) →

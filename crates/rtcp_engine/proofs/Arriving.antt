@@ -13,8 +13,7 @@ use Rattle.rtcp_engine.specs.declared.changes.IdentifierChange.{IdentifierChange
 use Rattle.rtcp_engine.specs.declared.refusal.Refusal.{Refusal}
 use Rattle.rtcp_engine.specs.declared.refusal.Refusal.TheVariants.{OwnSsrc}
 use Rattle.rtcp_engine.specs.answers.Acts.{Act, Datagram, IsActOfEvent, IsReading, IsRtpReading, arrived, rtcp_arrived, rtcp_came, rtp_arrived, rtp_came}
-use Rattle.rtcp_engine.specs.answers.Identities.{may_change}
-use Rattle.rtcp_engine.specs.answers.Changes.{NewIdentifier, Session, changing_peers, is_about, new_identifier}
+use Rattle.rtcp_engine.specs.answers.Changes.{NewIdentifier, Session, changing_peers, is_about, new_identifier, may_change}
 use Rattle.rtcp_engine.specs.answers.Histories.{History, session_at}
 use Rattle.rtcp_engine.specs.state.Promises.{Takes as Promised}
 use Rattle.rtcp_engine.specs.answers.Refusals.{fault_in, refusal_after, refusal_if, refusal_of_content}

@@ -4,8 +4,7 @@ use Rattle.rtcp_clock.specs.Intervals.{drawn_interval}
 use Rattle.rtcp_wire.specs.Writing.{written_all}
 use Rattle.rtcp_members.specs.Tables.{TableValue, no_members}
 use Rattle.rtcp_members.proofs.LawLemmas as tables
-use Rattle.rtcp_report.specs.Reports.{Reporter, packets_with}
-use Rattle.rtcp_report.specs.Views.{items_of}
+use Rattle.rtcp_report.specs.Reports.{Reporter, packets_with, items_of}
 use Rattle.rtcp_report.proofs.LawLemmas.{size_is_that_of_the_octets}
 use Rattle.rtcp_timer.specs.declared.load.Load.{Load}
 use Rattle.rtcp_timer.specs.Averages.{average_of}

@@ -5,10 +5,9 @@ use Rattle.rtcp_engine.specs.declared.config.ConfigError.{ConfigError}
 use Rattle.rtcp_engine.specs.declared.refusal.Refusal.TheVariants.{Settings}
 use Rattle.rtcp_engine.specs.answers.Setups.{Setup, SettingsValue, IsUsable, settings_of, with_settings}
 use Rattle.rtcp_engine.specs.answers.Acts.{Act, arrived, configured}
-use Rattle.rtcp_engine.specs.answers.Identities.{with_ssrc}
 use Rattle.rtcp_engine.specs.answers.Leaving.{Life, present, backing_off, finished}
 use Rattle.rtcp_engine.specs.answers.Lives.{out_by, own_bye}
-use Rattle.rtcp_engine.specs.answers.Changes.{NewIdentifier, Session, change_by, changed_by, changed_to}
+use Rattle.rtcp_engine.specs.answers.Changes.{NewIdentifier, Session, change_by, changed_by, changed_to, with_ssrc}
 use Rattle.rtcp_engine.specs.answers.Histories.{session_of, settings_after, setup_after}
 use Rattle.rtcp_engine.specs.answers.Refusals.{refusal_of_content}
 use Rattle.rtcp_engine.specs.bounds.OwnClock.{latest_settings}

@@ -8,10 +8,9 @@ use Rattle.rtcp_wire.specs.RtpHeads.{RtpValue}
 use Rattle.rtcp_wire.specs.Values.{RtcpPacket}
 use Rattle.rtcp_members.specs.Entries.{counted_at, entry_at, is_member, is_such}
 use Rattle.rtcp_members.specs.Lasting.{MayBring}
-use Rattle.rtcp_members.specs.Traces.{TraceStep, block_made_of, check_made, source_forgotten}
+use Rattle.rtcp_members.specs.Traces.{TraceStep, block_made_of, check_made, source_forgotten, with_blocks}
 use Rattle.rtcp_members.proofs.Lasting.{member_on}
 use Rattle.rtcp_members.proofs.Introducing.{members_through, named_become_members}
-use Rattle.rtcp_report.specs.Traced.{with_blocks}
 use Rattle.rtcp_engine.specs.answers.Acts.{Act, Datagram, arrived, configured, left, rtcp, rtp, rtp_sent, ticked, forgotten}
 use Rattle.rtcp_engine.specs.answers.Arrivals.{after, facts_of_csrcs, facts_of_media, media_fact, rate_of}
 use Rattle.rtcp_engine.specs.answers.Changes.{NewIdentifier, Session, change_by, changed_by}

@@ -1,7 +1,8 @@
 -- The search for a new identifier: numbers that follow one another are tried, until one is free.
 use Rattle.std.proofs.Common.{◌≡◌, ℕ, suc, zero, ◌+◌, ◌-◌, ◌^◌, ◌<◌, ◌≤◌, Bool, true, false, if◌then◌else◌, refl, sym, ap, ◌∙◌, arith, inl, inr}
 use Rattle.std.proofs.lemmas.Bool.{cases_lt}
-use Rattle.rtcp_engine.specs.answers.Identities.{IsFirstFree, first_free}
+use Rattle.rtcp_engine.specs.answers.Identities.{IsFirstFree}
+use Rattle.rtcp_engine.specs.answers.Changes.{first_free}
 use Rattle.rtcp_engine.specs.state.Named.{AreTaken, after}
 
 abbrev tried_first : (most : ℕ) (is_taken : ℕ → Bool) (ssrc : ℕ) → Bool → ℕ

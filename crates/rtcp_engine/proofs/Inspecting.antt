@@ -13,9 +13,8 @@ use Rattle.rtcp_engine.specs.declared.refusal.Refusal.{Refusal}
 use Rattle.rtcp_engine.specs.declared.refusal.Refusal.TheVariants.{OwnSsrc}
 use Rattle.rtcp_engine.specs.answers.Acts.{Act, Datagram, EventValue, IsActOfEvent, IsReading, IsRtpReading, arrived, moment_of, rtcp_arrived, rtcp_came, rtp_arrived, rtp_came}
 use Rattle.rtcp_engine.specs.answers.Answers.{taken_under}
-use Rattle.rtcp_engine.specs.answers.Changes.{NewIdentifier, changed_by, changing_peers, is_about}
+use Rattle.rtcp_engine.specs.answers.Changes.{NewIdentifier, changed_by, changing_peers, is_about, may_change}
 use Rattle.rtcp_engine.specs.answers.Histories.{History, session_at, session_for}
-use Rattle.rtcp_engine.specs.answers.Identities.{may_change}
 use Rattle.rtcp_engine.specs.answers.Refusals.{fault_in, refusal_after, refusal_if, refusal_of_content}
 use Rattle.rtcp_engine.specs.state.Promises.{Foretells}
 use Rattle.rtcp_engine.specs.state.States.{ParticipantValue, StandsAt, refusal_by}

@@ -6,9 +6,8 @@ use Rattle.rtcp_wire.specs.declared.fact.Fact.{Fact}
 use Rattle.rtcp_wire.specs.Facts.{facts_of}
 use Rattle.rtcp_members.specs.Entries.{EntryValue, counted_at, entry_at, members_at}
 use Rattle.rtcp_members.specs.Roles.{IsSameRole}
-use Rattle.rtcp_members.specs.Traces.{TraceStep, block_made_of, fact_came, with_facts, source_forgotten}
+use Rattle.rtcp_members.specs.Traces.{TraceStep, block_made_of, fact_came, with_facts, source_forgotten, with_blocks}
 use Rattle.rtcp_members.proofs.LawLemmas as tables
-use Rattle.rtcp_report.specs.Traced.{with_blocks}
 use Rattle.rtcp_engine.specs.answers.Acts.{Act, arrived, left, rtcp, rtp, ticked, forgotten}
 use Rattle.rtcp_engine.specs.answers.Answers.{step_by}
 use Rattle.rtcp_engine.specs.answers.Arrivals.{after, facts_of_media, media_fact, rate_of}

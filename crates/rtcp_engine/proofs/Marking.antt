@@ -1,6 +1,6 @@
 -- Identifiers of a block, marked one after the other.
 use Rattle.std.proofs.Common.{◌≡◌, ◌==◌, ◌||◌, ◌∙◌, ℕ, Bool, true, false, List, refl}
-use Rattle.rtcp_engine.specs.answers.Identities.{is_among}
+use Rattle.rtcp_engine.specs.answers.Changes.{is_among}
 
 -- before any is marked
 pub none_marked : (marked : Bool) (number : ℕ) (left names : List ℕ) → marked ≡ false → left ≡ names →

@@ -15,9 +15,9 @@ use Rattle.rtcp_engine.specs.declared.changes.IdentifierChange.{IdentifierChange
 use Rattle.rtcp_engine.specs.declared.refusal.Refusal.TheVariants.{OwnSsrc}
 use Rattle.rtcp_engine.specs.answers.Setups.{Setup}
 use Rattle.rtcp_engine.specs.answers.Acts.{Datagram, Act, arrived, moment_of}
-use Rattle.rtcp_engine.specs.answers.Identities.{AreApart, first_free, is_among, may_change, most_changes}
+use Rattle.rtcp_engine.specs.answers.Identities.{AreApart}
 use Rattle.rtcp_engine.specs.answers.Leaving.{Life, present, backing_off, finished}
-use Rattle.rtcp_engine.specs.answers.Changes.{NewIdentifier, Session, change_by, changed_by, changing_peers, identifiers, is_about, is_in_table, is_taken, most_taken, named_by, new_identifier}
+use Rattle.rtcp_engine.specs.answers.Changes.{NewIdentifier, Session, change_by, changed_by, changing_peers, identifiers, is_about, is_in_table, is_taken, most_taken, named_by, new_identifier, first_free, is_among, may_change, most_changes}
 use Rattle.rtcp_engine.specs.answers.Histories.{History, brought_by, session_at, session_for, session_of}
 use Rattle.rtcp_engine.specs.answers.Refusals.{fault_in, refusal_if, refusal_of_content}
 use Rattle.rtcp_engine.specs.state.Taken.{AllTaken, IsHistory}

@@ -8,8 +8,7 @@ use Rattle.rtcp_wire.specs.RtpHeads.{RtpValue}
 use Rattle.rtcp_wire.proofs.LawLemmas.{compounds_give_no_media}
 use Rattle.rtcp_members.specs.Clocks.{HasOneClock, HasRate}
 use Rattle.rtcp_members.specs.Entries.{counted_at}
-use Rattle.rtcp_members.specs.Traces.{TraceStep, block_made_of, fact_came, with_facts}
-use Rattle.rtcp_report.specs.Traced.{with_blocks}
+use Rattle.rtcp_members.specs.Traces.{TraceStep, block_made_of, fact_came, with_facts, with_blocks}
 use Rattle.rtcp_engine.specs.answers.Setups.{Setup, ClockValue, rate_among}
 use Rattle.rtcp_engine.specs.answers.Acts.{Act, arrived, configured, left, rtcp, rtp, rtp_sent, ticked, forgotten}
 use Rattle.rtcp_engine.specs.answers.Arrivals.{after, facts_of_media, media_fact}

@@ -7,9 +7,8 @@ use Rattle.rtcp_wire.specs.Facts.{facts_of}
 use Rattle.rtcp_members.specs.Entries.{counted_at}
 use Rattle.rtcp_members.specs.Past.{CameBy, IsKnownBy}
 use Rattle.rtcp_members.specs.Listings.{StateValue}
-use Rattle.rtcp_members.specs.Traces.{TraceStep, block_made_of}
+use Rattle.rtcp_members.specs.Traces.{TraceStep, block_made_of, with_blocks}
 use Rattle.rtcp_members.proofs.LawLemmas as tables
-use Rattle.rtcp_report.specs.Traced.{with_blocks}
 use Rattle.rtcp_engine.specs.declared.refusal.Refusal.{Refusal}
 use Rattle.rtcp_engine.specs.declared.refusal.Refusal.TheVariants.{Backwards, TooFar}
 use Rattle.rtcp_engine.specs.answers.Acts.{Act, arrived, configured, left, moment_of, rtcp, rtp, rtp_sent, ticked, forgotten}

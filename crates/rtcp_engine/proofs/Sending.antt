@@ -13,7 +13,7 @@ use Rattle.rtcp_timer.specs.Loads.{minimum_of}
 use Rattle.rtcp_timer.specs.Schedules as schedules
 use Rattle.rtcp_timer.specs.Schedules.{Happening, transmitted, tried, recounted, IsDue, IsInOrder, newest_transmission, schedule_at}
 use Rattle.rtcp_timer.proofs.LawLemmas.{interval_has_minimum, never_due_too_soon}
-use Rattle.rtcp_members.specs.News.{pending_rows_at}
+use Rattle.rtcp_members.specs.Pending.{pending_rows_at}
 use Rattle.rtcp_wire.specs.Values.{ItemValue, ReportBlock}
 use Rattle.rtcp_wire.specs.Writing.{written_all}
 use Rattle.rtcp_engine.specs.declared.refusal.Refusal.{Refusal}

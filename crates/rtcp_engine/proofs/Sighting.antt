@@ -5,8 +5,7 @@ use Rattle.rtcp_wire.specs.declared.fact.Fact.{Fact}
 use Rattle.rtcp_wire.specs.Facts.{subject, is_gone, facts_of}
 use Rattle.rtcp_members.specs.Entries.{counted_at}
 use Rattle.rtcp_members.specs.Stays.{last_naming}
-use Rattle.rtcp_members.specs.Traces.{TraceStep, block_made_of, fact_came, is_naming, with_facts}
-use Rattle.rtcp_report.specs.Traced.{with_blocks}
+use Rattle.rtcp_members.specs.Traces.{TraceStep, block_made_of, fact_came, is_naming, with_facts, with_blocks}
 use Rattle.rtcp_engine.specs.answers.Acts.{Act, Datagram, arrived, configured, left, moment_of, rtcp, rtp, rtp_sent, ticked, forgotten}
 use Rattle.rtcp_engine.specs.answers.Arrivals.{facts_of_csrcs, facts_of_media, media_fact, rate_of, with_datagram}
 use Rattle.rtcp_engine.specs.answers.Changes.{NewIdentifier, Session, change_by, changed_by}

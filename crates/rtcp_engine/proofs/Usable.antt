@@ -8,8 +8,8 @@ use Rattle.std.proofs.lemmas.List.Sums.{AllPass-from_list_all, list_all-from_All
 use Rattle.rtcp_wire.specs.Values.{ItemValue}
 use Rattle.rtcp_engine.specs.declared.config.ConfigError.{ConfigError}
 use Rattle.rtcp_engine.specs.declared.config.ConfigError.TheVariants.{Cname, Capacity, Limit, Bandwidth, Rate, Item}
-use Rattle.rtcp_engine.specs.answers.Setups.{Setup, SettingsValue, is_within, IsWithin, is_extra_item, IsExtraItem, IsUsable, with_settings, ClockValue, is_clock, IsClock}
-use Rattle.rtcp_engine.specs.answers.Refused.{are_extras, is_bandwidth, is_limit, error_in, settings_error}
+use Rattle.rtcp_engine.specs.answers.Setups.{Setup, SettingsValue, is_within, IsWithin, is_extra_item, IsExtraItem, IsUsable, with_settings, ClockValue, is_clock, IsClock, are_extras, is_bandwidth, settings_error}
+use Rattle.rtcp_engine.specs.answers.Refused.{is_limit, error_in}
 
 -- a test that was passed
 passed : (test : Bool) (error : ConfigError) (others : Option ConfigError) →

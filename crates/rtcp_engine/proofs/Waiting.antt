@@ -15,12 +15,11 @@ use Rattle.rtcp_timer.specs.Departures.{members_known, last_departure}
 use Rattle.rtcp_timer.proofs.LawLemmas.{due_in_time}
 use Rattle.rtcp_engine.specs.answers.Setups.{Setup, SettingsValue, IsUsable, settings_of, with_settings}
 use Rattle.rtcp_engine.specs.answers.Acts.{rtcp, rtp, Act, arrived, rtp_sent, ticked, left, configured, moment_of, forgotten}
-use Rattle.rtcp_engine.specs.answers.Identities.{with_ssrc}
 use Rattle.rtcp_engine.specs.answers.OwnStreams.{has_sent}
 use Rattle.rtcp_engine.specs.answers.Outcomes.{Outcome, interval_at, member_count, nothing_yet, with_pace}
 use Rattle.rtcp_engine.specs.answers.Ticks.{checked, has_come, has_passed, is_report_due, put_off, reported, with_recount, with_report}
 use Rattle.rtcp_engine.specs.answers.Arrivals.{media_fact, rate_of, with_media}
-use Rattle.rtcp_engine.specs.answers.Changes.{NewIdentifier, Session, change_by, changed_by}
+use Rattle.rtcp_engine.specs.answers.Changes.{NewIdentifier, Session, change_by, changed_by, with_ssrc}
 use Rattle.rtcp_engine.specs.declared.refusal.Refusal.{Refusal}
 use Rattle.rtcp_engine.specs.answers.Answers.{answer_of, followed_by, step_by}
 use Rattle.rtcp_engine.specs.answers.Histories.{History, last_moment, life_at, session_of, settings_after, setup_at, with_act}

@@ -1,7 +1,7 @@
 //! The changes of a participant's identifier (RFC 3550, 8.2).
 
 ghost use Rattle.std.specs.Prelude.{◌≡◌, ◌∷◌, ◌<◌, [], length, map};
-ghost use Rattle.rtcp_engine.specs.answers.Identities.{is_among, may_change};
+ghost use Rattle.rtcp_engine.specs.answers.Changes.{is_among, may_change};
 
 use arrayvec::ArrayVec;
 

@@ -2,8 +2,8 @@
 
 ghost use Rattle.std.specs.Prelude.{◌≡◌, ◌≤◌, ◌-◌, ◌/◌, ◌^◌, ℕ, List, map, Option, Some, None};
 ghost use Rattle.rtcp_report.specs.Views.{item_value};
-ghost use Rattle.rtcp_engine.specs.answers.Setups.{is_within as within, is_extra_item};
-ghost use Rattle.rtcp_engine.specs.answers.Refused.{error_in, is_bandwidth as is_bandwidth_for, is_limit as is_limit_for, are_extras as extras_are};
+ghost use Rattle.rtcp_engine.specs.answers.Setups.{is_within as within, is_extra_item, is_bandwidth as is_bandwidth_for, are_extras as extras_are};
+ghost use Rattle.rtcp_engine.specs.answers.Refused.{error_in, is_limit as is_limit_for};
 ghost use Rattle.rtcp_engine.specs.answers.Arrivals.{rate_of};
 ghost use Rattle.rtcp_engine.specs.state.Views.{setup_of};
 

@@ -2,7 +2,7 @@
 
 ghost use Rattle.std.specs.Prelude.{◌≡◌, map, take};
 ghost use Rattle.rtcp_report.specs.Views.{item_value};
-ghost use Rattle.rtcp_engine.specs.answers.Refused.{settings_error};
+ghost use Rattle.rtcp_engine.specs.answers.Setups.{settings_error};
 ghost use Rattle.rtcp_engine.specs.state.Views.{settings_value};
 
 use crate::clock::{Clock, are_clocks};

@@ -3,10 +3,9 @@ use Rattle.std.proofs.Common.{◌≡◌, ◌≤◌, ◌<◌, ◌^◌, ℕ, ◌==
 use Rattle.std.specs.List.{list_any}
 use Rattle.rtcp_wire.specs.declared.fact.Fact.{Fact}
 use Rattle.rtcp_wire.specs.Facts.{subject, facts_of}
-use Rattle.rtcp_members.specs.Traces.{Horizons, TraceStep, check_made as table_checked, block_made_of, source_forgotten, with_facts}
+use Rattle.rtcp_members.specs.Traces.{Horizons, TraceStep, check_made as table_checked, block_made_of, source_forgotten, with_facts, with_blocks}
 use Rattle.rtcp_members.specs.Stays.{stay_of}
 use Rattle.rtcp_members.specs.Entries.{counted_at, entry_of}
-use Rattle.rtcp_report.specs.Traced.{with_blocks}
 use Rattle.rtcp_guard.specs.declared.settings.Settings.{Settings}
 use Rattle.rtcp_guard.specs.declared.verdict.Verdict.{Verdict}
 use Rattle.rtcp_guard.specs.declared.verdict.Verdict.TheVariants.{Pass, Stranger, Crowd}
@@ -17,9 +16,8 @@ use Rattle.rtcp_guard_laws.proofs.Presence.{present_is_claimed}
 use Rattle.rtcp_engine.specs.declared.refusal.Refusal.{Refusal}
 use Rattle.rtcp_engine.specs.answers.Acts.{Act, Datagram, rtcp, rtp, arrived, rtp_sent, ticked, left, configured, forgotten}
 use Rattle.rtcp_engine.specs.answers.Arrivals.{facts_of_media, media_fact, rate_of}
-use Rattle.rtcp_engine.specs.answers.Changes.{NewIdentifier, Session, change_by, changed_by, is_about, named_by, new_identifier}
+use Rattle.rtcp_engine.specs.answers.Changes.{NewIdentifier, Session, change_by, changed_by, is_about, named_by, new_identifier, is_among}
 use Rattle.rtcp_engine.specs.answers.Histories.{History, life_at, session_at, session_for, setup_at, with_act}
-use Rattle.rtcp_engine.specs.answers.Identities.{is_among}
 use Rattle.rtcp_engine.specs.answers.Leaving.{Backoff, Life, present, backing_off, finished, after_wait, after_waiting_tick, backoff_from, is_bye_due, sent_nothing}
 use Rattle.rtcp_engine.specs.answers.Lives.{entry_in_life, lived, silent_in_life, with_new_ssrc}
 use Rattle.rtcp_engine.specs.answers.Outcomes.{Outcome, check_interval, member_count}

@@ -7,9 +7,8 @@ use Rattle.rtcp_wire.specs.declared.fact.Fact.TheVariants.{Gone}
 use Rattle.rtcp_wire.specs.Facts.{subject, is_gone, facts_of, facts_of_packet}
 use Rattle.rtcp_wire.specs.Values.{RtcpPacket, sr, rr, sdes, bye, app, other}
 use Rattle.rtcp_engine.specs.answers.Acts.{Act, Datagram, arrived, rtcp, rtp}
-use Rattle.rtcp_engine.specs.answers.Changes.{NewIdentifier, changed_by, is_about, is_taken, named_by, new_identifier}
+use Rattle.rtcp_engine.specs.answers.Changes.{NewIdentifier, changed_by, is_about, is_taken, named_by, new_identifier, is_among}
 use Rattle.rtcp_engine.specs.answers.Histories.{History, session_at, session_for}
-use Rattle.rtcp_engine.specs.answers.Identities.{is_among}
 use Rattle.rtcp_engine.specs.answers.Leaving.{Life}
 use Rattle.rtcp_engine.specs.answers.Setups.{Setup}
 use Rattle.rtcp_engine.specs.state.Taken.{IsHistory, NamesFew}

@@ -3,7 +3,8 @@ use Rattle.std.specs.Prelude.{ℕ, Bool, Option, refl}
 use Rattle.std.specs.Coded.{Coded, code_by, coded×, coded_ℕ, coded_bool, coded_option}
 use Rattle.std.specs.FinMap as map
 use Rattle.rtcp_source.specs.LastBlocks.{LastBlockValue}
-use Rattle.rtcp_source.specs.Summary.{RunValue, LastReportValue, SourceValue}
+use Rattle.rtcp_source.specs.Summary.{RunValue, SourceValue}
+use Rattle.rtcp_source.specs.Fields.{LastReportValue}
 use Rattle.rtcp_members.specs.Entries.{EntryValue}
 use Rattle.rtcp_members.specs.Tables.{EntryMap, TableValue}
 

@@ -1,6 +1,6 @@
 -- What a session knows of each source that is present, and how many are members and senders (RFC 3550, 6.2.1,
 -- 6.3).
-use Rattle.std.specs.Prelude.{ℕ, ◌≡◌, ◌≤◌, ◌||◌, ◌==◌, ◌&&◌, Bool, true, false, List, [], ◌∷◌, ◌++◌, filter, length, if◌then◌else◌, Option, Some, None, is_some, is_none, option_map}
+use Rattle.std.specs.Prelude.{ℕ, ◌≡◌, ◌≤◌, ◌||◌, ◌==◌, ◌&&◌, Bool, true, false, List, [], ◌∷◌, ◌++◌, filter, length, if◌then◌else◌, Option, Some, None, is_some, is_none, option_map, zero, suc, not}
 use Rattle.rtcp_wire.specs.declared.fact.Fact.{Fact}
 use Rattle.rtcp_wire.specs.declared.fact.Fact.TheVariants.{Told, Named, Media}
 use Rattle.rtcp_clock.specs.Moments.{media_units}
@@ -97,6 +97,20 @@ members_at capacity trace =
 abbrev pub senders_at : (capacity : ℕ) → List TraceStep → ℕ
 senders_at capacity trace =
     length (filter (λ ssrc. is_sender_in ssrc (stay_of capacity trace ssrc)) (names trace))
+
+-- A step concerns one source, or lets some go: so it changes who is a member or who sends exactly where it changes how
+-- many are or do (law `roles_move_with_counts`).
+abbrev pub step_moves : (capacity : ℕ) → TraceStep → List TraceStep → Bool
+step_moves capacity step earlier =
+    not ((members_at capacity (step ∷ earlier) == members_at capacity earlier)
+    && (senders_at capacity (step ∷ earlier) == senders_at capacity earlier))
+
+-- One of the newest steps of a trace, so many of them, does.
+abbrev pub moved_within : (capacity : ℕ) → (steps : ℕ) → List TraceStep → Bool
+moved_within capacity zero trace = false
+moved_within capacity (suc steps) [] = false
+moved_within capacity (suc steps) (step ∷ earlier) =
+    step_moves capacity step earlier || moved_within capacity steps earlier
 
 -- ---- Entries
 

@@ -2,13 +2,14 @@
 use Rattle.std.specs.Prelude.{ℕ, ◌≡◌, ◌<◌, Bool, true, List, [], ◌∷◌, filter, map, Option, Some, None}
 use Rattle.std.specs.FinMap as finite
 use Rattle.rtcp_source.specs.LastBlocks.{LastBlockValue, last_block}
-use Rattle.rtcp_source.specs.Summary.{LastReportValue, last_report_of}
+use Rattle.rtcp_source.specs.Fields.{LastReportValue, last_report_of}
 use Rattle.rtcp_source.specs.Receptions.{ReceptionValue, reception_in, reception_over}
 use Rattle.rtcp_members.specs.Traces.{TraceStep}
 use Rattle.rtcp_members.specs.Stays.{mark_of, before_mark, last_sighting, stay_of}
 use Rattle.rtcp_members.specs.Entries.{entry_of, given_of, is_member, is_sender}
 use Rattle.rtcp_members.specs.Tables.{TableValue}
-use Rattle.rtcp_members.specs.Pending.{EntryRow, is_above, is_after}
+use Rattle.rtcp_members.specs.Pending.{EntryRow, is_above}
+use Rattle.rtcp_members.specs.News.{is_after}
 
 -- What is told of a source.
 pub record StateValue : Type 0 where

@@ -1,14 +1,12 @@
 -- Of which sources a block is due, by the trace of a session, and in which turn they are reported (RFC 3550,
 -- 6.4).
-use Rattle.std.specs.Prelude.{ℕ, ◌&&◌, Bool, false, not, nat_lt, List, [], ◌∷◌, ◌++◌, filter, filter_map, if◌then◌else◌, Option, Some, None, is_none}
+use Rattle.std.specs.Prelude.{ℕ, ◌&&◌, Bool, false, not, nat_lt, List, [], ◌∷◌, ◌++◌, filter, filter_map, if◌then◌else◌, Option, Some, None, is_none, true}
 use Rattle.rtcp_wire.specs.Values.{ReportBlock}
 use Rattle.rtcp_source.specs.Packets.{has_news_since}
-use Rattle.rtcp_source.specs.Blocks.{block_over}
+use Rattle.rtcp_source.specs.Fields.{block_over}
 use Rattle.rtcp_members.specs.Traces.{TraceStep, names}
 use Rattle.rtcp_members.specs.Stays.{mark_of, before_mark, stay_of}
 use Rattle.rtcp_members.specs.Entries.{given_of}
-use Rattle.rtcp_members.specs.Tables.{row_at}
-use Rattle.rtcp_members.specs.Pending.{EntryRow, is_after}
 
 -- Whether a block of a source is due, by its stay: there is one, without a mark, that holds a counted packet
 -- after the source's last block, or at all if there is no block.
@@ -40,17 +38,14 @@ abbrev pub rising : List ℕ → List ℕ
 rising [] = []
 rising (x ∷ xs) = put_rising x (rising xs)
 
--- SSRCs in cyclic turn: those above the last one reported, and then the others
-abbrev pub ssrcs_in_turn : (last : Option ℕ) → List ℕ → List ℕ
-ssrcs_in_turn last ssrcs = filter (is_after last) ssrcs ++ filter (λ ssrc. not (is_after last ssrc)) ssrcs
+-- whether an SSRC stands above the last one reported, if there was one
+abbrev pub is_after : (last : Option ℕ) → (ssrc : ℕ) → Bool
+is_after None ssrc = true
+is_after (Some last) ssrc = nat_lt last ssrc
 
--- The sources that a block is due of, in the turn in which they are reported after the last one that was, if
--- there was one.
+-- The sources that a block is due of, in cyclic turn: those above the last one that was reported, if there was one, and
+-- then the others.
 abbrev pub pending_at : (last : Option ℕ) (capacity : ℕ) → List TraceStep → List ℕ
 pending_at last capacity trace =
-    ssrcs_in_turn last (filter (is_due_by capacity trace) (rising (names trace)))
-
--- The same sources, each with its entry.
-abbrev pub pending_rows_at : (last : Option ℕ) (capacity : ℕ) → List TraceStep → List EntryRow
-pending_rows_at last capacity trace =
-    filter_map (row_at capacity trace) (pending_at last capacity trace)
+    let due = filter (is_due_by capacity trace) (rising (names trace)) in
+    filter (is_after last) due ++ filter (λ ssrc. not (is_after last ssrc)) due

@@ -5,7 +5,9 @@ use Rattle.rtcp_wire.specs.Values.{ReportBlock}
 use Rattle.rtcp_source.specs.Blocks.{block_for, news_of}
 use Rattle.rtcp_source.specs.Steps.{after_block_made}
 use Rattle.rtcp_members.specs.Entries.{EntryValue, is_such}
-use Rattle.rtcp_members.specs.Tables.{TableValue}
+use Rattle.rtcp_members.specs.Tables.{TableValue, row_at}
+use Rattle.rtcp_members.specs.News.{is_after, pending_at}
+use Rattle.rtcp_members.specs.Traces.{TraceStep}
 
 -- an SSRC, and the entry of its source
 abbrev pub EntryRow : Type 0
@@ -24,11 +26,6 @@ is_due_at ssrc table = is_such is_due (finite.get table.entries ssrc)
 -- by rising SSRC, as the map has its entries
 abbrev pub due_rows : TableValue → List EntryRow
 due_rows table = filter (λ row. is_due row.1) (finite.entries table.entries)
-
--- whether an SSRC stands above the last one reported, if there was one
-abbrev pub is_after : (last : Option ℕ) → (ssrc : ℕ) → Bool
-is_after None ssrc = true
-is_after (Some last) ssrc = nat_lt last ssrc
 
 abbrev pub is_above : (last : Option ℕ) → EntryRow → Bool
 is_above last row = is_after last row.0
@@ -81,3 +78,8 @@ after_blocks (row ∷ rows) table = after_blocks rows (after_block row.0 table)
 abbrev pub last_reported : (last : Option ℕ) → List EntryRow → Option ℕ
 last_reported last [] = last
 last_reported last (row ∷ rows) = last_reported (Some row.0) rows
+
+-- The same sources, each with its entry.
+abbrev pub pending_rows_at : (last : Option ℕ) (capacity : ℕ) → List TraceStep → List EntryRow
+pending_rows_at last capacity trace =
+    filter_map (row_at capacity trace) (pending_at last capacity trace)

@@ -46,3 +46,8 @@ names (_ ∷ earlier) = names earlier
 abbrev pub with_facts : List Fact → (moment : ℕ) → List TraceStep → List TraceStep
 with_facts [] moment trace = trace
 with_facts (fact ∷ facts) moment trace = with_facts facts moment (fact_came fact moment ∷ trace)
+
+-- The trace, newest first, with a block of each of the sources, in their order.
+abbrev pub with_blocks : List ℕ → List TraceStep → List TraceStep
+with_blocks [] trace = trace
+with_blocks (ssrc ∷ ssrcs) trace = with_blocks ssrcs (block_made_of ssrc ∷ trace)

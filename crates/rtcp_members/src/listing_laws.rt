@@ -4,7 +4,7 @@ ghost use Rattle.std.specs.Prelude.{◌≡◌, ◌≤◌, ◌==◌, ◌&&◌, �
 ghost use Rattle.rtcp_wire.specs.declared.fact.Fact.{Fact};
 ghost use Rattle.rtcp_members.specs.Traces.{TraceStep, with_facts};
 ghost use Rattle.rtcp_members.specs.Stays.{stay_of};
-ghost use Rattle.rtcp_members.specs.Pending.{is_after};
+ghost use Rattle.rtcp_members.specs.News.{is_after};
 ghost use Rattle.rtcp_members.specs.Tables.{TableValue, StandsAt};
 ghost use Rattle.rtcp_members.specs.Listings.{StateValue, state_above, states_above, RiseAbove, ListsAbove, IsWalk};
 ghost use Rattle.rtcp_members.specs.Past.{CameBy, IsKnownBy};

@@ -6,9 +6,9 @@ ghost use Rattle.rtcp_wire.specs.declared.fact.Fact.TheVariants.{Heard, Named, T
 ghost use Rattle.rtcp_wire.specs.declared.sole.SoleSource.{SoleSource};
 ghost use Rattle.rtcp_wire.specs.Sole.{facts_of_sole, IsSole};
 ghost use Rattle.rtcp_members.specs.Traces.{Horizons, TraceStep, block_made_of, check_made, source_forgotten, with_facts};
-ghost use Rattle.rtcp_members.specs.Entries.{entry_at, members_at};
+ghost use Rattle.rtcp_members.specs.Entries.{entry_at, members_at, step_moves, moved_within};
 ghost use Rattle.rtcp_members.specs.Tables.{TableValue, StandsAt, after_facts};
-ghost use Rattle.rtcp_members.specs.Roles.{IsSameRole, step_moves, moved_within, facts_move, check_moves, forgetting_moves};
+ghost use Rattle.rtcp_members.specs.Roles.{IsSameRole, facts_move, check_moves, forgetting_moves};
 
 /// A step changes who is a member or who sends exactly where it changes how many are members or how many send;
 /// and where none of the newest steps does, who is a member and who sends is as it was before them. A block

@@ -6,8 +6,8 @@ ghost use Rattle.std.specs.FinMap as finite;
 ghost use Rattle.rtcp_members.specs.Traces.{TraceStep};
 ghost use Rattle.rtcp_members.specs.Entries.{is_such, entry_at};
 ghost use Rattle.rtcp_members.specs.Tables.{TableValue, StandsAt};
-ghost use Rattle.rtcp_members.specs.Pending.{EntryRow, first_ssrc, is_due, is_due_at, pending, block_at, block_of_row, blocks_of, after_block};
-ghost use Rattle.rtcp_members.specs.News.{is_due_by, blocks_at, pending_at, pending_rows_at};
+ghost use Rattle.rtcp_members.specs.Pending.{EntryRow, first_ssrc, is_due, is_due_at, pending, block_at, block_of_row, blocks_of, after_block, pending_rows_at};
+ghost use Rattle.rtcp_members.specs.News.{is_due_by, blocks_at, pending_at};
 
 /// The first pending source is in the table, and a block is due of it: the one of its row. So `block_of` may
 /// be called with what `next_with_news` returns.

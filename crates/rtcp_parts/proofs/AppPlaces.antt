@@ -1,7 +1,8 @@
 -- Where the data of an application's packet stand.
 use Rattle.std.proofs.Common.{ℕ, ◌+◌, ◌-◌, List, [], ◌++◌, sym, ap, ◌∙◌, append_assoc, append-nil, refl, arith}
 use Rattle.std.proofs.lemmas.List.{length-append}
-use Rattle.rtcp_wire.specs.Grammar.{IsSpelling, body_of, padding_of, size_of}
+use Rattle.rtcp_wire.specs.Grammar.{IsSpelling}
+use Rattle.rtcp_wire.specs.Readings.{body_of, padding_of, size_of}
 use Rattle.rtcp_wire.specs.Placed.{StandsIn}
 use Rattle.rtcp_wire.specs.Values.{AppValue, RtcpPacket, app}
 use Rattle.rtcp_parts.specs.declared.placed.PlacedApp.{PlacedApp}

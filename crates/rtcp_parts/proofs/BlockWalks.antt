@@ -3,7 +3,8 @@ use Rattle.std.proofs.Common.{inl, inr, ◌≡◌, ◌≢◌, ℕ, ◌+◌, ◌�
 use Rattle.std.proofs.lemmas.List.{drop-drop, drop_at, length-append, take_at}
 use Rattle.byteorder.specs.Endian.{big_number}
 use Rattle.rtcp_wire.specs.Contents.{blocks_by, packet_blocks}
-use Rattle.rtcp_wire.specs.Grammar.{IsBody, Joins, IsBlock, IsReportEnd, IsSpelling, block_in}
+use Rattle.rtcp_wire.specs.Grammar.{IsBody, Joins, IsBlock, IsReportEnd, IsSpelling}
+use Rattle.rtcp_wire.specs.Readings.{block_in}
 use Rattle.rtcp_wire.specs.Views.{block_value}
 use Rattle.rtcp_wire.specs.declared.block.Block.{Block}
 use Rattle.rtcp_wire.specs.Values.{ReportBlock, RtcpPacket, SenderValue, sr, rr, other}

@@ -4,7 +4,8 @@ use Rattle.std.proofs.lemmas.Bool.Decides.{nat_tests}
 use Rattle.std.proofs.lemmas.List.{drop_at, length-append, take_at}
 use Rattle.byteorder.specs.Endian.{big_number}
 use Rattle.rtcp_wire.specs.Contents.{packet_apps, packet_senders}
-use Rattle.rtcp_wire.specs.Grammar.{IsApplication, IsBody, Joins, IsSpelling, sender_in}
+use Rattle.rtcp_wire.specs.Grammar.{IsApplication, IsBody, Joins, IsSpelling}
+use Rattle.rtcp_wire.specs.Readings.{sender_in}
 use Rattle.rtcp_parts.specs.Placed.{PlacesApp}
 use Rattle.rtcp_wire.specs.Values.{AppValue, RtcpPacket, SenderValue, sr, app}
 use Rattle.rtcp_parts.specs.declared.placed.PlacedApp.{PlacedApp}

@@ -2,7 +2,7 @@
 
 ghost use Rattle.std.specs.Prelude.{◌≡◌, ◌≤◌, ◌+◌, ◌<◌, ◌^◌, ℕ, length, true, MatchOption};
 ghost use Rattle.rtcp_wire.specs.Contents.{packet_blocks};
-ghost use Rattle.rtcp_wire.specs.Grammar.{block_in};
+ghost use Rattle.rtcp_wire.specs.Readings.{block_in};
 ghost use Rattle.rtcp_wire.specs.Values.{ReportBlock};
 ghost use Rattle.rtcp_wire.specs.Views.{block_value};
 ghost use Rattle.rtcp_parts.specs.Cursors.{LeavesBlocks, ShowsReported, blocks_place, is_within};

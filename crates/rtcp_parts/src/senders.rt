@@ -3,7 +3,7 @@
 ghost use Rattle.std.specs.Prelude.{◌≤◌, ◌<◌, length, take, MatchOption};
 ghost use Rattle.byteorder.specs.Endian.{big_number};
 ghost use Rattle.rtcp_wire.specs.Contents.{packet_senders};
-ghost use Rattle.rtcp_wire.specs.Grammar.{sender_in};
+ghost use Rattle.rtcp_wire.specs.Readings.{sender_in};
 ghost use Rattle.rtcp_wire.specs.Values.{SenderValue};
 ghost use Rattle.rtcp_parts.specs.Cursors.{LeavesNone};
 ghost use Rattle.rtcp_parts.specs.Senders.{ShowsSender};

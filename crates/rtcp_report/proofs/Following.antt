@@ -1,13 +1,12 @@
 -- A table after the blocks of a report.
 use Rattle.std.proofs.Common.{◌≡◌, ℕ, List, [], ◌∷◌, ◌++◌, Option, Some, IsTrue, drop, length, map, sym}
 use Rattle.std.proofs.lemmas.List.{take-append-drop}
-use Rattle.rtcp_members.specs.Traces.{TraceStep, block_made_of}
+use Rattle.rtcp_members.specs.Traces.{TraceStep, block_made_of, with_blocks}
 use Rattle.rtcp_members.specs.Tables.{TableValue, StandsAt, HasFew}
 use Rattle.rtcp_members.specs.Pending.{EntryRow, is_due_at, pending, after_block, after_blocks}
 use Rattle.rtcp_members.proofs.LawLemmas.{first_is_due-due, others_stay_pending, tables_follow_traces-block, packets_are_few-block}
 use Rattle.rtcp_report.specs.Reports.{Reporter}
 use Rattle.rtcp_report.specs.Sizes.{block_count, reported_rows}
-use Rattle.rtcp_report.specs.Traced.{with_blocks}
 
 -- Blocks give no packet.
 pub few_after_blocks : (packets : ℕ) (rows : List EntryRow) (table : TableValue) → HasFew packets table →

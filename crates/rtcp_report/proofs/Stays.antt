@@ -2,8 +2,8 @@
 use Rattle.std.proofs.Common.{◌≡◌, ℕ, List, length, map, take, Option, sym, ap, ◌∙◌}
 use Rattle.std.proofs.lemmas.List.{length-map}
 use Rattle.rtcp_members.specs.Traces.{TraceStep}
-use Rattle.rtcp_members.specs.Pending.{EntryRow, blocks_of}
-use Rattle.rtcp_members.specs.News.{blocks_at, pending_at, pending_rows_at}
+use Rattle.rtcp_members.specs.Pending.{EntryRow, blocks_of, pending_rows_at}
+use Rattle.rtcp_members.specs.News.{blocks_at, pending_at}
 use Rattle.rtcp_members.proofs.LawLemmas.{rows_are_of_stays-all, rows_are_of_stays-sources, rows_are_of_stays-blocks}
 use Rattle.rtcp_report.specs.Reports.{Reporter}
 use Rattle.rtcp_report.specs.Sizes.{block_count, fitting}

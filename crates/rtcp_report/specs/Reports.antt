@@ -1,6 +1,7 @@
 -- The packets of a compound report (RFC 3550, 6.1, 6.4, 6.5).
 use Rattle.std.specs.Prelude.{ℕ, zero, suc, ◌-◌, ◌/◌, List, [], ◌∷◌, ◌++◌, length, take, drop, Option, Some, None}
 use Rattle.rtcp_wire.specs.Values.{ReportBlock, ItemValue, RtcpPacket, rr, sr, sdes, bye}
+use Rattle.std.specs.Option.{option_to_list}
 
 -- What a sender's report says beside its SSRC (6.4.1).
 pub record SentValue : Type 0 where
@@ -18,6 +19,10 @@ pub record Reporter : Type 0 where
 -- the item that names a source (6.5.1)
 abbrev pub cname_item : List ℕ → ItemValue
 cname_item text = record { kind = 1; text = text }
+
+-- the items that describe a sender: its CNAME, and then the extra one
+abbrev pub items_of : (cname : List ℕ) → Option ItemValue → List ItemValue
+items_of cname extra = cname_item cname ∷ option_to_list extra
 
 -- a sender's report, or a receiver's
 abbrev pub report_with : (ssrc : ℕ) → Option SentValue → List ReportBlock → RtcpPacket

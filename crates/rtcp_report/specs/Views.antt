@@ -7,6 +7,7 @@ use Rattle.rtcp_report.specs.declared.sender.Sender.{Sender}
 use Rattle.rtcp_report.specs.declared.sender.SrPart.{SrPart}
 use Rattle.rtcp_report.specs.declared.sender.Item.{Item}
 use Rattle.rtcp_report.specs.Reports.{SentValue, Reporter, cname_item}
+pub use Rattle.rtcp_report.specs.Reports.{items_of}
 
 abbrev pub sent_value : SrPart → SentValue
 sent_value s = record { ntp = s.ntp; rtp = s.rtp; packets = s.packets; octets = s.octets }
@@ -16,10 +17,6 @@ item_value i = record { kind = i.kind; text = i.text.items }
 
 abbrev pub extra_of : Option (Bor Item) → Option ItemValue
 extra_of extra = option_map item_value (option_copied extra)
-
--- the items that describe a sender: its CNAME, and then the extra one
-abbrev pub items_of : (cname : List ℕ) → Option ItemValue → List ItemValue
-items_of cname extra = cname_item cname ∷ option_to_list extra
 
 abbrev pub reporter_with : Sender → List ItemValue → Reporter
 reporter_with s items = record { ssrc = s.ssrc; sent = option_map sent_value s.sr; items = items }

@@ -4,9 +4,9 @@ ghost use Rattle.std.specs.Prelude.{◌≡◌, ◌+◌, ◌*◌, ◌<◌, ◌≤
 ghost use Rattle.std.specs.Option.{ForSome};
 ghost use Rattle.rtcp_wire.specs.Writing.{written_all, IsWritableItem};
 ghost use Rattle.rtcp_report.specs.Gathered.{IsReport};
-ghost use Rattle.rtcp_report.specs.Reports.{Reporter, further_count, packets_with};
+ghost use Rattle.rtcp_report.specs.Reports.{Reporter, further_count, packets_with, items_of};
 ghost use Rattle.rtcp_report.specs.Sizes.{first_report_size};
-ghost use Rattle.rtcp_report.specs.Views.{items_of, extra_of, reporter_of, sent_value};
+ghost use Rattle.rtcp_report.specs.Views.{extra_of, reporter_of, sent_value};
 
 use crate::description::{description_size, put_description};
 use crate::reports::{BLOCK_SIZE, BLOCKS_OF_PACKET, RECEIVER_SIZE, SENDER_SIZE, put_reports};

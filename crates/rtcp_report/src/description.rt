@@ -5,9 +5,9 @@ ghost use Rattle.std.specs.List.{flat_map};
 ghost use Rattle.std.specs.Option.{ForSome};
 ghost use Rattle.rtcp_wire.specs.Puts.{IsPut};
 ghost use Rattle.rtcp_wire.specs.Writing.{written, written_item, IsWritableItem};
-ghost use Rattle.rtcp_report.specs.Reports.{description_of, receiver_with};
+ghost use Rattle.rtcp_report.specs.Reports.{description_of, receiver_with, items_of};
 ghost use Rattle.rtcp_report.specs.Sizes.{description_size, item_size};
-ghost use Rattle.rtcp_report.specs.Views.{items_of, extra_of};
+ghost use Rattle.rtcp_report.specs.Views.{extra_of};
 
 use crate::sender::Item;
 use rtcp_wire::layout::{HEADER_SIZE, ID_SIZE, SOURCE_DESCRIPTION, WORD_SIZE};

@@ -3,14 +3,12 @@
 ghost use Rattle.std.specs.Prelude.{◌≡◌, ◌==◌, ◌≤◌, ℕ, List, Option, count_by, length, map};
 ghost use Rattle.rtcp_wire.specs.Values.{ReportBlock, ItemValue};
 ghost use Rattle.rtcp_wire.specs.Writing.{written_all};
-ghost use Rattle.rtcp_members.specs.Traces.{TraceStep};
+ghost use Rattle.rtcp_members.specs.Traces.{TraceStep, with_blocks};
 ghost use Rattle.rtcp_members.specs.Tables.{TableValue, StandsAt, HasFew};
-ghost use Rattle.rtcp_members.specs.Pending.{EntryRow, blocks_of, after_blocks};
-ghost use Rattle.rtcp_members.specs.News.{blocks_at, pending_at, pending_rows_at};
-ghost use Rattle.rtcp_report.specs.Reports.{SentValue, Reporter, packets_with, bye_of};
+ghost use Rattle.rtcp_members.specs.Pending.{EntryRow, blocks_of, after_blocks, pending_rows_at};
+ghost use Rattle.rtcp_members.specs.News.{blocks_at, pending_at};
+ghost use Rattle.rtcp_report.specs.Reports.{SentValue, Reporter, packets_with, bye_of, items_of};
 ghost use Rattle.rtcp_report.specs.Sizes.{report_size, IsShort, fitting, reported_rows, IsLongestFitting};
-ghost use Rattle.rtcp_report.specs.Traced.{with_blocks};
-ghost use Rattle.rtcp_report.specs.Views.{items_of};
 
 /// The sources of a report are the longest prefix of the pending ones that fits, where a report without
 /// blocks fits: none is left out that fits. There is one such prefix.

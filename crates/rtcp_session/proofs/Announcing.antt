@@ -7,8 +7,7 @@ use Rattle.rtcp_wire.specs.declared.fact.Fact.TheVariants.{Named}
 use Rattle.rtcp_wire.specs.Values.{ItemValue, ReportBlock, RtcpPacket}
 use Rattle.rtcp_wire.specs.Facts.{facts_of, facts_of_packet}
 use Rattle.rtcp_members.specs.News.{blocks_at}
-use Rattle.rtcp_report.specs.Reports.{SentValue, Reporter, reports_with, description_of, packets_with}
-use Rattle.rtcp_report.specs.Views.{items_of}
+use Rattle.rtcp_report.specs.Reports.{SentValue, Reporter, reports_with, description_of, packets_with, items_of}
 use Rattle.rtcp_engine.specs.declared.changes.IdentifierChange.{IdentifierChange}
 use Rattle.rtcp_engine.specs.answers.Setups.{Setup}
 use Rattle.rtcp_engine.specs.answers.Acts.{Act, ticked}

@@ -15,14 +15,13 @@ use Rattle.rtcp_members.proofs.Lasting.{stay_of_member}
 use Rattle.rtcp_members.proofs.LawLemmas.{present_were_named_and_fit-named}
 use Rattle.rtcp_engine.specs.answers.Setups.{Setup}
 use Rattle.rtcp_engine.specs.answers.Acts.{Act, arrived, rtcp, rtp, rtp_sent, ticked, left, configured, forgotten, moment_of}
-use Rattle.rtcp_engine.specs.answers.Identities.{is_among, with_ssrc}
 use Rattle.rtcp_engine.specs.answers.Outcomes.{Outcome, check_interval, member_count}
 use Rattle.rtcp_engine.specs.answers.Arrivals.{after, with_change, facts_of_media, media_fact, rate_of}
 use Rattle.rtcp_engine.specs.answers.Ticks.{checked, after_tick, has_come, has_passed, horizons_of, put_off, reported}
 use Rattle.rtcp_engine.specs.answers.Reporting.{reported_at}
 use Rattle.rtcp_engine.specs.answers.Leaving.{Backoff, Life, present, backing_off, finished, after_own_bye, counted_anew, few_members, is_bye_due, left_at, sent_nothing}
 use Rattle.rtcp_engine.specs.answers.Lives.{lived, members_in_life, with_new_ssrc}
-use Rattle.rtcp_engine.specs.answers.Changes.{NewIdentifier, Session, change_by, changed_by}
+use Rattle.rtcp_engine.specs.answers.Changes.{NewIdentifier, Session, change_by, changed_by, is_among, with_ssrc}
 use Rattle.rtcp_engine.specs.answers.Histories.{History, life_at, session_at, session_for, session_of, setup_at, with_act}
 use Rattle.rtcp_engine.specs.bounds.InTime.{is_fall, recounted_by}
 use Rattle.rtcp_engine.specs.bounds.Sent.{reports_in, sent_at}

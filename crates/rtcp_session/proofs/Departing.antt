@@ -5,12 +5,11 @@ use Rattle.std.specs.List.{list_any}
 use Rattle.std.proofs.lemmas.Bool.{ltb-false, or_parts, or_right}
 use Rattle.rtcp_wire.specs.declared.fact.Fact.{Fact}
 use Rattle.rtcp_wire.specs.Facts.{subject, is_gone}
-use Rattle.rtcp_members.specs.Traces.{Horizons, TraceStep, fact_came, check_made, block_made_of, source_forgotten, names, with_facts}
+use Rattle.rtcp_members.specs.Traces.{Horizons, TraceStep, fact_came, check_made, block_made_of, source_forgotten, names, with_facts, with_blocks}
 use Rattle.rtcp_members.specs.Stays.{mark_at, mark_of, ends_stay, is_removed, last_naming, stay_of, stay_with}
 use Rattle.rtcp_members.specs.Entries.{count_at, entry_of, entry_at, is_member, is_such, members_at}
 use Rattle.rtcp_members.proofs.Lasting.{all_before, member_on, naming_of_stay, stay_of_member}
 use Rattle.rtcp_members.proofs.LawLemmas.{counts_are_of_entries-members, present_were_named_and_fit-named, roles_move_with_counts-block, roles_move_with_counts-kept}
-use Rattle.rtcp_report.specs.Traced.{with_blocks}
 
 -- whether one of these facts says that a source left
 abbrev pub says_bye_among : (ssrc : ℕ) → List Fact → Bool

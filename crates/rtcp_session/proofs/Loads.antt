@@ -14,9 +14,8 @@ use Rattle.rtcp_members.specs.Entries.{members_at, senders_at}
 use Rattle.rtcp_members.specs.Tables.{table_at}
 use Rattle.rtcp_members.specs.News.{blocks_at}
 use Rattle.rtcp_members.proofs.LawLemmas.{trace_has_one_table-stands, counts_agree-members, counts_agree-senders, counts_are_ordered-senders}
-use Rattle.rtcp_report.specs.Reports.{SentValue, cname_item, receiver_named, bye_packet, packets_with}
+use Rattle.rtcp_report.specs.Reports.{SentValue, cname_item, receiver_named, bye_packet, packets_with, items_of}
 use Rattle.rtcp_report.specs.Sizes.{first_report_size, description_size, item_size}
-use Rattle.rtcp_report.specs.Views.{items_of}
 use Rattle.rtcp_report.proofs.LawLemmas.{size_is_that_of_the_octets}
 use Rattle.rtcp_timer.specs.declared.load.Load.{Load}
 use Rattle.rtcp_timer.specs.Averages.{with_headers, average_of}

@@ -4,12 +4,11 @@ use Rattle.std.proofs.lemmas.Bool.{cond_both, le-ltb}
 use Rattle.rtcp_members.specs.Entries.{members_at}
 use Rattle.rtcp_engine.specs.answers.Setups.{Setup}
 use Rattle.rtcp_engine.specs.answers.Acts.{Act, arrived, rtcp, rtp, rtp_sent, ticked, left, configured, forgotten, moment_of}
-use Rattle.rtcp_engine.specs.answers.Identities.{with_ssrc}
 use Rattle.rtcp_engine.specs.answers.Arrivals.{after}
 use Rattle.rtcp_engine.specs.answers.Outcomes.{Outcome, member_count}
 use Rattle.rtcp_engine.specs.answers.Leaving.{Backoff, Life, present, backing_off, finished, few_members, is_bye_due, sent_nothing}
 use Rattle.rtcp_engine.specs.answers.Lives.{lived, with_new_ssrc}
-use Rattle.rtcp_engine.specs.answers.Changes.{NewIdentifier, Session, change_by, changed_by}
+use Rattle.rtcp_engine.specs.answers.Changes.{NewIdentifier, Session, change_by, changed_by, with_ssrc}
 use Rattle.rtcp_engine.specs.answers.Histories.{History, last_moment, life_at, session_at, session_for, setup_after, setup_at}
 use Rattle.rtcp_engine.specs.bounds.Hearing.{with_acts}
 use Rattle.rtcp_engine.specs.bounds.Sent.{reports_in, sent_at}

@@ -8,7 +8,7 @@ use Rattle.rtcp_members.specs.Stays.{last_naming}
 use Rattle.rtcp_members.specs.Entries.{entry_at, is_member, is_such, members_at}
 use Rattle.rtcp_engine.specs.answers.Setups.{Setup}
 use Rattle.rtcp_engine.specs.answers.Acts.{Act, arrived, rtcp, ticked, forgotten, moment_of}
-use Rattle.rtcp_engine.specs.answers.Identities.{is_among}
+use Rattle.rtcp_engine.specs.answers.Changes.{is_among}
 use Rattle.rtcp_engine.specs.answers.Arrivals.{after}
 use Rattle.rtcp_engine.specs.answers.Outcomes.{Outcome, check_interval, is_initial}
 use Rattle.rtcp_engine.specs.answers.Ticks.{checked}

@@ -5,7 +5,7 @@ use Rattle.std.proofs.lemmas.Bool.Decides.{nat_tests}
 use Rattle.rtcp_engine.specs.answers.Leaving.{Life, present, backing_off, finished}
 use Rattle.rtcp_engine.specs.answers.Lives.{WalksInLife}
 use Rattle.rtcp_engine.specs.answers.Setups.{Setup}
-use Rattle.rtcp_members.specs.Pending.{is_after}
+use Rattle.rtcp_members.specs.News.{is_after}
 use Rattle.rtcp_members.specs.Stays.{stay_of}
 use Rattle.rtcp_members.specs.Listings.{IsWalk, StateValue, state_in_stay}
 use Rattle.rtcp_members.specs.Traces.{TraceStep}

@@ -3,7 +3,7 @@
 ghost use Rattle.std.specs.Prelude.{◌≡◌, ◌≤◌, [], ◌∷◌, ℕ, OnOk, Some, false, true, flat_map, if◌then◌else◌, nat_eq, unwrap_or};
 ghost use Rattle.rtcp_engine.specs.answers.Histories.{History, setup_at};
 ghost use Rattle.rtcp_engine.specs.state.States.{StandsAt};
-ghost use Rattle.rtcp_members.specs.Pending.{is_after};
+ghost use Rattle.rtcp_members.specs.News.{is_after};
 ghost use Rattle.rtcp_wire.specs.About.{blocks_about};
 ghost use Rattle.rtcp_wire.specs.Views.{block_value, packet_value};
 ghost use Rattle.rtcp_wire.specs.WriterViews.{item_ref_of};

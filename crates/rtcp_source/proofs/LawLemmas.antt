@@ -2,8 +2,9 @@
 use Rattle.std.proofs.Common.{◌≡◌, ℕ, ◌+◌, ◌-◌, ◌%◌, ◌^◌, ◌<◌, unsigned_abs, List, rules}
 use Rattle.std.specs.Int.{cast_signed, w32}
 use Rattle.rtcp_source.specs.Packets.{Given, taken_in, run_of, newest, PacketRun}
-use Rattle.rtcp_source.specs.Summary.{summary_of, last_report_of, transit_distance}
-use Rattle.rtcp_source.specs.Blocks.{block_for, block_over}
+use Rattle.rtcp_source.specs.Summary.{summary_of}
+use Rattle.rtcp_source.specs.Fields.{transit_distance, last_report_of, block_over}
+use Rattle.rtcp_source.specs.Blocks.{block_for}
 use Rattle.rtcp_source.specs.Receptions.{reception_in, reception_over}
 use Rattle.rtcp_source.specs.Steps.{taken_by}
 use Rattle.rtcp_source.proofs.Summing.{same_taken, same_block, same_reception}

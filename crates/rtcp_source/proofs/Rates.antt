@@ -4,7 +4,8 @@ use Rattle.std.proofs.lemmas.Bool.{eq-eqb}
 use Rattle.rtcp_source.specs.declared.taken.Taken.{Taken}
 use Rattle.rtcp_source.specs.declared.taken.Taken.TheVariants.{Probation, Counted, Became, Restarted, Bad}
 use Rattle.rtcp_source.specs.Packets.{Given, packet_came, report_came, block_made, CountedPacket, PacketRun, run_of, run_with, taken_in, transit_of}
-use Rattle.rtcp_source.specs.Summary.{HasOneRate, interarrival_jitter, jitter_of, jitter_on, jitter_with, since_change, transit_distance}
+use Rattle.rtcp_source.specs.Summary.{HasOneRate, interarrival_jitter, since_change}
+use Rattle.rtcp_source.specs.Fields.{jitter_of, jitter_on, jitter_with, transit_distance}
 
 -- a packet more before those of one rate
 one_before : (p q : CountedPacket) (earlier : List CountedPacket)

@@ -4,7 +4,8 @@ use Rattle.rtcp_source.specs.declared.taken.Taken.{Taken}
 use Rattle.rtcp_source.specs.declared.taken.Taken.TheVariants.{Probation, Counted, Became, Restarted, Bad}
 use Rattle.rtcp_source.specs.Packets.{Given, packet_came, block_made, CountedPacket, PacketRun, is_near, follows, newest, taken_in, run_with, transit_of, run_of, greatest_ordinal}
 use Rattle.rtcp_source.specs.LastBlocks.{LastBlockValue, last_block, said_of}
-use Rattle.rtcp_source.specs.Summary.{LastReportValue, SourceValue, numbers_of, packet_count, last_report_of, summary_of, StandsAt}
+use Rattle.rtcp_source.specs.Summary.{SourceValue, numbers_of, packet_count, summary_of, StandsAt}
+use Rattle.rtcp_source.specs.Fields.{LastReportValue, last_report_of}
 use Rattle.rtcp_source.specs.Steps.{taken_by, source_with, after_packet, run_reported, said_in, after_block_made}
 
 -- what is kept that no packet changes: the last sender report, and what the last block said

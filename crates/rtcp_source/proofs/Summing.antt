@@ -3,8 +3,9 @@ use Rattle.std.proofs.Common.{◌≡◌, ℕ, List, [], ◌∷◌, Option, Some,
 use Rattle.rtcp_wire.specs.Values.{ReportBlock}
 use Rattle.rtcp_source.specs.Packets.{Given, CountedPacket, PacketRun, greatest_of, taken_as, run_of}
 use Rattle.rtcp_source.specs.LastBlocks.{said_of}
-use Rattle.rtcp_source.specs.Summary.{LastReportValue, SourceValue, numbers_of, last_report_of, StandsAt}
-use Rattle.rtcp_source.specs.Blocks.{block_for, block_over, lsr_of, dlsr_of, block_of_packets, where_counted, block_of_run}
+use Rattle.rtcp_source.specs.Summary.{SourceValue, numbers_of, StandsAt}
+use Rattle.rtcp_source.specs.Fields.{LastReportValue, last_report_of, lsr_of, dlsr_of, block_over, block_of_packets, where_counted}
+use Rattle.rtcp_source.specs.Blocks.{block_for, block_of_run}
 use Rattle.rtcp_source.specs.Receptions.{reception_where, reception_of_run, figures_of, figures_in, said_by}
 use Rattle.rtcp_source.specs.Steps.{greatest_in}
 

@@ -1,5 +1,6 @@
 pub mod Packets
 pub mod Integers
+pub mod Fields
 pub mod LastBlocks
 pub mod Summary
 pub mod Blocks

@@ -3,9 +3,10 @@
 use Rattle.std.specs.Prelude.{ℕ, ℤ, ◌/◌, List, [], ◌∷◌, length, Option, Some, None, option_map}
 use Rattle.rtcp_wire.specs.Values.{ReportBlock}
 use Rattle.rtcp_source.specs.Packets.{Given, CountedPacket, greatest_ordinal, run_of}
-use Rattle.rtcp_source.specs.LastBlocks.{LastBlockValue, expected_of, highest_of}
-use Rattle.rtcp_source.specs.Summary.{RunValue, SourceValue, jitter_of, octets_of}
-use Rattle.rtcp_source.specs.Blocks.{lost_of, expected_in}
+use Rattle.rtcp_source.specs.LastBlocks.{LastBlockValue}
+use Rattle.rtcp_source.specs.Fields.{expected_of, lost_of, highest_of, jitter_of}
+use Rattle.rtcp_source.specs.Summary.{RunValue, SourceValue, octets_of}
+use Rattle.rtcp_source.specs.Blocks.{expected_in}
 
 pub record ReceptionValue : Type 0 where
   -- how many packets were counted in the last run

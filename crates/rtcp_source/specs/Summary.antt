@@ -1,7 +1,8 @@
 -- What is kept of what a source was given: counts, extremes and folds of the lists of its last run.
 use Rattle.std.specs.Prelude.{◌≡◌, ◌==◌, ℕ, ◌+◌, ◌-◌, ◌/◌, ◌%◌, ◌^◌, min, Bool, if◌then◌else◌, List, [], ◌∷◌, length, Option, Some, None}
 use Rattle.rtcp_source.specs.Packets.{Given, packet_came, report_came, block_made, CountedPacket, greatest_ordinal, first_ordinal, newest, run_of}
-use Rattle.rtcp_source.specs.LastBlocks.{LastBlockValue, expected_of, last_block}
+use Rattle.rtcp_source.specs.LastBlocks.{LastBlockValue, last_block}
+use Rattle.rtcp_source.specs.Fields.{expected_of, LastReportValue, jitter_of, jitter_with, last_report_of, transit_distance}
 
 -- A run in numbers.
 pub record RunValue : Type 0 where
@@ -21,12 +22,6 @@ pub record RunValue : Type 0 where
   -- how many octets of payload were counted in it, modulo 2^64
   pub octets : ℕ
 
--- The last sender report: its NTP timestamp, its RTP timestamp, and the moment at which it came.
-pub record LastReportValue : Type 0 where
-  pub ntp : ℕ
-  pub rtp : ℕ
-  pub moment : ℕ
-
 pub record SourceValue : Type 0 where
   -- how many packets were given
   pub packets : ℕ
@@ -39,28 +34,6 @@ pub record SourceValue : Type 0 where
   pub last_block : Option LastBlockValue
 
 -- ---- Jitter and octets of a run
-
--- The distance of two transits, whose difference is a signed number of 32 bits.
-abbrev pub transit_distance : (transit before : ℕ) → ℕ
-transit_distance transit before =
-    min ((transit + 2 ^ 32 - before) % 2 ^ 32) ((before + 2 ^ 32 - transit) % 2 ^ 32)
-
--- The jitter after one more distance (6.4.1, A.8): j + d - (j + 8) / 16.
-abbrev pub jitter_with : (jitter distance : ℕ) → ℕ
-jitter_with jitter distance = jitter + distance - (jitter + 8) / 16
-
--- The jitter with one packet more, whose clock has the rate of the one before it, or not. Transits in units of two
--- clocks have no distance: with the first packet of another rate the jitter begins anew, in its units (RFC 7160, 4.3).
-abbrev pub jitter_on : (same_rate : Bool) (jitter distance : ℕ) → ℕ
-jitter_on same_rate jitter distance = if same_rate then jitter_with jitter distance else 0
-
--- The jitter of a run: folded from 0 over the distances of successive transits. That it returns to 0 at a
--- restart is this project's choice: A.1 leaves it open.
-abbrev pub jitter_of : List CountedPacket → ℕ
-jitter_of [] = 0
-jitter_of (p ∷ []) = 0
-jitter_of (p ∷ q ∷ earlier) =
-    jitter_on (p.rate == q.rate) (jitter_of (q ∷ earlier)) (transit_distance p.transit q.transit)
 
 -- The same in other words: the jitter is that of RFC 3550 (A.8), of the newest packets that have one rate.
 abbrev pub interarrival_jitter : List CountedPacket → ℕ
@@ -112,11 +85,6 @@ abbrev pub packet_count : List Given → ℕ
 packet_count [] = 0
 packet_count (packet_came seq timestamp arrival octets rate ∷ given) = packet_count given + 1
 packet_count (_ ∷ given) = packet_count given
-
-abbrev pub last_report_of : List Given → Option LastReportValue
-last_report_of [] = None
-last_report_of (report_came ntp rtp moment ∷ given) = Some (record { ntp = ntp; rtp = rtp; moment = moment })
-last_report_of (_ ∷ given) = last_report_of given
 
 abbrev pub summary_of : List Given → SourceValue
 summary_of given =

@@ -5,7 +5,8 @@ use Rattle.rtcp_source.specs.declared.reception.LastReport.{LastReport}
 use Rattle.rtcp_source.specs.declared.reception.LastBlock.{LastBlock}
 use Rattle.rtcp_source.specs.declared.reception.Reception.{Reception}
 use Rattle.rtcp_source.specs.LastBlocks.{LastBlockValue}
-use Rattle.rtcp_source.specs.Summary.{RunValue, LastReportValue}
+use Rattle.rtcp_source.specs.Summary.{RunValue}
+use Rattle.rtcp_source.specs.Fields.{LastReportValue}
 use Rattle.rtcp_source.specs.Receptions.{ReceptionValue}
 
 abbrev pub run_value : Run → RunValue

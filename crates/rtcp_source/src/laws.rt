@@ -7,10 +7,11 @@ ghost use Rattle.rtcp_source.specs.declared.taken.Taken.TheVariants.{Counted};
 ghost use Rattle.rtcp_source.specs.Packets.{Given, CountedPacket, packet_came, report_came, block_made, HasCounted, packet_at, with_counted, greatest_ordinal, is_near, ordinal_near, taken_in, transit_of, run_of, has_news_since};
 ghost use Rattle.rtcp_source.specs.Integers.{IsIntegerNear, HasIntegerNear, HasOrdinalNear, IsOrdinalOfInteger, ordinal_of, greatest_integer};
 ghost use Rattle.rtcp_source.specs.LastBlocks.{last_block};
-ghost use Rattle.rtcp_source.specs.Blocks.{block_for, block_over, lsr_of, dlsr_of, news_of};
+ghost use Rattle.rtcp_source.specs.Blocks.{block_for, news_of};
 ghost use Rattle.rtcp_source.specs.Receptions.{reception_in, reception_over, figures_of, figures_in, said_by};
 ghost use Rattle.rtcp_source.specs.Steps.{no_source, taken_by, after_packet, after_report_came, after_block_made};
-ghost use Rattle.rtcp_source.specs.Summary.{summary_of, last_report_of, transit_distance, HasOneRate, interarrival_jitter, jitter_of, since_change};
+ghost use Rattle.rtcp_source.specs.Summary.{summary_of, HasOneRate, interarrival_jitter, since_change};
+ghost use Rattle.rtcp_source.specs.Fields.{transit_distance, jitter_of, last_report_of, lsr_of, dlsr_of, block_over};
 
 /// What is kept of a source gives the same results as the list of all that it was given: what a packet is,
 /// whether there is news, how its packets are received, and the report block.

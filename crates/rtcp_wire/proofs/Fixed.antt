@@ -3,7 +3,8 @@ use Rattle.std.proofs.Common.{◌≡◌, ℕ, zero, suc, ◌+◌, ◌*◌, List,
 use Rattle.std.proofs.Math.Nat.{mul-zero, mul-suc}
 use Rattle.std.proofs.lemmas.List.{take-append-drop, length-drop, length-take-le, nil_from_length, get_or-take}
 use Rattle.byteorder.specs.Endian.{big_number}
-use Rattle.rtcp_wire.specs.Grammar.{Joins, block_in, IsBlock, IsId}
+use Rattle.rtcp_wire.specs.Grammar.{Joins, IsBlock, IsId}
+use Rattle.rtcp_wire.specs.Readings.{block_in}
 use Rattle.rtcp_wire.proofs.Joining.{IsPrefixFree}
 use Rattle.rtcp_wire.proofs.Prefixes.{same_prefixes, length_parts}
 

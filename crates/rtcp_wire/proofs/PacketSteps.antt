@@ -2,10 +2,9 @@
 use Rattle.std.proofs.Common.{◌≡◌, ◌≢◌, ℕ, ◌*◌, ◌≤◌, List, [], ◌∷◌, ◌++◌, length, take, drop, refl, sym, ap, subst, ◌∙◌, arith}
 use Rattle.std.proofs.lemmas.List.{length-append}
 use Rattle.rtcp_wire.specs.Values.{RtcpPacket, bye}
-use Rattle.rtcp_wire.specs.Grammar.{Joins, type_of, count_of, size_of, body_of, IsReasonPart, IsBody, IsSpelling}
-use Rattle.rtcp_wire.specs.Faults.{least_size}
+use Rattle.rtcp_wire.specs.Grammar.{Joins, IsReasonPart, IsBody, IsSpelling}
+use Rattle.rtcp_wire.specs.Readings.{type_of, count_of, size_of, body_of, least_size, packet_in, packets_in}
 use Rattle.rtcp_wire.specs.Validity.{IsSomeReason, IsSomeBody}
-use Rattle.rtcp_wire.specs.Walks.{packet_in, packets_in}
 use Rattle.rtcp_wire.proofs.Bodies.{body_room}
 use Rattle.rtcp_wire.proofs.BodyFaults.{after_ids}
 use Rattle.rtcp_wire.proofs.ReadingWalks.{first_part, other_part, packet_read, walk_reads}

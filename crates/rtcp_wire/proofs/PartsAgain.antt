@@ -7,7 +7,8 @@ use Rattle.std.proofs.lemmas.Int.{ints}
 use Rattle.std.proofs.lemmas.List.{length-append}
 use Rattle.byteorder.specs.Endian.{big_number, twos_complement}
 use Rattle.rtcp_wire.specs.Values.{SenderValue, ReportBlock, ItemValue, ChunkValue}
-use Rattle.rtcp_wire.specs.Grammar.{AreOctets, block_in, sender_in, IsBlock, IsId, IsItem, IsChunk, IsReasonPart, IsReportEnd}
+use Rattle.rtcp_wire.specs.Grammar.{AreOctets, IsBlock, IsId, IsItem, IsChunk, IsReasonPart, IsReportEnd}
+use Rattle.rtcp_wire.specs.Readings.{block_in, sender_in}
 use Rattle.rtcp_wire.specs.Writing.{fill_after, written_block, written_item, written_chunk, written_reason, IsWritableBlock, IsWritableItem, IsWritableChunk, IsWritableReason, IsWritableEnd, IsBlockInRange, IsSenderInRange, IsChunkInRange}
 use Rattle.rtcp_wire.proofs.Appending.{same_size}
 use Rattle.rtcp_wire.proofs.Fixed.{fixed_length}

@@ -6,11 +6,10 @@ use Rattle.rtcp_wire.specs.declared.fault.FaultReason.{FaultReason}
 use Rattle.rtcp_wire.specs.declared.fault.FaultReason.TheVariants.{Reason}
 use Rattle.rtcp_wire.specs.Values.{ItemValue, ChunkValue}
 use Rattle.rtcp_wire.specs.Grammar.{Joins, IsItem, IsChunk}
-use Rattle.rtcp_wire.specs.Faults.{least_size, IsCut, IsNoReason, FindsInBody}
+use Rattle.rtcp_wire.specs.Faults.{IsCut, IsNoReason, FindsInBody}
 use Rattle.rtcp_wire.specs.Parts.{EndsInChunk}
-use Rattle.rtcp_wire.specs.Readings.{do_items_end, chunks_fault, is_reason_wrong, body_fault}
+use Rattle.rtcp_wire.specs.Readings.{do_items_end, chunks_fault, is_reason_wrong, body_fault, least_size, chunk_in, chunk_size}
 use Rattle.rtcp_wire.specs.Validity.{IsSomeBody}
-use Rattle.rtcp_wire.specs.Walks.{chunk_in, chunk_size}
 use Rattle.rtcp_wire.proofs.Prefixes.{cons_not_nil}
 use Rattle.rtcp_wire.proofs.ReadingWalks.{other_part, chunk_parts, after_chunk}
 use Rattle.rtcp_wire.proofs.Passing.{HasTakenChunks, no_chunk_taken, chunk_taken, all_chunks, chunks_beside, chunks_inside, chunk_from}

@@ -7,12 +7,11 @@ use Rattle.rtcp_wire.specs.declared.fault.FaultReason.{FaultReason}
 use Rattle.rtcp_wire.specs.declared.fault.FaultReason.TheVariants.{Short, Padding}
 use Rattle.rtcp_wire.specs.declared.fault.WireFault.{WireFault}
 use Rattle.rtcp_wire.specs.Values.{RtcpPacket}
-use Rattle.rtcp_wire.specs.Grammar.{version_of, is_padded, count_of, type_of, size_of, padding_of, body_of, IsPadding, IsAccepted}
+use Rattle.rtcp_wire.specs.Grammar.{IsPadding, IsAccepted}
 use Rattle.rtcp_wire.specs.Faults.{IsFirstFound, MayStand, IsFirstFault}
 use Rattle.rtcp_wire.specs.Parts.{IsWhole}
-use Rattle.rtcp_wire.specs.Readings.{is_report, is_padding_right, body_fault, packet_fault, fault_after, rtcp_in}
+use Rattle.rtcp_wire.specs.Readings.{is_report, is_padding_right, body_fault, packet_fault, fault_after, rtcp_in, version_of, is_padded, count_of, type_of, size_of, padding_of, body_of, packets_in}
 use Rattle.rtcp_wire.specs.Validity.{IsSomeDatagram}
-use Rattle.rtcp_wire.specs.Walks.{packets_in}
 use Rattle.rtcp_wire.proofs.PacketOrFault.{TakesPacket, HasBody, none_at_first, before_version, before_type, before_first_padding, before_length, before_padding, body_is_words, packet_passed}
 use Rattle.rtcp_wire.proofs.Prefixes.{length_parts}
 use Rattle.rtcp_wire.proofs.ReadBodies.{BodyTested, body_tested}

@@ -6,9 +6,9 @@ use Rattle.std.proofs.lemmas.List.{length-append}
 use Rattle.std.proofs.lemmas.List.Sums.{sum_by-append}
 use Rattle.byteorder.specs.Endian.{big_number}
 use Rattle.rtcp_wire.specs.Values.{ReportBlock, ItemValue, ChunkValue, RtcpPacket, sr, rr, sdes, bye, app, other}
-use Rattle.rtcp_wire.specs.Grammar.{Joins, type_of, count_of, size_of, body_of, block_in, sender_in, IsItem, IsChunk, IsReportEnd, IsReasonPart, IsOtherType, IsBody, IsSpelling, IsAccepted}
+use Rattle.rtcp_wire.specs.Grammar.{Joins, IsItem, IsChunk, IsReportEnd, IsReasonPart, IsOtherType, IsBody, IsSpelling, IsAccepted}
+use Rattle.rtcp_wire.specs.Readings.{type_of, count_of, size_of, body_of, block_in, sender_in, values_in, blocks_in, ids_in, item_in, items_after, chunk_in, items_size, chunk_size, chunks_in, reason_in, body_says, packet_in, packets_after, packets_in}
 use Rattle.rtcp_wire.specs.Validity.{IsSomeDatagram}
-use Rattle.rtcp_wire.specs.Walks.{values_in, blocks_in, ids_in, item_in, items_after, chunk_in, items_size, chunk_size, chunks_in, reason_in, body_says, packet_in, packets_after, packets_in}
 use Rattle.rtcp_wire.proofs.Prefixes.{length_parts}
 use Rattle.rtcp_wire.proofs.Fixed.{Says, fixed_length}
 use Rattle.rtcp_wire.proofs.Spellings.{spelling_parts, spelling_length}

@@ -2,11 +2,11 @@
 use Rattle.std.proofs.Common.{◌≡◌, ◌≢◌, ℕ, ◌-◌, ◌≤◌, ◌⊎◌, List, [], ◌∷◌, length, take, drop, sym, ap, subst, ◌∙◌, arith, inl, inr}
 use Rattle.std.proofs.lemmas.List.{length-drop, length-take, get_or-take}
 use Rattle.byteorder.specs.Endian.{big_number}
-use Rattle.rtcp_wire.specs.Grammar.{type_of, count_of, size_of, padding_of, body_of, IsAccepted}
+use Rattle.rtcp_wire.specs.Grammar.{IsAccepted}
+use Rattle.rtcp_wire.specs.Readings.{type_of, count_of, size_of, padding_of, body_of, body_says, packet_in, packets_in}
 use Rattle.rtcp_wire.specs.Summaries.{sender_of}
 use Rattle.rtcp_wire.specs.Validity.{IsSomeBody}
 use Rattle.rtcp_wire.specs.Values.{RtcpPacket, sr, rr, sdes, bye, app, other}
-use Rattle.rtcp_wire.specs.Walks.{body_says, packet_in, packets_in}
 use Rattle.rtcp_wire.proofs.PacketSteps.{PacketStep, packet_step, some_room}
 use Rattle.rtcp_wire.proofs.ReadingWalks.{walk_reads}
 

@@ -8,7 +8,8 @@ use Rattle.rtcp_wire.specs.declared.fault.FaultReason.{FaultReason}
 use Rattle.rtcp_wire.specs.declared.fault.FaultReason.TheVariants.{TooLong}
 use Rattle.rtcp_wire.specs.declared.fault.WireFault.{WireFault}
 use Rattle.rtcp_wire.specs.Values.{RtcpPacket}
-use Rattle.rtcp_wire.specs.Grammar.{size_of, IsSpelling, MayBegin}
+use Rattle.rtcp_wire.specs.Grammar.{IsSpelling, MayBegin}
+use Rattle.rtcp_wire.specs.Readings.{size_of}
 use Rattle.rtcp_wire.specs.Faults.{IsFirstFound, IsFirstFault}
 use Rattle.rtcp_wire.specs.Validity.{IsSomeDatagram}
 use Rattle.rtcp_wire.proofs.Joining.{Joins-push}

@@ -9,7 +9,8 @@ use Rattle.std.proofs.lemmas.List.Elements.{All-head, All-tail}
 use Rattle.byteorder.specs.Endian.{big_number, low_bytes, twos_complement}
 use Rattle.byteorder.specs.Numbers.{big_number-reads_back}
 use Rattle.rtcp_wire.specs.Values.{SenderValue, ReportBlock, ItemValue, ChunkValue}
-use Rattle.rtcp_wire.specs.Grammar.{Joins, sender_in, IsBlock, IsId, IsItem, IsChunk, IsReasonPart}
+use Rattle.rtcp_wire.specs.Grammar.{Joins, IsBlock, IsId, IsItem, IsChunk, IsReasonPart}
+use Rattle.rtcp_wire.specs.Readings.{sender_in}
 use Rattle.rtcp_wire.specs.Writing.{fill_after, written_word, written_block, written_sender, written_item, written_chunk, written_reason, IsWritableBlock, IsWritableItem, IsWritableChunk, IsBlockInRange, IsSenderInRange, IsChunkInRange}
 use Rattle.rtcp_wire.proofs.Joining.{Joins-cons}
 

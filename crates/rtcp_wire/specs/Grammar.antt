@@ -5,6 +5,7 @@
 use Rattle.std.specs.Prelude.{◌≡◌, ◌≢◌, ℕ, ◌+◌, ◌-◌, ◌*◌, ◌/◌, ◌%◌, ◌<◌, ◌≤◌, ◌⊎◌, ◌==◌, Bool, true, false, if◌then◌else◌, List, [], ◌∷◌, ◌++◌, Option, Some, None, All, length, take, drop, slice_index}
 use Rattle.byteorder.specs.Endian.{big_number, twos_complement}
 use Rattle.rtcp_wire.specs.Values.{SenderValue, ReportBlock, ItemValue, ChunkValue, RtcpPacket, sr, rr, sdes, bye, app, other}
+use Rattle.rtcp_wire.specs.Readings.{version_of, is_padded, count_of, type_of, size_of, padding_of, body_of, block_in, sender_in}
 
 -- The numbers are octets, as those of a datagram in memory always are.
 abbrev pub AreOctets : List ℕ → Type 0
@@ -16,49 +17,11 @@ Joins Spells [] octets = octets ≡ []
 Joins Spells (x ∷ xs) octets = (prefix : List ℕ) × (rest : List ℕ) × (octets ≡ prefix ++ rest)
     × Spells x prefix × Joins Spells xs rest
 
--- ---- The header's word (6.4.1): version 2, padding bit, count; type; length in words less one.
-
-abbrev pub version_of : List ℕ → ℕ
-version_of octets = slice_index octets 0 / 64
-
-abbrev pub is_padded : List ℕ → Bool
-is_padded octets = slice_index octets 0 / 32 % 2 == 1
-
-abbrev pub count_of : List ℕ → ℕ
-count_of octets = slice_index octets 0 % 32
-
-abbrev pub type_of : List ℕ → ℕ
-type_of octets = slice_index octets 1
-
--- the size of the packet that begins here, in octets, with its header and its padding
-abbrev pub size_of : List ℕ → ℕ
-size_of octets = 4 * (big_number 2 (drop 2 octets) + 1)
-
--- Where the padding bit is set, the packet's last octet is the number of padding octets, itself included.
-abbrev pub padding_of : List ℕ → ℕ
-padding_of octets = if is_padded octets then slice_index octets (size_of octets - 1) else 0
-
--- That number is a multiple of four, at least 4, and leaves the header. The octets before it are free.
+-- The number of padding octets is a multiple of four, at least 4, and leaves the header. The octets before it are free.
 abbrev pub IsPadding : ℕ → ℕ → Type 0
 IsPadding size padding = (padding ≢ 0) × (padding % 4 ≡ 0) × (padding ≤ size - 4)
 
--- what stands between the header and the padding
-abbrev pub body_of : List ℕ → List ℕ
-body_of octets = take (size_of octets - 4 - padding_of octets) (drop 4 octets)
-
 -- ---- Bodies
-
--- the block that 24 octets say (6.4.1)
-abbrev pub block_in : List ℕ → ReportBlock
-block_in octets = record {
-  ssrc = big_number 4 octets;
-  fraction = slice_index octets 4;
-  lost = twos_complement 3 (big_number 3 (drop 5 octets));
-  highest = big_number 4 (drop 8 octets);
-  jitter = big_number 4 (drop 12 octets);
-  lsr = big_number 4 (drop 16 octets);
-  dlsr = big_number 4 (drop 20 octets);
-}
 
 abbrev pub IsBlock : ReportBlock → List ℕ → Type 0
 IsBlock block octets = (length octets ≡ 24) × (block ≡ block_in octets)
@@ -70,16 +33,6 @@ pub record IsReportEnd
   pub parts : octets ≡ reports ++ extension
   pub counted : length blocks ≡ count
   pub each : Joins IsBlock blocks reports
-
--- the sender that 24 octets say (6.4.1)
-abbrev pub sender_in : List ℕ → SenderValue
-sender_in octets = record {
-  ssrc = big_number 4 octets;
-  ntp = big_number 8 (drop 4 octets);
-  rtp = big_number 4 (drop 12 octets);
-  packets = big_number 4 (drop 16 octets);
-  octets = big_number 4 (drop 20 octets);
-}
 
 -- A sender report (6.4.1): its sender, and then blocks and an extension.
 pub record IsSenderReport

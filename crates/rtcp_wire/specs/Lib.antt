@@ -1,4 +1,5 @@
 pub mod Values
+pub mod Readings
 pub mod Grammar
 pub mod Faults
 pub mod Views
@@ -15,6 +16,5 @@ pub mod Writing
 pub mod WriterViews
 pub mod Puts
 pub mod Walks
-pub mod Readings
 pub mod Summaries
 pub mod Sole

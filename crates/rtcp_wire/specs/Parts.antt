@@ -1,7 +1,8 @@
 -- What the tests of the parts of a packet find, for the contracts between them.
 use Rattle.std.specs.Prelude.{◌≡◌, ℕ, ◌≤◌, Bool, true, List, ◌++◌, length}
 use Rattle.rtcp_wire.specs.Values.{ItemValue}
-use Rattle.rtcp_wire.specs.Grammar.{Joins, IsItem, version_of, is_padded, size_of, padding_of, body_of, IsPadding}
+use Rattle.rtcp_wire.specs.Grammar.{Joins, IsItem, IsPadding}
+use Rattle.rtcp_wire.specs.Readings.{version_of, is_padded, size_of, padding_of, body_of}
 use Rattle.rtcp_wire.specs.Faults.{IsCut, MayStand}
 
 -- A part was taken from the start of the octets, and the rest is left.

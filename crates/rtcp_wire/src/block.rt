@@ -2,7 +2,7 @@
 
 ghost use Rattle.std.specs.Prelude.{◌≡◌, length};
 ghost use Rattle.std.specs.Iterator.{YieldsFirstBy, item_count};
-ghost use Rattle.rtcp_wire.specs.Grammar.{block_in};
+ghost use Rattle.rtcp_wire.specs.Readings.{block_in};
 ghost use Rattle.rtcp_wire.specs.Views.{block_value, block_values};
 
 use crate::reader::Reader;

@@ -3,8 +3,8 @@ use Rattle.std.specs.Prelude.{ℕ, List, [], ◌∷◌, Some, None, option_map, 
 use Rattle.rtcp_engine.specs.declared.refusal.Refusal.{Refusal}
 use Rattle.rtcp_engine.specs.answers.Acts.{Act}
 use Rattle.rtcp_engine.specs.answers.Changes.{change_by}
-use Rattle.rtcp_engine.specs.answers.Histories.{History, brought_by, others_changed_by, session_at, session_for, with_act}
-use Rattle.rtcp_engine.specs.answers.Lives.{step_into}
+use Rattle.rtcp_engine.specs.answers.Histories.{History, brought_by, session_at, session_for, with_act}
+use Rattle.rtcp_engine.specs.answers.Lives.{others_moved_by, step_into}
 use Rattle.rtcp_engine.specs.answers.Refusals.{refusal_after}
 use Rattle.rtcp_engine.specs.answers.Steps.{StepValue, AnswerValue, answer_unless}
 
@@ -12,8 +12,9 @@ use Rattle.rtcp_engine.specs.answers.Steps.{StepValue, AnswerValue, answer_unles
 abbrev pub step_by : History → Act → StepValue
 step_by history act =
     let before = session_at history in
+    let now = session_for before act in
     let next = session_at (with_act history act) in
-    record (step_into next.setup (brought_by before act) (others_changed_by before act) next.life) {
+    record (step_into next.setup (brought_by before act) (others_moved_by now.setup act now.life) next.life) {
       changed = option_map (λ new. new.ssrc) (change_by before act);
     }
 

@@ -52,17 +52,10 @@ with_media setup t head outcome =
     record outcome { trace = with_facts (facts_of_media setup.ssrc rate head is_counted) t outcome.trace }
 
 -- What a datagram with a fault would change is nothing, and so no history holds one.
-abbrev pub with_reading : Setup → (t size : ℕ) → Result (List RtcpPacket) WireFault → Outcome → Outcome
-with_reading setup t size (Ok packets) outcome = with_compound setup t size packets outcome
-with_reading setup t size (Err fault) outcome = outcome
-
-abbrev pub with_rtp_reading : Setup → (t : ℕ) → Result RtpValue RtpFault → Outcome → Outcome
-with_rtp_reading setup t (Ok head) outcome = with_media setup t head outcome
-with_rtp_reading setup t (Err fault) outcome = outcome
-
 abbrev pub with_datagram : Setup → (t : ℕ) → Datagram → Outcome → Outcome
-with_datagram setup t (rtcp size reading) outcome = with_reading setup t size reading outcome
-with_datagram setup t (rtp reading) outcome = with_rtp_reading setup t reading outcome
+with_datagram setup t (rtcp size (Ok packets)) outcome = with_compound setup t size packets outcome
+with_datagram setup t (rtp (Ok head)) outcome = with_media setup t head outcome
+with_datagram setup t _ outcome = outcome
 
 -- ---- Sent packets
 

@@ -1,16 +1,35 @@
 -- Changes of identifier (RFC 3550, 8.2): which datagrams bring one, which identifier is taken then, and what becomes of
 -- the session.
-use Rattle.std.specs.Prelude.{ℕ, ◌+◌, ◌==◌, ◌||◌, Bool, false, List, [], ◌∷◌, length, map, is_some, if◌then◌else◌, Option, Some, None, Ok, Err}
+use Rattle.std.specs.Prelude.{ℕ, ◌+◌, ◌==◌, ◌||◌, Bool, false, List, [], ◌∷◌, length, map, is_some, if◌then◌else◌, Option, Some, None, Ok, Err, suc, zero, nat_lt, not, ◌&&◌, ◌%◌, ◌^◌}
 use Rattle.std.specs.List.{list_any}
 use Rattle.rtcp_wire.specs.Facts.{subject, facts_of}
 use Rattle.rtcp_members.specs.Stays.{stay_of}
 use Rattle.rtcp_engine.specs.declared.changes.IdentifierChange.{IdentifierChange}
 use Rattle.rtcp_engine.specs.answers.Setups.{Setup}
 use Rattle.rtcp_engine.specs.answers.Acts.{Datagram, rtcp, rtp, Act, arrived}
-use Rattle.rtcp_engine.specs.answers.Identities.{first_free, is_among, most_changes, with_ssrc}
 use Rattle.rtcp_engine.specs.answers.Steps.{OutValue}
 use Rattle.rtcp_engine.specs.answers.Leaving.{Life, present, backing_off, finished}
 use Rattle.rtcp_engine.specs.answers.Lives.{own_bye, with_new_ssrc}
+
+abbrev pub with_ssrc : (ssrc : ℕ) → Setup → Setup
+with_ssrc ssrc setup = record setup { ssrc = ssrc }
+
+abbrev pub is_among : List ℕ → ℕ → Bool
+is_among numbers number = list_any (λ other. other == number) numbers
+
+-- The most changes of a session.
+abbrev pub most_changes : ℕ
+most_changes = 8
+
+-- A peer that brought no change yet may change the identifier where fewer than eight peers did.
+abbrev pub may_change : (peers : List ℕ) → (peer : ℕ) → Bool
+may_change peers peer = not (is_among peers peer) && nat_lt (length peers) most_changes
+
+-- The first of a number and those that follow it, modulo 2^32, that is not taken, of so many and the one after them.
+abbrev pub first_free : (most : ℕ) → (is_taken : ℕ → Bool) → ℕ → ℕ
+first_free zero is_taken ssrc = ssrc
+first_free (suc most) is_taken ssrc =
+    if is_taken ssrc then first_free most is_taken ((ssrc + 1) % 2 ^ 32) else ssrc
 
 -- What a session has come to.
 pub record Session : Type 0 where

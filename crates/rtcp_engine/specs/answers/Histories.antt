@@ -50,10 +50,6 @@ brought_by session act =
     let now = session_for session act in
     option_or (bye_of_change (change_by session act) session) (out_by now.setup act now.life)
 
--- Whether an act changes who of the others is a member, or who of them sends. A change of identifier alone does not.
-abbrev pub others_changed_by : Session → Act → Bool
-others_changed_by session act = let now = session_for session act in others_moved_by now.setup act now.life
-
 -- ---- Histories
 
 -- What a session has come to, from its setup, its start word and all acts that were taken.

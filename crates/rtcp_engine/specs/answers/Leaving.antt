@@ -1,8 +1,9 @@
 -- Leaving a session (RFC 3550, 6.3.7): silently, with a BYE at once, or with a BYE after a backoff in which
 -- nothing counts but the BYE packets of others. Lists are newest first.
-use Rattle.std.specs.Prelude.{ℕ, ◌+◌, ◌==◌, ◌&&◌, not, Bool, true, false, nat_le, min, List, [], ◌∷◌, length, map, filter, sum_by, if◌then◌else◌, Option, Some, None}
+use Rattle.std.specs.Prelude.{ℕ, ◌+◌, ◌==◌, ◌&&◌, not, Bool, true, false, nat_le, min, List, [], ◌∷◌, length, map, filter, sum_by, if◌then◌else◌, Option, Some, None, Result, Ok, Err}
 use Rattle.rtcp_clock.specs.Intervals.{drawn_interval}
-use Rattle.rtcp_wire.specs.Values.{RtcpPacket, sr, rr, sdes, bye, app, other}
+use Rattle.rtcp_wire.specs.declared.fault.WireFault.{WireFault}
+use Rattle.rtcp_wire.specs.Values.{RtcpPacket, bye}
 use Rattle.rtcp_timer.specs.declared.load.Load.{Load}
 use Rattle.rtcp_timer.specs.Averages.{average_of}
 use Rattle.rtcp_timer.specs.Loads.{interval_of}
@@ -68,9 +69,10 @@ with_byes_of byes size backoff =
     record backoff { bye_compounds = record { byes = byes; size = size } ∷ backoff.bye_compounds }
 
 -- A compound counts if it has a BYE packet.
-abbrev pub after_byes : (size : ℕ) → List RtcpPacket → Backoff → Backoff
-after_byes size packets backoff =
+abbrev pub with_byes : (size : ℕ) → Result (List RtcpPacket) WireFault → Backoff → Backoff
+with_byes size (Ok packets) backoff =
     if bye_count packets == 0 then backoff else with_byes_of (bye_count packets) size backoff
+with_byes size (Err fault) backoff = backoff
 
 abbrev pub is_bye_due : Setup → (t word : ℕ) → Backoff → Bool
 is_bye_due setup t word backoff =

@@ -4,8 +4,7 @@ use Rattle.rtcp_wire.specs.declared.fault.WireFault.{WireFault}
 use Rattle.rtcp_wire.specs.Values.{RtcpPacket}
 use Rattle.rtcp_members.specs.Traces.{names}
 use Rattle.rtcp_members.specs.Stays.{present_among, stay_of}
-use Rattle.rtcp_members.specs.Entries.{EntryValue, entry_at, members_at}
-use Rattle.rtcp_members.specs.Roles.{moved_within}
+use Rattle.rtcp_members.specs.Entries.{EntryValue, entry_at, members_at, moved_within}
 use Rattle.rtcp_members.specs.Listings.{StateValue, ListsAbove, IsWalk}
 use Rattle.rtcp_engine.specs.declared.step.Standing.{Standing}
 use Rattle.rtcp_engine.specs.declared.step.OutKind.TheVariants.{Report, Bye}
@@ -17,17 +16,13 @@ use Rattle.rtcp_engine.specs.answers.Outcomes.{Outcome, check_interval, member_c
 use Rattle.rtcp_engine.specs.answers.Arrivals.{after, with_change}
 use Rattle.rtcp_engine.specs.answers.Steps.{OutValue, StepValue}
 use Rattle.rtcp_engine.specs.answers.Ticks.{checked, horizons_of, report_due}
-use Rattle.rtcp_engine.specs.answers.Leaving.{Backoff, Life, present, backing_off, finished, bye_at_once, after_byes, after_own_bye, counted_anew, after_waiting_tick, is_bye_due, left_at, leaving_count, leaving_timing}
+use Rattle.rtcp_engine.specs.answers.Leaving.{Backoff, Life, present, backing_off, finished, bye_at_once, after_own_bye, counted_anew, after_waiting_tick, is_bye_due, left_at, leaving_count, leaving_timing, with_byes}
 
 -- ---- Acts
 
 abbrev pub while_present : Setup → Act → Outcome → Life
 while_present setup (left moment word) outcome = left_at setup moment word outcome
 while_present setup act outcome = present (after setup act outcome)
-
-abbrev pub with_byes : (size : ℕ) → Result (List RtcpPacket) WireFault → Backoff → Backoff
-with_byes size (Ok packets) backoff = after_byes size packets backoff
-with_byes size (Err fault) backoff = backoff
 
 -- Nothing counts but compounds, and ticks, which make no check. A second leave begins nothing anew.
 abbrev pub while_backing_off : Setup → Act → Outcome → Backoff → Life

@@ -4,9 +4,8 @@ use Rattle.std.specs.Prelude.{ℕ, ◌+◌, ◌*◌, ◌≤◌, Bool, true, fals
 use Rattle.rtcp_clock.specs.Intervals.{drawn_interval}
 use Rattle.rtcp_members.specs.Traces.{TraceStep}
 use Rattle.rtcp_members.specs.Entries.{members_at, senders_at}
-use Rattle.rtcp_report.specs.Reports.{Reporter}
+use Rattle.rtcp_report.specs.Reports.{Reporter, items_of}
 use Rattle.rtcp_report.specs.Sizes.{report_size}
-use Rattle.rtcp_report.specs.Views.{items_of}
 use Rattle.rtcp_timer.specs.declared.load.Load.{Load}
 use Rattle.rtcp_timer.specs.Averages.{average_of}
 use Rattle.rtcp_timer.specs.Loads.{interval_of}

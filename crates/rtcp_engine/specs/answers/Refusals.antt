@@ -3,11 +3,10 @@ use Rattle.std.specs.Prelude.{ℕ, ◌-◌, ◌^◌, ◌&&◌, not, Bool, nat_lt
 use Rattle.std.specs.Option.{option_or}
 use Rattle.rtcp_engine.specs.declared.refusal.Refusal.{Refusal}
 use Rattle.rtcp_engine.specs.declared.refusal.Refusal.TheVariants.{Left, Backwards, TooFar, TooMany, Wire, Rtp, OwnSsrc, Settings}
-use Rattle.rtcp_engine.specs.answers.Refused.{settings_error}
+use Rattle.rtcp_engine.specs.answers.Setups.{settings_error}
 use Rattle.rtcp_engine.specs.answers.Acts.{Datagram, rtcp, rtp, Act, arrived, configured, moment_of}
-use Rattle.rtcp_engine.specs.answers.Identities.{may_change}
 use Rattle.rtcp_engine.specs.answers.Leaving.{Life, present, backing_off, finished}
-use Rattle.rtcp_engine.specs.answers.Changes.{Session, changing_peers, is_about}
+use Rattle.rtcp_engine.specs.answers.Changes.{Session, changing_peers, is_about, may_change}
 use Rattle.rtcp_engine.specs.answers.Histories.{History, last_moment, session_at}
 
 -- why any act at a moment is refused, by the last act's moment and how many calls were taken: the first of the reasons
@@ -28,17 +27,14 @@ fault_in _ = None
 abbrev pub refusal_if : Bool → Refusal → Option Refusal
 refusal_if b refusal = if b then Some refusal else None
 
--- A datagram that is about the participant itself is refused, unless it changes its identifier.
-abbrev pub refusal_as_own : Session → (peer : ℕ) → Datagram → Option Refusal
-refusal_as_own session peer datagram =
-    refusal_if (is_about session.setup.ssrc datagram && not (may_change (changing_peers session) peer)) OwnSsrc
-
 -- ---- Acts
 
--- why an act is refused for what it tells: a datagram, or settings
+-- Why an act is refused for what it tells: a datagram, or settings. A datagram that is about the participant itself is
+-- refused, unless it changes its identifier.
 abbrev pub refusal_of_content : Session → Act → Option Refusal
 refusal_of_content session (arrived moment peer word datagram) =
-    option_or (fault_in datagram) (refusal_as_own session peer datagram)
+    option_or (fault_in datagram)
+    (refusal_if (is_about session.setup.ssrc datagram && not (may_change (changing_peers session) peer)) OwnSsrc)
 refusal_of_content session (configured moment settings) = option_map Settings (settings_error settings)
 refusal_of_content session act = None
 

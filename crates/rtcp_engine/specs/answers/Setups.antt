@@ -1,6 +1,9 @@
 -- How a participant is set up.
-use Rattle.std.specs.Prelude.{ℕ, ◌≡◌, ◌==◌, ◌≤◌, ◌%◌, ◌^◌, ◌&&◌, Bool, nat_le, List, [], ◌∷◌, All, length, if◌then◌else◌}
+use Rattle.std.specs.Prelude.{ℕ, ◌≡◌, ◌==◌, ◌≤◌, ◌%◌, ◌^◌, ◌&&◌, Bool, nat_le, List, [], ◌∷◌, All, length, if◌then◌else◌, not, Option, Some, None}
 use Rattle.rtcp_wire.specs.Values.{ItemValue}
+use Rattle.std.specs.List.{list_all}
+use Rattle.rtcp_engine.specs.declared.config.ConfigError.{ConfigError}
+use Rattle.rtcp_engine.specs.declared.config.ConfigError.TheVariants.{Bandwidth, Rate, Item}
 
 -- The clock in which the timestamps of a payload type count (RFC 3550, 5.1): it has so many units a second.
 pub record ClockValue : Type 0 where
@@ -104,3 +107,18 @@ pub record IsUsable (setup : Setup) : Type 0 where
   pub clocks : All IsClock setup.clocks
   pub few_extras : length setup.extras ≤ 7
   pub extras : All IsExtraItem setup.extras
+
+-- whether these may be given beside the CNAME
+abbrev pub are_extras : List ItemValue → Bool
+are_extras items = nat_le (length items) 7 && list_all is_extra_item items
+
+abbrev pub is_bandwidth : (bandwidth : ℕ) → Bool
+is_bandwidth bandwidth = is_within 16 (2 ^ 30) bandwidth
+
+-- Why settings are refused: for the reason for which a setup with them is (law `settings_are_refused_as_setups`).
+abbrev pub settings_error : SettingsValue → Option ConfigError
+settings_error settings =
+    if not (is_bandwidth settings.sender_bw && is_bandwidth settings.receiver_bw) then Some Bandwidth
+    else (if not (is_within 1 (2 ^ 20) settings.rate && list_all is_clock settings.clocks) then Some Rate
+    else (if not (are_extras settings.extras) then Some Item
+    else None))

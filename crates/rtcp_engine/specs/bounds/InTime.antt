@@ -8,7 +8,7 @@ use Rattle.rtcp_engine.specs.answers.Acts.{Act, rtcp, arrived, ticked, left, for
 use Rattle.rtcp_engine.specs.answers.Outcomes.{Outcome, interval_at, member_count, nothing_yet}
 use Rattle.rtcp_engine.specs.answers.Lives.{out_by}
 use Rattle.rtcp_engine.specs.answers.Ticks.{checked, with_report, without_source}
-use Rattle.rtcp_engine.specs.answers.Arrivals.{with_reading}
+use Rattle.rtcp_engine.specs.answers.Arrivals.{with_datagram}
 use Rattle.rtcp_engine.specs.answers.Histories.{History, brought_by, life_at, session_at, session_for, session_of, setup_at}
 use Rattle.rtcp_engine.specs.answers.Leaving.{Backoff, Life, present, backing_off, finished, leaving_interval, leaving_load}
 use Rattle.rtcp_engine.specs.bounds.Sent.{Sent, reports_in, interval_by, sent_at}
@@ -20,7 +20,7 @@ use Rattle.rtcp_engine.specs.bounds.Spacing.{newest_moment}
 -- members
 abbrev pub recounted_by : Setup → Act → Outcome → Outcome
 recounted_by setup (arrived moment peer word (rtcp size reading)) outcome =
-    with_reading setup moment size reading outcome
+    with_datagram setup moment (rtcp size reading) outcome
 recounted_by setup (ticked moment first_word second_word) outcome = checked setup moment outcome
 recounted_by setup (forgotten moment ssrc) outcome = without_source setup moment ssrc outcome
 recounted_by setup act outcome = outcome

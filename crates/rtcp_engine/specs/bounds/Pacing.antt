@@ -1,7 +1,6 @@
 -- A change of settings, and what a session has come to some time later.
 use Rattle.std.specs.Prelude.{ℕ, ◌≡◌, ◌≤◌, ◌<◌, max, List, [], ◌∷◌, if◌then◌else◌, Some, None}
-use Rattle.rtcp_engine.specs.answers.Setups.{Setup, SettingsValue, keeps_bandwidths}
-use Rattle.rtcp_engine.specs.answers.Refused.{settings_error}
+use Rattle.rtcp_engine.specs.answers.Setups.{Setup, SettingsValue, keeps_bandwidths, settings_error}
 use Rattle.rtcp_engine.specs.answers.Acts.{Act, configured}
 use Rattle.rtcp_engine.specs.answers.Outcomes.{Outcome, end_at, newest_pace, pace_at}
 use Rattle.rtcp_engine.specs.answers.Histories.{History, life_at, session_for, session_of, setup_at}

@@ -45,6 +45,13 @@ EndAtBye (answer ∷ later) = (says_bye answer ≡ true → AreRefusals later) �
 
 -- ---- In time
 
+-- Something holds of each act that has an answer, and of this, after the history that led up to it.
+abbrev pub AllAlong : (History → Act → AnswerValue → Type 0) → History → List Act → List AnswerValue → Type 0
+AllAlong Holds history [] answers = Unit {0}
+AllAlong Holds history (act ∷ acts) [] = Unit {0}
+AllAlong Holds history (act ∷ acts) (answer ∷ answers) =
+    Holds history act answer × AllAlong Holds (followed_by history act) acts answers
+
 abbrev pub HasCompound : AnswerValue → Type 0
 HasCompound (Ok step) = IsTrue (is_some step.out)
 HasCompound (Err refusal) = ⊥
@@ -58,10 +65,7 @@ IsAnsweredInTime history act answer = Unit {0}
 
 -- Each tick that has an answer has such a one.
 abbrev pub AnsweredInTime : History → List Act → List AnswerValue → Type 0
-AnsweredInTime history [] answers = Unit {0}
-AnsweredInTime history (act ∷ acts) [] = Unit {0}
-AnsweredInTime history (act ∷ acts) (answer ∷ answers) =
-    IsAnsweredInTime history act answer × AnsweredInTime (followed_by history act) acts answers
+AnsweredInTime = AllAlong IsAnsweredInTime
 
 -- ---- Refusals
 
@@ -71,10 +75,7 @@ IsRefusalForgotten history act (Ok step) = Unit {0}
 IsRefusalForgotten history act (Err refusal) = followed_by history act ≡ history
 
 abbrev pub AreRefusalsForgotten : History → List Act → List AnswerValue → Type 0
-AreRefusalsForgotten history [] answers = Unit {0}
-AreRefusalsForgotten history (act ∷ acts) [] = Unit {0}
-AreRefusalsForgotten history (act ∷ acts) (answer ∷ answers) =
-    IsRefusalForgotten history act answer × AreRefusalsForgotten (followed_by history act) acts answers
+AreRefusalsForgotten = AllAlong IsRefusalForgotten
 
 -- ---- All together
 

@@ -7,7 +7,7 @@ use Rattle.rtcp_timer.specs.Departures.{last_departure}
 use Rattle.rtcp_timer.specs.Schedules.{Happening, Timing}
 use Rattle.rtcp_engine.specs.answers.Setups.{is_within}
 use Rattle.rtcp_engine.specs.answers.Acts.{Act, left}
-use Rattle.rtcp_engine.specs.answers.Identities.{most_changes}
+use Rattle.rtcp_engine.specs.answers.Changes.{most_changes}
 use Rattle.rtcp_engine.specs.answers.Histories.{History}
 use Rattle.rtcp_engine.specs.bounds.Sent.{Sent, is_report, reports_in, sent_at}
 
@@ -69,10 +69,6 @@ EndsWithBye leave [] = Unit {0}
 EndsWithBye leave (newest ∷ earlier) =
     All (λ sent. is_last_bye sent ≡ false) earlier × (is_last_bye newest ≡ true → IsInDueTime leave newest)
 
--- At most eight identifiers are given up with a BYE.
-abbrev pub HasFewChanges : List Sent → Type 0
-HasFewChanges sent = length (filter is_change_bye sent) ≤ most_changes
-
 -- ---- The schedule
 
 -- The last transmission as a schedule knows it (tp) lies no sooner than what was sent last, and no later than the later
@@ -100,7 +96,7 @@ pub record AreBounded (leave : Option ℕ) (most : ℕ) (sent : List Sent) : Typ
   -- backoff: no sooner than half its interval after the leave, over 1.21828, and than 1,026,037 microseconds.
   pub leaves_once : EndsWithBye leave sent
   -- At most eight identifiers are given up with a BYE.
-  pub few_changes : HasFewChanges sent
+  pub few_changes : length (filter is_change_bye sent) ≤ most_changes
   -- No compound passes the limit.
   pub limit : AllFit most sent
 

@@ -1,6 +1,6 @@
 -- Which identifiers of a block a datagram names: those that follow one another, modulo 2^32.
 use Rattle.std.specs.Prelude.{ℕ, ◌≡◌, ◌==◌, ◌||◌, ◌<◌, ◌+◌, ◌%◌, ◌^◌, Bool, true, false, List, slice_index_or}
-use Rattle.rtcp_engine.specs.answers.Identities.{is_among}
+use Rattle.rtcp_engine.specs.answers.Changes.{is_among}
 
 -- the identifier so many places after another
 abbrev pub after : (ssrc places : ℕ) → ℕ

@@ -10,12 +10,11 @@ use Rattle.rtcp_engine.specs.declared.pace.Pace.{Pace}
 use Rattle.rtcp_engine.specs.declared.refusal.Refusal.{Refusal}
 use Rattle.rtcp_engine.specs.declared.refusal.Refusal.TheVariants.{Left}
 use Rattle.rtcp_engine.specs.answers.Setups.{Setup, SettingsValue, IsUsable, with_settings}
-use Rattle.rtcp_engine.specs.answers.Identities.{with_ssrc}
 use Rattle.rtcp_engine.specs.answers.OwnStreams.{Adds, OwnValue, check_passed, own_of}
 use Rattle.rtcp_engine.specs.state.OwnValues.{own_anew}
 use Rattle.rtcp_engine.specs.answers.Outcomes.{Outcome, average_size, newest_pace, timing_of, with_pace, IsPace}
 use Rattle.rtcp_engine.specs.answers.Reporting.{bye_octets, last_reported_in}
-use Rattle.rtcp_engine.specs.answers.Changes.{Session}
+use Rattle.rtcp_engine.specs.answers.Changes.{Session, with_ssrc}
 use Rattle.rtcp_engine.specs.answers.Histories.{History, last_moment, session_at, setup_after}
 use Rattle.rtcp_engine.specs.answers.Refusals.{call_refusal}
 use Rattle.rtcp_engine.specs.answers.Leaving.{Backoff, Life, present, backing_off, finished, leaving_count, leaving_timing, leaving_average}

@@ -1,9 +1,9 @@
 //! A change of the participant's identifier, for a datagram that names it (RFC 3550, 8.2).
 
 ghost use Rattle.std.specs.Prelude.{◌≡◌, ◌||◌, ◌≤◌, ◌<◌, IfSome, None, length, map, true};
-ghost use Rattle.rtcp_engine.specs.answers.Identities.{IsFirstFree, is_among, may_change};
+ghost use Rattle.rtcp_engine.specs.answers.Identities.{IsFirstFree};
 ghost use Rattle.rtcp_engine.specs.answers.Acts.{arrived};
-ghost use Rattle.rtcp_engine.specs.answers.Changes.{Session, changed_to, identifiers, is_about, is_in_table, is_taken as is_taken_of, new_identifier};
+ghost use Rattle.rtcp_engine.specs.answers.Changes.{Session, changed_to, identifiers, is_about, is_in_table, is_taken as is_taken_of, new_identifier, is_among, may_change};
 ghost use Rattle.rtcp_engine.specs.answers.Histories.{History, session_at};
 ghost use Rattle.rtcp_engine.specs.answers.Lives.{own_bye};
 ghost use Rattle.rtcp_engine.specs.state.Named.{AreTaken};

@@ -3,7 +3,7 @@
 
 ghost use Rattle.std.specs.Prelude.{◌≡◌, ◌≤◌, ◌<◌, ◌-◌, ℕ, None, false};
 ghost use Rattle.rtcp_engine.specs.answers.Acts.{arrived, configured, forgotten, left, rtp_sent, ticked};
-ghost use Rattle.rtcp_engine.specs.answers.Refused.{settings_error};
+ghost use Rattle.rtcp_engine.specs.answers.Setups.{settings_error};
 ghost use Rattle.rtcp_engine.specs.state.States.{Acts, Admits, KeepsCapacity, called, taking_part};
 ghost use Rattle.rtcp_engine.specs.state.Views.{LeavesRest, datagram_of, out_in, settings_value, size_of};
 ghost use Rattle.rtcp_members.specs.Tables.{HasFew};

@@ -2,7 +2,7 @@
 
 ghost use Rattle.std.specs.Prelude.{◌≡◌, None, IfSome};
 ghost use Rattle.rtcp_engine.specs.answers.Outcomes.{Outcome, pace_at, IsPace};
-ghost use Rattle.rtcp_engine.specs.answers.Refused.{settings_error};
+ghost use Rattle.rtcp_engine.specs.answers.Setups.{settings_error};
 ghost use Rattle.rtcp_engine.specs.state.States.{Agrees, IsPaceOf, KeepsCapacity, with_settings_in};
 ghost use Rattle.rtcp_engine.specs.state.Views.{settings_value};
 

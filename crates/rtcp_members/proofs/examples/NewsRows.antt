@@ -3,7 +3,8 @@ use Rattle.std.proofs.Common.{◌≡◌, ℕ, true, false, List, [], ◌∷◌, 
 use Rattle.rtcp_wire.specs.declared.fact.Fact.TheVariants.{Heard, Named, Gone, Media}
 use Rattle.rtcp_members.specs.Traces.{horizons_at, TraceStep, fact_came, check_made, block_made_of}
 use Rattle.rtcp_members.specs.Entries.{counted_at}
-use Rattle.rtcp_members.specs.News.{pending_at, pending_rows_at}
+use Rattle.rtcp_members.specs.News.{pending_at}
+use Rattle.rtcp_members.specs.Pending.{pending_rows_at}
 
 abbrev pending : Option ℕ → List TraceStep → List ℕ
 pending last trace = pending_at last 3 trace

@@ -12,7 +12,8 @@ use Rattle.rtcp_members.specs.Traces.{TraceStep}
 use Rattle.rtcp_members.specs.Stays.{before_mark, stay_of}
 use Rattle.rtcp_members.specs.Entries.{EntryValue, entry_of, given_of, is_member, is_sender}
 use Rattle.rtcp_members.specs.Tables.{TableValue, IsApart, StandsAt}
-use Rattle.rtcp_members.specs.Pending.{EntryRow, first_ssrc, is_above, is_after}
+use Rattle.rtcp_members.specs.Pending.{EntryRow, first_ssrc, is_above}
+use Rattle.rtcp_members.specs.News.{is_after}
 use Rattle.rtcp_members.specs.ListViews.{rows_of, map_of, table_of}
 use Rattle.rtcp_members.specs.storage.SortedViews as sorted
 use Rattle.rtcp_members.specs.Least.{least, state_for}

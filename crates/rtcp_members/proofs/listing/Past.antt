@@ -6,7 +6,7 @@ use Rattle.rtcp_wire.specs.declared.fact.Fact.{Fact}
 use Rattle.rtcp_wire.specs.declared.fact.Fact.TheVariants.{Told, Media}
 use Rattle.rtcp_wire.specs.Facts.{subject, is_gone}
 use Rattle.rtcp_source.specs.Packets.{Given, block_made}
-use Rattle.rtcp_source.specs.Summary.{last_report_of}
+use Rattle.rtcp_source.specs.Fields.{last_report_of}
 use Rattle.rtcp_members.specs.Traces.{TraceStep, fact_came, check_made, block_made_of, source_forgotten, is_naming, with_facts}
 use Rattle.rtcp_members.specs.Stays.{mark_at, mark_of, before_mark, step_moment, last_naming, stay_of}
 use Rattle.rtcp_members.specs.Entries.{given_by, given_of}

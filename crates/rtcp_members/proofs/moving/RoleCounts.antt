@@ -6,9 +6,9 @@ use Rattle.rtcp_wire.specs.declared.fact.Fact.{Fact}
 use Rattle.rtcp_wire.specs.Facts.{subject, is_gone}
 use Rattle.rtcp_members.specs.Traces.{TraceStep, fact_came, check_made, block_made_of, source_forgotten, names}
 use Rattle.rtcp_members.specs.Stays.{stay_of}
-use Rattle.rtcp_members.specs.Entries.{EntryValue, entry_of, entry_at, is_member, is_sender, is_such, count_at, members_at, senders_at}
+use Rattle.rtcp_members.specs.Entries.{EntryValue, entry_of, entry_at, is_member, is_sender, is_such, count_at, members_at, senders_at, step_moves, moved_within}
 use Rattle.rtcp_members.specs.Pending.{reported_entry}
-use Rattle.rtcp_members.specs.Roles.{IsSameRole, step_moves, moved_within}
+use Rattle.rtcp_members.specs.Roles.{IsSameRole}
 use Rattle.rtcp_members.proofs.maps.Counting.{has, IsOnce, passing, same_passing, first_and_rest, one_or_none, one_more, no_more}
 use Rattle.rtcp_members.proofs.stays.Naming.{names_are_once, present_is_named, still_named}
 use Rattle.rtcp_members.proofs.stays.TraceStepLemmas.{other_entry_at, checked_entry_at}

@@ -2,9 +2,9 @@
 use Rattle.std.proofs.Common.{◌≡◌, ℕ, suc, ◌+◌, ◌==◌, ◌&&◌, ◌||◌, not, Bool, true, false, List, [], ◌∷◌, length, arith, refl, sym, ap, ◌∙◌}
 use Rattle.rtcp_wire.specs.declared.fact.Fact.{Fact}
 use Rattle.rtcp_members.specs.Traces.{Horizons, TraceStep, fact_came, check_made, source_forgotten, with_facts}
-use Rattle.rtcp_members.specs.Entries.{members_at, senders_at}
+use Rattle.rtcp_members.specs.Entries.{members_at, senders_at, step_moves, moved_within}
 use Rattle.rtcp_members.specs.Tables.{TableValue, StandsAt, KeepsBounds, after_fact, after_check, after_forgetting, members_in, senders_in}
-use Rattle.rtcp_members.specs.Roles.{step_moves, moved_within, counts_differ, facts_move, check_moves, forgetting_moves}
+use Rattle.rtcp_members.specs.Roles.{counts_differ, facts_move, check_moves, forgetting_moves}
 use Rattle.rtcp_members.proofs.standing.Counts.{members_agree, senders_agree}
 use Rattle.rtcp_members.proofs.standing.Following.{fact_follows, check_follows}
 use Rattle.rtcp_members.proofs.standing.Capacity.{fact_keeps_bounds, check_keeps_bounds, forgetting_keeps_bounds}

@@ -2,7 +2,8 @@
 use Rattle.std.proofs.Common.{◌≡◌, ℕ, if◌then◌else◌, List, [], ◌∷◌, Option, Some, None, is_some, option_map, option_and_then, refl, ap, ◌∙◌}
 use Rattle.std.specs.FinMap as finite
 use Rattle.rtcp_wire.specs.Values.{ReportBlock}
-use Rattle.rtcp_source.specs.Blocks.{block_for, block_over}
+use Rattle.rtcp_source.specs.Blocks.{block_for}
+use Rattle.rtcp_source.specs.Fields.{block_over}
 use Rattle.rtcp_source.proofs.LawLemmas.{summary_suffices-block}
 use Rattle.rtcp_members.specs.Traces.{TraceStep}
 use Rattle.rtcp_members.specs.Stays.{before_mark, mark_of, stay_of}

@@ -15,8 +15,8 @@ use Rattle.rtcp_members.specs.Traces.{TraceStep, names}
 use Rattle.rtcp_members.specs.Stays.{mark_of, before_mark, stay_of}
 use Rattle.rtcp_members.specs.Entries.{EntryValue, given_of, entry_of, entry_at, is_such}
 use Rattle.rtcp_members.specs.Tables.{EntryMap, TableValue, StandsAt}
-use Rattle.rtcp_members.specs.Pending.{EntryRow, is_due, due_rows, is_above, is_after, pending, blocks_of}
-use Rattle.rtcp_members.specs.News.{is_due_in, is_due_by, block_in, blocks_at, put_rising, rising, pending_at, pending_rows_at}
+use Rattle.rtcp_members.specs.Pending.{EntryRow, is_due, due_rows, is_above, pending, blocks_of, pending_rows_at}
+use Rattle.rtcp_members.specs.News.{is_due_in, is_due_by, block_in, blocks_at, put_rising, rising, pending_at, is_after}
 use Rattle.rtcp_members.proofs.maps.Counting.{has, IsOnce}
 use Rattle.rtcp_members.proofs.turns.LeastDue.{is_less, joined}
 use Rattle.rtcp_members.proofs.stays.Naming.{names_are_once, present_is_named}

@@ -3,7 +3,8 @@ use Rattle.std.proofs.Common.{◌≡◌, ℕ, List, Option, Some, None, option_a
 use Rattle.std.specs.FinMap as finite
 use Rattle.rtcp_wire.specs.Values.{ReportBlock}
 use Rattle.rtcp_source.specs.Summary.{RunValue}
-use Rattle.rtcp_source.specs.Blocks.{block_for, block_of_run, lsr_of, dlsr_of}
+use Rattle.rtcp_source.specs.Blocks.{block_for, block_of_run}
+use Rattle.rtcp_source.specs.Fields.{lsr_of, dlsr_of}
 use Rattle.rtcp_members.specs.Entries.{EntryValue}
 use Rattle.rtcp_members.specs.Tables.{TableValue}
 use Rattle.rtcp_members.specs.Pending.{EntryRow, after_block, block_at, first_ssrc}

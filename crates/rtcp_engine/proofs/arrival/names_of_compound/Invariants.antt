@@ -1,7 +1,7 @@
 -- What is marked so far and what is left are all names.
 use Rattle.std.proofs.Common.{◌≡◌, ℕ, ◌<◌, ◌||◌, map}
 use Rattle.rtcp_wire.specs.Facts.{facts_of, subject}
-use Rattle.rtcp_engine.specs.answers.Identities.{is_among}
+use Rattle.rtcp_engine.specs.answers.Changes.{is_among}
 use Rattle.rtcp_engine.specs.state.Named.{after, is_marked}
 use Rattle.rtcp_engine.proofs.arrival.names_of_compound.Given as goal
 

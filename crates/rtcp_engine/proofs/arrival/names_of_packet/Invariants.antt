@@ -1,8 +1,7 @@
 -- What is marked so far and what is left are all names.
 use Rattle.std.proofs.Common.{◌≡◌, ℕ, ◌<◌, ◌||◌}
 use Rattle.rtcp_engine.specs.answers.Acts.{rtp}
-use Rattle.rtcp_engine.specs.answers.Changes.{named_by}
-use Rattle.rtcp_engine.specs.answers.Identities.{is_among}
+use Rattle.rtcp_engine.specs.answers.Changes.{named_by, is_among}
 use Rattle.rtcp_engine.specs.state.Named.{after, is_marked}
 use Rattle.std.proofs.Common.{Ok}
 use Rattle.rtcp_engine.proofs.arrival.names_of_packet.Given as goal

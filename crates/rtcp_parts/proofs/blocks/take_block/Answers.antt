@@ -1,6 +1,6 @@
 -- The block is the first of those that are left.
 use Rattle.std.proofs.Common.{◌+◌, ◌-◌, length, take, refl, ap, ◌∙◌, arith}
-use Rattle.rtcp_wire.specs.Grammar.{block_in}
+use Rattle.rtcp_wire.specs.Readings.{block_in}
 use Rattle.rtcp_parts.specs.declared.cursor.Cursor.{Cursor}
 use Rattle.rtcp_parts.proofs.BlockWalks.{block_room, takes_block}
 use Rattle.rtcp_parts.proofs.Calls.{is_within_by, none_taken, within_is}

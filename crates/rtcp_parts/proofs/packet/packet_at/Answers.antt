@@ -1,6 +1,6 @@
 -- The packet is the first of those that stand there.
 use Rattle.std.proofs.Common.{◌≤◌, ℕ, List, length, take, refl, ap, subst, ◌∙◌, arith}
-use Rattle.rtcp_wire.specs.Grammar.{size_of}
+use Rattle.rtcp_wire.specs.Readings.{size_of}
 use Rattle.rtcp_parts.proofs.OctetParts.{body_placed}
 use Rattle.rtcp_parts.proofs.Packets.{comes_first}
 use Rattle.rtcp_parts.proofs.packet.packet_at.Goals as goal

@@ -3,7 +3,8 @@ use Rattle.std.proofs.Common.{ℕ, [], ◌∷◌, ◌≡◌, ◌+◌, ◌-◌, r
 use Rattle.rtcp_wire.specs.Puts.{IsPut}
 use Rattle.rtcp_wire.specs.Writing.{written_word, written_header}
 use Rattle.rtcp_report.specs.Sizes.{description_size}
-use Rattle.rtcp_report.specs.Views.{items_of, extra_of}
+use Rattle.rtcp_report.specs.Views.{extra_of}
+use Rattle.rtcp_report.specs.Reports.{items_of}
 use Rattle.rtcp_report.proofs.PutDescriptions.{description_put}
 use Rattle.rtcp_report.proofs.description.put_description.Goals as goal
 

@@ -1,6 +1,5 @@
 use Rattle.rtcp_source.proofs.Summing.{same_said}
-use Rattle.rtcp_source.specs.Blocks.{lsr_of, dlsr_of}
-use Rattle.rtcp_source.specs.Summary.{LastReportValue, last_report_of}
+use Rattle.rtcp_source.specs.Fields.{LastReportValue, last_report_of, lsr_of, dlsr_of}
 use Rattle.rtcp_source.specs.Packets.{run_of, PacketRun}
 use Rattle.std.proofs.Common.{Option}
 use Rattle.rtcp_source.proofs.laws.last_block_is_that_block.Goals as goal

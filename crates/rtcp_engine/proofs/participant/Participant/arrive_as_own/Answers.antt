@@ -2,7 +2,7 @@ use Rattle.std.proofs.Common.{◌∙◌, map, ap, sym}
 use Rattle.rtcp_engine.specs.declared.changes.IdentifierChange.{IdentifierChange}
 use Rattle.rtcp_engine.specs.declared.refusal.Refusal.TheVariants.{OwnSsrc}
 use Rattle.rtcp_engine.specs.answers.Acts.{arrived}
-use Rattle.rtcp_engine.specs.answers.Identities.{may_change}
+use Rattle.rtcp_engine.specs.answers.Changes.{may_change}
 use Rattle.rtcp_engine.specs.state.States.{ParticipantValue}
 use Rattle.rtcp_engine.specs.state.Views.{datagram_of}
 use Rattle.rtcp_engine.proofs.ActLemmas.{refuses}

@@ -1,6 +1,5 @@
 use Rattle.std.proofs.Common.{◌≡◌, ◌∙◌, ◌||◌, Bool, true, false, refl, sym, ap}
-use Rattle.rtcp_engine.specs.answers.Changes.{Session, identifiers, is_in_table, is_taken, named_by}
-use Rattle.rtcp_engine.specs.answers.Identities.{is_among}
+use Rattle.rtcp_engine.specs.answers.Changes.{Session, identifiers, is_in_table, is_taken, named_by, is_among}
 use Rattle.rtcp_engine.specs.state.Named.{after, is_marked}
 use Rattle.rtcp_engine.specs.state.States.{IsIn, over}
 use Rattle.rtcp_engine.specs.state.Views.{datagram_of}

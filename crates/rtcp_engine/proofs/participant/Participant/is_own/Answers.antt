@@ -1,7 +1,7 @@
 use Rattle.std.proofs.Common.{◌∙◌, Bool, ◌∷◌, ◌||◌, map, ap, sym}
 use Rattle.std.proofs.lemmas.Bool.{ne_eqb}
 use Rattle.rtcp_engine.specs.declared.changes.IdentifierChange.{IdentifierChange}
-use Rattle.rtcp_engine.specs.answers.Identities.{is_among}
+use Rattle.rtcp_engine.specs.answers.Changes.{is_among}
 use Rattle.rtcp_engine.specs.state.States.{ParticipantValue}
 use Rattle.rtcp_engine.proofs.participant.Participant.is_own.Goals as goal
 

@@ -1,8 +1,7 @@
 use Rattle.std.proofs.Common.{◌≡◌, ℕ, List, [], ◌∷◌, length, None, ap, ◌∙◌}
 use Rattle.rtcp_clock.specs.Intervals.{drawn_interval}
 use Rattle.rtcp_wire.specs.Writing.{written_all}
-use Rattle.rtcp_report.specs.Reports.{Reporter, packets_with}
-use Rattle.rtcp_report.specs.Views.{items_of}
+use Rattle.rtcp_report.specs.Reports.{Reporter, packets_with, items_of}
 use Rattle.rtcp_timer.specs.Schedules.{transmitted, schedule_at}
 use Rattle.rtcp_timer.specs.Loads.{interval_of}
 use Rattle.rtcp_engine.specs.answers.Setups.{IsUsable}

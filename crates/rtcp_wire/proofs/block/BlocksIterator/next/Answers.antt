@@ -1,6 +1,6 @@
 use Rattle.std.proofs.Common.{◌≡◌, ◌<◌, ◌≤◌, ℕ, List, ◌∷◌, length, take, drop, sym, ap, ◌∙◌, arith}
 use Rattle.rtcp_wire.specs.Values.{ReportBlock}
-use Rattle.rtcp_wire.specs.Grammar.{block_in}
+use Rattle.rtcp_wire.specs.Readings.{block_in}
 use Rattle.rtcp_wire.specs.Views.{block_value, block_values}
 use Rattle.rtcp_wire.proofs.WalkSteps.{blocks_step}
 use Rattle.rtcp_wire.proofs.block.BlocksIterator.next.Goals as goal
