@@ -7,13 +7,13 @@ use Rattle.rtcp_engine.specs.declared.refusal.Refusal.{Refusal}
 use Rattle.rtcp_engine.specs.declared.step.Step.{Step}
 use Rattle.rtcp_engine.specs.declared.step.WrittenStep.{WrittenStep}
 use Rattle.rtcp_engine.specs.declared.step.Written.{Written}
-use Rattle.rtcp_engine.specs.answers.Setups.{Setup, SettingsValue, settings_of, with_settings}
+use Rattle.rtcp_engine.specs.answers.Setups.{Setup, SettingsValue}
 use Rattle.rtcp_engine.specs.answers.Acts.{Act, EventValue, IsActOfEvent, configured, moment_of}
 use Rattle.rtcp_engine.specs.answers.Leaving.{Backoff, Life, present, backing_off, finished, leaving_count}
 use Rattle.rtcp_engine.specs.answers.Lives.{lived, others_moved_by, others_moved_into, out_by, out_while_backing_off, out_while_present, step_into, while_backing_off, while_present}
 use Rattle.rtcp_engine.specs.answers.Outcomes.{Outcome}
 use Rattle.rtcp_engine.specs.answers.Changes.{NewIdentifier, Session, bye_of_change, change_by, changed_by}
-use Rattle.rtcp_engine.specs.answers.Histories.{History, life_at, session_at, settings_after, setup_after, setup_at, with_act}
+use Rattle.rtcp_engine.specs.answers.Histories.{History, life_at, session_at, setup_after, setup_at, with_act}
 use Rattle.rtcp_engine.specs.answers.Refusals.{refusal_after, refusal_of_content}
 use Rattle.rtcp_engine.specs.answers.Answers.{answer_of, followed_by, step_by}
 use Rattle.rtcp_engine.specs.state.Promises.{Answers, Replies, SaysStanding, Spares, Takes as Promised}
@@ -82,12 +82,10 @@ same_stays s = record { setup = refl; latest = refl; calls = refl }
 
 -- an act that gives no settings
 abbrev pub IsPlain : Act → Type 0
-IsPlain act = (settings : SettingsValue) → settings_after act settings ≡ settings
+IsPlain act = (setup : Setup) → setup_after act setup ≡ setup
 
 setup_stays : (act : Act) {old new : State} → IsPlain act → Stays old new → new.setup ≡ setup_after act old.setup
-setup_stays act {old} {new} plain stays =
-    stays.setup ∙ sym (ap (λ (settings : SettingsValue). with_settings settings old.setup)
-    (plain (settings_of old.setup)))
+setup_stays act {old} {new} plain stays = stays.setup ∙ sym (plain old.setup)
 
 -- what one does that takes part
 pub acts_from_present : {p q : ParticipantValue} {act : Act} {out : Option OutValue} {moved : Bool} → IsPlain act →

@@ -8,7 +8,7 @@ use Rattle.rtcp_engine.specs.answers.Acts.{Act, arrived, configured}
 use Rattle.rtcp_engine.specs.answers.Leaving.{Life, present, backing_off, finished}
 use Rattle.rtcp_engine.specs.answers.Lives.{out_by, own_bye}
 use Rattle.rtcp_engine.specs.answers.Changes.{NewIdentifier, Session, change_by, changed_by, changed_to, with_ssrc}
-use Rattle.rtcp_engine.specs.answers.Histories.{session_of, settings_after, setup_after}
+use Rattle.rtcp_engine.specs.answers.Histories.{session_of, setup_after}
 use Rattle.rtcp_engine.specs.answers.Refusals.{refusal_of_content}
 use Rattle.rtcp_engine.specs.bounds.OwnClock.{latest_settings}
 use Rattle.rtcp_engine.specs.state.Taken.{AllTaken}
@@ -29,7 +29,8 @@ ssrc_again setup session (Some new) same = ap (with_ssrc new.ssrc) same
 
 set_again : (setup : Setup) (act : Act) (now : Setup) → now ≡ named_and_set_as now setup →
     setup_after act now ≡ named_and_set_as (setup_after act now) setup
-set_again setup act now same = ap (with_settings (settings_after act (settings_of now))) same
+set_again setup (configured moment settings) now same = ap (with_settings settings) same
+set_again setup act now same = same
 
 -- The setup of a session is the one it began with, but for the identifier and the settings.
 pub same_but_name_and_settings : (setup : Setup) (word : ℕ) (acts : List Act) →

@@ -8,17 +8,17 @@ use Rattle.rtcp_members.specs.Entries.{EntryValue, counted_at, entry_at, members
 use Rattle.rtcp_members.specs.Roles.{IsSameRole}
 use Rattle.rtcp_members.specs.Traces.{TraceStep, block_made_of, fact_came, with_facts, source_forgotten, with_blocks}
 use Rattle.rtcp_members.proofs.LawLemmas as tables
-use Rattle.rtcp_engine.specs.answers.Acts.{Act, arrived, left, rtcp, rtp, ticked, forgotten}
+use Rattle.rtcp_engine.specs.answers.Acts.{Act, arrived, configured, left, rtcp, rtp, ticked, forgotten}
 use Rattle.rtcp_engine.specs.answers.Answers.{step_by}
 use Rattle.rtcp_engine.specs.answers.Arrivals.{after, facts_of_media, media_fact, rate_of}
 use Rattle.rtcp_engine.specs.answers.Changes.{NewIdentifier, Session, change_by, changed_by}
-use Rattle.rtcp_engine.specs.answers.Histories.{History, session_at, session_for, settings_after, setup_after, with_act}
+use Rattle.rtcp_engine.specs.answers.Histories.{History, session_at, session_for, setup_after, with_act}
 use Rattle.rtcp_engine.specs.answers.Leaving.{Life, backing_off, finished, left_at, present}
 use Rattle.rtcp_engine.specs.answers.Lives.{entry_in_life, lived, moved_since, others_moved_by}
 use Rattle.rtcp_engine.specs.answers.Outcomes.{Outcome}
 use Rattle.rtcp_engine.proofs.LifeLemmas.{of_check, of_leave, of_wait}
 use Rattle.rtcp_engine.specs.answers.Reporting.{reported_at}
-use Rattle.rtcp_engine.specs.answers.Setups.{Setup, SettingsValue, settings_of, with_settings}
+use Rattle.rtcp_engine.specs.answers.Setups.{Setup}
 use Rattle.rtcp_engine.specs.answers.Ticks.{after_check, after_tick, checked}
 use Rattle.rtcp_engine.proofs.RolesChanged.{leave_moves}
 
@@ -150,10 +150,11 @@ same_in_change session (Some new) ssrc = under session.setup new session.life
     under setup new (finished outcome) = refl
 
 -- Nor do other settings.
-same_when_set : (settings : SettingsValue) (setup : Setup) (life : Life) (ssrc : ℕ) →
-    entry_in_life setup life ssrc ≡ entry_in_life (with_settings settings setup) life ssrc
-same_when_set settings setup (present outcome) ssrc = refl
-same_when_set settings setup life ssrc = refl
+same_when_set : (act : Act) (setup : Setup) (life : Life) (ssrc : ℕ) →
+    entry_in_life setup life ssrc ≡ entry_in_life (setup_after act setup) life ssrc
+same_when_set (configured moment settings) setup (present outcome) ssrc = refl
+same_when_set (configured moment settings) setup life ssrc = refl
+same_when_set act setup life ssrc = refl
 
 pub others_kept : (history : History) (act : Act) → (step_by history act).others_changed ≡ false → (ssrc : ℕ)
     → let before = session_at history in let next = session_at (with_act history act) in
@@ -165,5 +166,5 @@ others_kept history act still ssrc =
     subst (λ (entry : Option EntryValue). IsSameRole entry (entry_in_life (setup_after act now.setup) life ssrc))
     (sym (same_in_change before (change_by before act) ssrc))
     (subst (IsSameRole (entry_in_life now.setup now.life ssrc))
-    (same_when_set (settings_after act (settings_of now.setup)) now.setup life ssrc)
+    (same_when_set act now.setup life ssrc)
     (kept_in now.setup act now.life still ssrc))

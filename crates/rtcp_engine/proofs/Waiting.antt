@@ -13,7 +13,7 @@ use Rattle.rtcp_timer.specs.Loads.{interval_of}
 use Rattle.rtcp_timer.specs.Schedules.{Happening, Timing, IsDue, IsInOrder, newest_transmission, greatest_draw, schedule_at}
 use Rattle.rtcp_timer.specs.Departures.{members_known, last_departure}
 use Rattle.rtcp_timer.proofs.LawLemmas.{due_in_time}
-use Rattle.rtcp_engine.specs.answers.Setups.{Setup, SettingsValue, IsUsable, settings_of, with_settings}
+use Rattle.rtcp_engine.specs.answers.Setups.{Setup, IsUsable}
 use Rattle.rtcp_engine.specs.answers.Acts.{rtcp, rtp, Act, arrived, rtp_sent, ticked, left, configured, moment_of, forgotten}
 use Rattle.rtcp_engine.specs.answers.OwnStreams.{has_sent}
 use Rattle.rtcp_engine.specs.answers.Outcomes.{Outcome, interval_at, member_count, nothing_yet, with_pace}
@@ -22,7 +22,7 @@ use Rattle.rtcp_engine.specs.answers.Arrivals.{media_fact, rate_of, with_media}
 use Rattle.rtcp_engine.specs.answers.Changes.{NewIdentifier, Session, change_by, changed_by, with_ssrc}
 use Rattle.rtcp_engine.specs.declared.refusal.Refusal.{Refusal}
 use Rattle.rtcp_engine.specs.answers.Answers.{answer_of, followed_by, step_by}
-use Rattle.rtcp_engine.specs.answers.Histories.{History, last_moment, life_at, session_of, settings_after, setup_at, with_act}
+use Rattle.rtcp_engine.specs.answers.Histories.{History, last_moment, life_at, session_of, setup_after, setup_at, with_act}
 use Rattle.rtcp_engine.specs.answers.Refusals.{refusal_after}
 use Rattle.rtcp_engine.specs.bounds.Runs.{HasCompound, IsAnsweredInTime}
 use Rattle.rtcp_engine.specs.answers.Steps.{answer_unless}
@@ -303,12 +303,13 @@ keeps_with_ssrc setup ssrc fall greatest t (backing_off outcome backoff) h = h
 keeps_with_ssrc setup ssrc fall greatest t (finished outcome) h = tt
 
 -- Nor do other settings.
-keeps_with_settings : (setup : Setup) (settings : SettingsValue) (fall greatest t : ℕ) (life : Life) →
-    KeepsTime setup fall greatest t life → KeepsTime (with_settings settings setup) fall greatest t life
-keeps_with_settings setup settings fall greatest t (present outcome) h =
+keeps_with_settings : (setup : Setup) (act : Act) (fall greatest t : ℕ) (life : Life) →
+    KeepsTime setup fall greatest t life → KeepsTime (setup_after act setup) fall greatest t life
+keeps_with_settings setup (configured moment settings) fall greatest t (present outcome) h =
     record { known = h.known; fell = h.fell; drawn = h.drawn; past = h.past }
-keeps_with_settings setup settings fall greatest t (backing_off outcome backoff) h = h
-keeps_with_settings setup settings fall greatest t (finished outcome) h = tt
+keeps_with_settings setup (configured moment settings) fall greatest t (backing_off outcome backoff) h = h
+keeps_with_settings setup (configured moment settings) fall greatest t (finished outcome) h = tt
+keeps_with_settings setup act fall greatest t life h = h
 
 change_keeps_time : (session : Session) (fall greatest t : ℕ) (change : Option NewIdentifier) →
     KeepsTime session.setup fall greatest t session.life → KeepsTime (changed_by change session).setup fall greatest t
@@ -332,7 +333,7 @@ session_keeps_time setup word (act ∷ earlier) fits taken =
     let before = session_of setup word earlier in
     let change = change_by before act in
     let now = changed_by change before in
-    keeps_with_settings now.setup (settings_after act (settings_of now.setup)) _ _ (moment_of act)
+    keeps_with_settings now.setup act _ _ (moment_of act)
     (lived now.setup act now.life)
     (waits_after now.setup (last_fall setup word earlier) (greatest_interval setup word earlier) (last_moment earlier)
     act now.life

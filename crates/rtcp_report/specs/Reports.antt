@@ -64,15 +64,12 @@ bye_packet ssrc = bye (ssrc ∷ []) None
 abbrev pub receiver_with : (ssrc : ℕ) → List ItemValue → Reporter
 receiver_with ssrc items = record { ssrc = ssrc; sent = None; items = items }
 
-abbrev pub bye_with : (ssrc : ℕ) → List ItemValue → List RtcpPacket
-bye_with ssrc items = packets_with (receiver_with ssrc items) [] ++ bye_packet ssrc ∷ []
-
 -- who only receives, and says nothing of itself but its CNAME
 abbrev pub receiver_named : (ssrc : ℕ) → (cname : List ℕ) → Reporter
 receiver_named ssrc cname = receiver_with ssrc (cname_item cname ∷ [])
 
--- What a participant sends as it leaves (6.3.7): the report of one that only receives, without blocks, and with its CNAME
--- alone; and its BYE, without a reason (6.6).
+-- What a participant sends as it leaves (6.3.7): the report of one that only receives, without blocks, and with its
+-- CNAME alone; and its BYE, without a reason (6.6).
 abbrev pub bye_of : (ssrc : ℕ) → (cname : List ℕ) → List RtcpPacket
 bye_of ssrc cname =
     packets_with (record { ssrc = ssrc; sent = None; items = cname_item cname ∷ [] }) [] ++ bye (ssrc ∷ []) None ∷ []

@@ -22,7 +22,7 @@ use Rattle.rtcp_engine.specs.answers.Reporting.{reported_at}
 use Rattle.rtcp_engine.specs.answers.Leaving.{Backoff, Life, present, backing_off, finished, after_own_bye, counted_anew, few_members, is_bye_due, left_at, sent_nothing}
 use Rattle.rtcp_engine.specs.answers.Lives.{lived, members_in_life, with_new_ssrc}
 use Rattle.rtcp_engine.specs.answers.Changes.{NewIdentifier, Session, change_by, changed_by, is_among, with_ssrc}
-use Rattle.rtcp_engine.specs.answers.Histories.{History, life_at, session_at, session_for, session_of, setup_at, with_act}
+use Rattle.rtcp_engine.specs.answers.Histories.{History, life_at, session_at, session_for, session_of, setup_after, setup_at, with_act}
 use Rattle.rtcp_engine.specs.bounds.InTime.{is_fall, recounted_by}
 use Rattle.rtcp_engine.specs.bounds.Sent.{reports_in, sent_at}
 use Rattle.rtcp_engine.specs.state.Taken.{IsHistory}
@@ -345,13 +345,22 @@ tells_fewer_then session act (Some new) later is fell = by session.life is fell
         (after_own_bye session.setup outcome backoff) is)
     by (finished outcome) is fell = absurd cc
 
+-- Nor do settings.
+same_count : (setup : Setup) (act : Act) (outcome : Outcome) →
+    member_count (setup_after act setup) outcome ≡ member_count setup outcome
+same_count setup (configured moment settings) outcome = refl
+same_count setup act outcome = refl
+
 pub told_fewer : (history : History) (act : Act) (later : Outcome) →
     life_at (with_act history act) ≡ present later →
     members_in_life (setup_at (with_act history act)) (present later)
     < members_in_life (setup_at history) (life_at history) →
     is_departure_after history act ≡ true
 told_fewer history act later is fell =
-    tells_fewer_then (session_at history) act (change_by (session_at history) act) later is fell
+    let now = session_for (session_at history) act in
+    tells_fewer_then (session_at history) act (change_by (session_at history) act) later is
+    (subst (λ (count : ℕ). count < members_in_life (setup_at history) (life_at history))
+    (same_count now.setup act later) fell)
 
 -- ---- Counts of departures
 

@@ -79,9 +79,10 @@ changed_pays session (Some new) = by session.life
 -- Settings change no count.
 same_with_settings : (setup : Setup) (act : Act) (life : Life) →
     other_members (setup_after act setup) life ≤ other_members setup life
-same_with_settings setup act (present outcome) = le_refl _
-same_with_settings setup act (backing_off outcome backoff) = le_refl 0
-same_with_settings setup act (finished outcome) = le_refl 0
+same_with_settings setup (configured moment settings) (present outcome) = le_refl _
+same_with_settings setup (configured moment settings) (backing_off outcome backoff) = le_refl 0
+same_with_settings setup (configured moment settings) (finished outcome) = le_refl 0
+same_with_settings setup act life = le_refl _
 
 -- ---- Histories
 

@@ -4,7 +4,8 @@ use Rattle.std.specs.Prelude.{ℕ, ◌*◌, ◌==◌, not, ◌&&◌, ◌||◌, n
 use Rattle.byteorder.specs.Endian.{big_number}
 use Rattle.rtcp_wire.specs.declared.rtp.fault.RtpFault.{RtpFault}
 use Rattle.rtcp_wire.specs.declared.rtp.fault.RtpFault.TheVariants.{Short, Version, PayloadType, Extension, Padding}
-use Rattle.rtcp_wire.specs.RtpHeads.{RtpValue, rtp_version_of, has_padding, has_extension, csrc_count_of, marker_of, payload_type_of, extension_size, lists_size, after_csrcs, after_extension, last_of, csrcs_in, without_padding}
+use Rattle.rtcp_wire.specs.Readings.{version_of, is_padded}
+use Rattle.rtcp_wire.specs.RtpHeads.{RtpValue, has_extension, csrc_count_of, marker_of, payload_type_of, extension_size, lists_size, after_csrcs, after_extension, last_of, csrcs_in, without_padding}
 
 -- RFC 3551, 6: types 72 to 76 are reserved, since with the marker they are RTCP's packet types 200 to 204.
 abbrev pub is_reserved : (payload_type : ℕ) → Bool
@@ -28,7 +29,7 @@ head_in octets = record {
   timestamp = big_number 4 (drop 4 octets);
   ssrc = big_number 4 (drop 8 octets);
   csrcs = csrcs_in (take (4 * csrc_count_of octets) (drop 12 octets));
-  payload = without_padding (has_padding octets) (after_extension octets);
+  payload = without_padding (is_padded octets) (after_extension octets);
 }
 
 -- What octets say, or the first fault of these tests. RFC 3550, 5.1: twelve octets stand in each packet, and then a
@@ -37,8 +38,8 @@ head_in octets = record {
 abbrev pub rtp_in : List ℕ → Result RtpValue RtpFault
 rtp_in octets =
     if nat_lt (length octets) (lists_size octets) then Err Short
-    else (if not (rtp_version_of octets == 2) then Err Version
+    else (if not (version_of octets == 2) then Err Version
     else (if is_reserved (payload_type_of octets) then Err PayloadType
     else (if has_extension octets && is_cut_off (after_csrcs octets) then Err Extension
-    else (if has_padding octets && is_miscounted (after_extension octets) then Err Padding
+    else (if is_padded octets && is_miscounted (after_extension octets) then Err Padding
     else Ok (head_in octets)))))
