@@ -85,7 +85,8 @@ pub tells_refused : {was_held held : Option HostSession} {session before after :
     result ≡ status_of (participant_reply octets reply) → HandsOut step was octets (participant_reply octets reply) →
     ((start : ℕ) (history : History) → Leads after start history → Shows start step history) →
     TellsGuarded event now was_held held result step was octets
-tells_refused {was = was} {octets = octets} {step = step} event reply gives counted is counts replies held_is status handed shown =
+tells_refused {was = was} {octets = octets} {step = step} event reply gives counted is counts replies held_is status
+    handed shown =
     tells_guarded event (as_refused reply) gives counted is counts replies held_is (status ∙ status_as octets reply)
     (handed_as step was octets reply handed) shown
 

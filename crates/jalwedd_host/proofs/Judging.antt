@@ -90,7 +90,8 @@ ticked old mid new moment w1 w2 silent {was} {octets} (Ok step) same goes replie
       checks.taken guard (ap (option_map box_value) same ∙ is),
       subst (λ (p : ParticipantValue). Replies (both old.participant guard) (time_passed moment w1 w2) was octets
           (Ok step) (both p later)) (sym checks.told.1)
-          (tick_reply {old = both old.participant guard} {new = both mid.participant later} moment w1 w2 silent (Ok step)
+          (tick_reply {old = both old.participant guard} {new = both mid.participant later} moment w1 w2 silent
+          (Ok step)
           (goes guard is) refl replies),
     )
 ticked old mid new moment w1 w2 silent {was} {octets} (Err refusal) same goes replies checks guard is = (

@@ -43,7 +43,8 @@ pub record SparesSession (before after : Option HostSession) (result : ℕ) (ste
   pub refused : result ≢ 0 → after ≡ before
   pub empty : before ≡ None → (result ≡ 20) × IsBlank step × (octets ≡ was)
 
--- The same of a call that a guard may hold back: what is not taken leaves the participant and the start as they were, and
+-- The same of a call that a guard may hold back: what is not taken leaves the participant and the start as they were,
+-- and
 -- where there is no guard the session.
 pub record SparesArrival (before after : Option HostSession) (result : ℕ) (step : HostStep) (was octets : List ℕ) : Type
     0 where

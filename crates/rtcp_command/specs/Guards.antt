@@ -12,7 +12,8 @@ names_in text =
 -- 1 to 1,000,000,000 seconds, in microseconds
 abbrev pub hold_in : List ℕ → Option ℕ
 hold_in text =
-    option_and_then (λ seconds. if nat_le 1 seconds && nat_le seconds 1000000000 then Some (seconds * 1000000) else None)
+    option_and_then (λ seconds. if nat_le 1 seconds && nat_le seconds 1000000000 then Some (seconds * 1000000) else
+    None)
     (decimal_in 32 text)
 
 abbrev pub limits_of : (hold : ℕ) → (names : ℕ) → GuardLimits

@@ -3,7 +3,8 @@
 -- `ActLemmas` leads from `Does` to `Acts`, by phase, and from `Acts` to `Takes`, with `AnswerLemmas` and `LifeLemmas`.
 -- `Changing`, `ChangeRest` and `ChangeLemmas` cover a change of SSRC, in a session and in a participant, `Arriving`
 -- datagrams, `Inspecting` those that are yet to be taken, and `Hearing` and `Sighting` who is a member since a datagram
--- named it. `Pacing` and `PaceEnds` cover what checks go by after a change of bandwidths. `Saying` covers facts that are
+-- named it. `Pacing` and `PaceEnds` cover what checks go by after a change of bandwidths. `Saying` covers facts that
+-- are
 -- applied part by part, and `OneSource` those of one source.
 -- That the search for a new SSRC ends with a free one is proved by counting those in its way (`NewIdentifiers`,
 -- `IdentifierSearch`, `Marking`).

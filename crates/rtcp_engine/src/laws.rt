@@ -260,8 +260,8 @@ pub fn listed_moments_have_passed()
 {}
 
 /// Where nothing is said of the clocks of payload types, and no settings change the rate, all RTP packets that came
-/// count in units of clocks of one rate, the usual one. So each source has the jitter of its whole run, in units of that
-/// clock (rtcp_members's law `one_clock_is_one_rate`): it is as if there were no payload types.
+/// count in units of clocks of one rate, the usual one. So each source has the jitter of its whole run, in units of
+/// that clock (rtcp_members's law `one_clock_is_one_rate`): it is as if there were no payload types.
 pub fn one_clock_without_others()
     ensures { (setup : Setup) (word : ℕ) (acts : List Act) (outcome : Outcome) → setup.clocks ≡ [] →
         AllByRecursion (GivesNoClocks setup.rate) acts → (session_of setup word acts).life ≡ present outcome →

@@ -17,8 +17,8 @@ is_due_in ssrc (Some stay) = is_none (mark_of ssrc stay) && has_news_since (give
 abbrev pub is_due_by : (capacity : ℕ) → List TraceStep → (ssrc : ℕ) → Bool
 is_due_by capacity trace ssrc = is_due_in ssrc (stay_of capacity trace ssrc)
 
--- The block of a source at the moment `t`, by its stay: it is made of the packets and the sender reports before its mark,
--- where some packet was counted.
+-- The block of a source at the moment `t`, by its stay: it is made of the packets and the sender reports before its
+-- mark, where some packet was counted.
 abbrev pub block_in : (ssrc t : ℕ) → Option (List TraceStep) → Option ReportBlock
 block_in ssrc t None = None
 block_in ssrc t (Some stay) = block_over ssrc t (given_of ssrc (before_mark ssrc stay))

@@ -109,7 +109,8 @@ pub is_act_in : (reader : Reader) → IsReader reader → (event : EventValue) �
 is_act_in reader reads (rtcp_arrived moment peer word octets) = ap (rtcp_came moment peer word octets)
     (one_reading-once octets (reader.rtcp octets) (rtcp_in octets) (reads.rtcp octets) (one_reading-computed octets))
 is_act_in reader reads (rtp_arrived moment peer word octets) = ap (rtp_came moment peer word)
-    (one_reading-rtp_once octets (reader.rtp octets) (rtp_in octets) (reads.rtp octets) (one_reading-rtp_computed octets))
+    (one_reading-rtp_once octets (reader.rtp octets) (rtp_in octets) (reads.rtp octets)
+    (one_reading-rtp_computed octets))
 is_act_in reader reads (packet_sent moment timestamp octets) = refl
 is_act_in reader reads (time_passed moment first_word second_word) = refl
 is_act_in reader reads (leave_asked moment word) = refl

@@ -19,7 +19,8 @@
 -- Falls: `Falling` goes from tick to tick, a longest wait apart: each brings a report, or a fall came since the one
 -- before.
 --
--- Departures: `Departing` says of each kind of step of a trace which members it leaves, and counts them. `Departed` goes
+-- Departures: `Departing` says of each kind of step of a trace which members it leaves, and counts them. `Departed`
+-- goes
 -- from there to acts, to falls and to reports. `NewMembers` adds up the members that departures take away, and
 -- `TimingOut` has the silence before a time-out.
 --

@@ -183,7 +183,8 @@ in_order : (back : Bool) (others : Option Refusal) → (if back then Some Backwa
 in_order true others none = absurd cc
 in_order false others none = refl
 
-pub in_time : (history : History) (act : Act) → refusal_after history act ≡ None → last_moment history.acts ≤ moment_of act
+pub in_time : (history : History) (act : Act) → refusal_after history act ≡ None →
+    last_moment history.acts ≤ moment_of act
 in_time history act none =
     ltb-false (moment_of act) (last_moment history.acts)
     (in_order (nat_lt (moment_of act) (last_moment history.acts)) _

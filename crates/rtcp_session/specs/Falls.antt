@@ -1,4 +1,5 @@
--- That few falls in the number of members put off few reports (RFC 3550, 6.3.4): what it takes that a participant reports
+-- That few falls in the number of members put off few reports (RFC 3550, 6.3.4): what it takes that a participant
+-- reports
 -- between two moments. Lists are newest first; moments and waits are in microseconds.
 use Rattle.std.specs.Prelude.{ℕ, ◌≡◌, ◌+◌, ◌≤◌, ◌&&◌, nat_le, nat_lt, List, [], ◌∷◌, ◌++◌, if◌then◌else◌}
 use Rattle.rtcp_engine.specs.answers.Setups.{Setup}

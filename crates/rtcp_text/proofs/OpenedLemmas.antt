@@ -83,7 +83,8 @@ module _ (opening : List ℕ) (IsText : TextOfLines) where
 
     -- After the opening
     OpenedLeaves-opened : {A : Type 0} (r : Result A TextFault) (left : Option (List ℕ)) (input text answers : List ℕ) →
-        text ≡ opening ++ answers → RunLeaves IsText r left input answers → OpenedLeaves opening IsText r left input text
+        text ≡ opening ++ answers → RunLeaves IsText r left input answers →
+        OpenedLeaves opening IsText r left input text
     OpenedLeaves-opened (Err Memory) left input text answers parts leaves = inr (answers, parts, leaves)
     OpenedLeaves-opened {A} (Err Write) left input text answers parts leaves =
         opened_prefix input text answers parts

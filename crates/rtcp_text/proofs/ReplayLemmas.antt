@@ -50,7 +50,8 @@ one_answer history next next' line text text' (event, act, is, is_act, shown, fo
       follows ∙ ap (followed_by history) acts ∙ sym follows',
     )
 
-pub one_fault : (line : List ℕ) (fault fault' : LineFault) → IsNoEvent line fault → IsNoEvent line fault' → fault ≡ fault'
+pub one_fault : (line : List ℕ) (fault fault' : LineFault) → IsNoEvent line fault → IsNoEvent line fault' →
+    fault ≡ fault'
 one_fault line fault fault' h k = cc (h, k)
 
 pub never_both : (line : List ℕ) (fault : LineFault) (event : EventValue) → IsNoEvent line fault →

@@ -27,7 +27,8 @@ Writes-session most participant_of state history stands r remaining held last le
     let IsAnswered = IsTextFrom most (AnswersStanding participant_of) IsNoEvent 1 state in
     Writes-leaves (opening history) (IsSessionText most history) (session_text_exists most history)
     (session_text_continues most history) IsAnswered (IsSessionText-from most participant_of state history stands) r
-    remaining held last left (subst (λ o. Writes remaining held last (OpenedRunLeaves o IsAnswered r left)) opens writes)
+    remaining held last left (subst (λ o. Writes remaining held last (OpenedRunLeaves o IsAnswered r left)) opens
+    writes)
 
 -- Each promise of a replay is one case of what its session leaves.
 pub replays : (most : ℕ) (history : History) (result : Result (Unit {0}) TextFault) (left : Option (List ℕ))

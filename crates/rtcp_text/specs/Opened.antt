@@ -52,7 +52,8 @@ module _ (opening : List ℕ) (IsText : TextOfLines) where
       ((r ≡ Err Write) × ((more : List ℕ) × (opening ≡ text ++ more)))
       ⊎ OpensWith opening (RunLeaves IsText r left) input text
 
-  -- What a replay promises where a configuration is usable, by what it wrote, its outcome, and what the reader has left.
+  -- What a replay promises where a configuration is usable, by what it wrote, its outcome, and what the reader has
+  -- left.
   pub record ReplaysWith
       (IsUsable : Type 0) {A : Type 0} (result : Result A ReplayFault) (left : Option (List ℕ))
       (Leaves : (List ℕ → List ℕ → Type 0) → Type 0)

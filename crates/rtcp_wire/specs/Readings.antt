@@ -1,6 +1,6 @@
 -- What the octets of a datagram say, or the first fault in them, in one function: `rtcp_in`. A walk over octets reads
--- packets from first to last, and their parts (`packets_in`); of octets with a fault nothing is claimed of what it reads.
--- Faults are found by tests in the order of RFC 3550, appendix A.2. A law says that this is the grammar
+-- packets from first to last, and their parts (`packets_in`); of octets with a fault nothing is claimed of what it
+-- reads. Faults are found by tests in the order of RFC 3550, appendix A.2. A law says that this is the grammar
 -- (`readings_are_computed`). Octets are a list of numbers, the first octet first.
 use Rattle.std.specs.Prelude.{ℕ, zero, suc, ◌+◌, ◌-◌, ◌*◌, ◌%◌, ◌==◌, ◌&&◌, ◌||◌, nat_lt, nat_le, not, Bool, true, false, if◌then◌else◌, List, [], ◌∷◌, Option, Some, None, Result, Ok, Err, length, drop, slice_index, ◌/◌, take, sum_by}
 use Rattle.byteorder.specs.Endian.{big_number, twos_complement}

@@ -1,4 +1,5 @@
--- What the tests of a datagram see of its sources, against one source: whether the packets keep to it, and that they give
+-- What the tests of a datagram see of its sources, against one source: whether the packets keep to it, and that they
+-- give
 -- a CNAME where a chunk begins with one. For the contracts between the tests, over what a walk reads.
 use Rattle.std.specs.Prelude.{◌≡◌, ℕ, ◌==◌, ◌&&◌, ◌||◌, Bool, true, false, List, [], ◌∷◌, Option, Some, None, length, drop}
 use Rattle.std.specs.List.{list_all, list_any}

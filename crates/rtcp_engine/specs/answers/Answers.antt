@@ -27,7 +27,8 @@ abbrev pub followed_by : History → Act → History
 followed_by history act =
     elim (refusal_after history act) [ None ↦ with_act history act | Some refusal ↦ history ]
 
--- The SSRC under which an act is taken after a history, with the change that the act brings (8.2), or why it is refused.
+-- The SSRC under which an act is taken after a history, with the change that the act brings (8.2), or why it is
+-- refused.
 abbrev pub taken_under : History → Act → Result ℕ Refusal
 taken_under history act =
     elim (refusal_after history act) [

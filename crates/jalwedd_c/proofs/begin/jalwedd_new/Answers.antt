@@ -35,7 +35,8 @@ returns-clause-vacant c vacant =
     let fill = c.in_default-fill.ensures in
     let usable = ap error_in (sym (fill.given refl)) ∙ sym c.in_default-error.ensures.exact in
     let low = c.if-config-ge-START_LIMIT.false in
-    let none = not_refused c.args.config.now c.args.cname.now c.args.items.now (fill.fits refl) usable low (c.can_guard.ensures.0 c.if-not-can_guard.false) in
+    let none = not_refused c.args.config.now c.args.cname.now c.args.items.now (fill.fits refl) usable low
+    (c.can_guard.ensures.0 c.if-not-can_guard.false) in
     let begin = c.begin.ensures in
     record {
       refused = λ status is. absurd (is_none none is);

@@ -34,8 +34,10 @@ returns-clause-guarded c fits =
     subst (λ (s : SettingsValue). TellsGuarded (λ m. settings_told m s) c.args.now c.args.handle.now.owned.held
     c.put_back.new.self.owned.held c.put_back.result c.put_back.new.step c.args.octets.now
     c.configure_into-reply.new.octets) given
-    (tells_refused {before = before} {after = after} (λ m. settings_told m settings) _ gives counted c.deref_mut.ensures.value refl
-    (unseen before after (settings_told _ settings) (configured _ settings) _ (λ s course. (refl, refl)) (λ other is. is) refl refl
+    (tells_refused {before = before} {after = after} (λ m. settings_told m settings) _ gives counted
+    c.deref_mut.ensures.value refl
+    (unseen before after (settings_told _ settings) (configured _ settings) _ (λ s course. (refl, refl))
+    (λ other is. is) refl refl
     reply) put.held (put.status _) (put.handed _ _ reply.writes.leaves) put.shown)
 
 pub returns-in-Some-clause-turns_away : goal.returns-in-Some-clause-turns_away

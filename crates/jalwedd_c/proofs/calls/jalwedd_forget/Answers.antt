@@ -21,6 +21,8 @@ returns-clause-guarded c =
     let before = c.deref_mut.result.now in
     let after : HostSession = record before { participant = c.forget_into-reply.new.self } in
     let reply = c.forget_into-reply.ensures.replies in
-    tells_refused {before = before} {after = after} (λ m. forget_asked m c.args.ssrc) _ gives counted c.deref_mut.ensures.value refl
-    (unseen before after (forget_asked _ c.args.ssrc) (forgotten _ c.args.ssrc) _ (λ settings course. (refl, refl)) (λ other is. is) refl refl reply) put.held
+    tells_refused {before = before} {after = after} (λ m. forget_asked m c.args.ssrc) _ gives counted
+    c.deref_mut.ensures.value refl
+    (unseen before after (forget_asked _ c.args.ssrc) (forgotten _ c.args.ssrc) _ (λ settings course. (refl, refl))
+    (λ other is. is) refl refl reply) put.held
     (put.status _) (put.handed _ _ reply.writes.leaves) put.shown

@@ -21,6 +21,8 @@ returns-clause-guarded c =
     let before = c.deref_mut.result.now in
     let after : HostSession = record before { participant = c.leave_into-reply.new.self } in
     let reply = c.leave_into-reply.ensures in
-    tells_refused {before = before} {after = after} (λ m. leave_asked m c.args.word) _ gives counted c.deref_mut.ensures.value refl
-    (unseen before after (leave_asked _ c.args.word) (left _ c.args.word) _ (λ settings course. (refl, refl)) (λ other is. is) refl refl reply) put.held
+    tells_refused {before = before} {after = after} (λ m. leave_asked m c.args.word) _ gives counted
+    c.deref_mut.ensures.value refl
+    (unseen before after (leave_asked _ c.args.word) (left _ c.args.word) _ (λ settings course. (refl, refl))
+    (λ other is. is) refl refl reply) put.held
     (put.status _) (put.handed _ _ reply.writes.leaves) put.shown

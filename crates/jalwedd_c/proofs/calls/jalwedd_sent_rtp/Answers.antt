@@ -22,6 +22,8 @@ returns-clause-guarded c =
     let before = c.deref_mut.result.now in
     let after : HostSession = record before { participant = c.sent_rtp_into-reply.new.self } in
     let reply = c.sent_rtp_into-reply.ensures.replies in
-    tells_refused {before = before} {after = after} (λ m. packet_sent m c.args.timestamp c.args.size) _ gives counted c.deref_mut.ensures.value refl
-    (unseen before after (packet_sent _ c.args.timestamp c.args.size) (rtp_sent _ c.args.timestamp c.args.size) _ (λ settings course. (refl, refl)) (λ other is. is) refl refl reply) put.held
+    tells_refused {before = before} {after = after} (λ m. packet_sent m c.args.timestamp c.args.size) _ gives counted
+    c.deref_mut.ensures.value refl
+    (unseen before after (packet_sent _ c.args.timestamp c.args.size) (rtp_sent _ c.args.timestamp c.args.size) _
+    (λ settings course. (refl, refl)) (λ other is. is) refl refl reply) put.held
     (put.status _) (put.handed _ _ reply.writes.leaves) put.shown

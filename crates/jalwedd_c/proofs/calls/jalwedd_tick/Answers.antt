@@ -9,7 +9,8 @@ returns-clause-tells c =
     let (gives, left, counted) = c.in-Ok.ensures in
     let put = c.put_back.ensures in
     let reply = c.tick-reply.ensures.participant in
-    tells (λ m. time_passed m c.args.first_word c.args.second_word) _ gives counted c.deref_mut.ensures.value c.tick-reply.ensures.start reply
+    tells (λ m. time_passed m c.args.first_word c.args.second_word) _ gives counted c.deref_mut.ensures.value
+    c.tick-reply.ensures.start reply
     put.held (put.status _)
     (put.handed _ _ reply.writes.leaves) put.shown
 

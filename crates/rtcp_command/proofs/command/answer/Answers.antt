@@ -73,7 +73,8 @@ returns-in_ok-replay_guarded-in-ReplayGuarded-clause-answers g c =
     replay_guarded_answers _ _ _ _ _ c.in-ReplayGuarded.is (Ok _)
     c.in_ok-replay_guarded-in-ReplayGuarded.ensures.config c.in_ok-replay_guarded-in-ReplayGuarded.ensures.replays
 
-pub returns-in_err-replay_json-in-ReplayJson-clause-answers : goal.returns-in_err-replay_json-in-ReplayJson-clause-answers
+pub returns-in_err-replay_json-in-ReplayJson-clause-answers :
+    goal.returns-in_err-replay_json-in-ReplayJson-clause-answers
 returns-in_err-replay_json-in-ReplayJson-clause-answers g c =
     let found = c.in_err-replay_json-in-ReplayJson.field-0.0 in
     at_exit _ _ (replay_fault found) c.from_residual-in_err-replay_json-in-ReplayJson.ensures.1

@@ -18,8 +18,10 @@ returns-then-is_err-clause-stands g c history h =
     c.events-test.true in
     let told = followed_by_all history (take c.events.taken (map act_told c.args.events.now)) in
     subst (λ (hs : History). StandsAt c.tell-answer.new.self hs)
-    (sym (ap (followed_by_all history) next.more ∙ followed_more history (take c.events.taken (map act_told c.args.events.now)) next.act))
-    ((c.tell-answer.ensures.takes next.act (subst (λ (event : Event). next.act ≡ act_of (event_value event)) (sym c.event-item.is)
+    (sym (ap (followed_by_all history) next.more
+    ∙ followed_more history (take c.events.taken (map act_told c.args.events.now)) next.act))
+    ((c.tell-answer.ensures.takes next.act
+    (subst (λ (event : Event). next.act ≡ act_of (event_value event)) (sym c.event-item.is)
     (next.is_act c.event-item.result))).stands told (c.events.invariant.stands history h))
 
 pub returns-then-is_err-clause-sends : goal.returns-then-is_err-clause-sends
@@ -27,7 +29,8 @@ returns-then-is_err-clause-sends g c history h =
     let some = sym c.is_err.ensures.value ∙ c.if-is_err.true in
     let one_less : c.events.taken ≡ c.events.taken + 1 - 1 = omega arith in
     let given = taken_since (g.S.Sink.content c.args.sink.now) (g.S.Sink.content c.put.new.self) in
-    subst (λ (n : ℕ). HandsOver history (take n (map act_told c.args.events.now)) given) one_less (hands_over history _ _ _
+    subst (λ (n : ℕ). HandsOver history (take n (map act_told c.args.events.now)) given) one_less
+    (hands_over history _ _ _
     (of_error c.put.result some c.put.ensures.lost ∙ c.events.invariant.told history h)
     (c.events.invariant.stands history h).is_history)
 
@@ -64,13 +67,15 @@ events-preserved g c =
           ∙ ap (λ (answer : AnswerValue). (start ++ before) ++ answer ∷ []) one
           ∙ append_assoc start before (answer_of told next.act ∷ [])
           ∙ sym (ap (λ (answers : List AnswerValue). start ++ answers)
-          (ap (answers_to history) next.more ∙ answers_more history (take c.events.taken (map act_told c.args.events.now)) next.act));
+          (ap (answers_to history) next.more
+          ∙ answers_more history (take c.events.taken (map act_told c.args.events.now)) next.act));
       stands = λ history h.
           let next = next_act c.args.events.now c.events.taken c.events.event-index c.events.invariant.count
           c.events-test.true in
           let told = followed_by_all history (take c.events.taken (map act_told c.args.events.now)) in
           subst (λ (hs : History). StandsAt c.tell-answer.new.self hs)
-          (sym (ap (followed_by_all history) next.more ∙ followed_more history (take c.events.taken (map act_told c.args.events.now)) next.act))
+          (sym (ap (followed_by_all history) next.more
+          ∙ followed_more history (take c.events.taken (map act_told c.args.events.now)) next.act))
           ((c.tell-answer.ensures.takes next.act
           (subst (λ (event : Event). next.act ≡ act_of (event_value event)) (sym c.event-item.is)
           (next.is_act c.event-item.result))).stands told

@@ -16,7 +16,8 @@ returns-clause-leaves g c = λ history stands.
     let held = g.W.Write.contents (inner_of c.args.writer.now) in
     let last = g.W.Write.contents (inner_of c.answer_opened.new.writer) in
     let left = g.R.Read.remaining (inner_of c.answer_opened.new.reader) in
-    let opens = opening_shown c.next.result _ c.push_start.new.out.items c.in_default.ensures c.new-start.ensures.items in
+    let opens = opening_shown c.next.result _ c.push_start.new.out.items c.in_default.ensures
+    c.new-start.ensures.items in
     Writes-session c.args.lines (λ (player : GuardedPlayer g.row.T.Denot). player.guarded) c.new-player.result history
     (subst (λ p. StandsAt p history) (sym c.new-player.ensures) stands)
     c.answer_opened.result remaining held last left c.deref.result.now

@@ -11,5 +11,6 @@ borrowed seen ssrc less fits = omega arith
 
 pub returns-clause-before : goal.returns-clause-before
 returns-clause-before c less =
-    ap (bit_and c.args.many) (borrowed c.from.result c.from-2.result (omega (arith, less)) (omega (arith, c.ranges.ssrc.fits)))
+    ap (bit_and c.args.many) (borrowed c.from.result c.from-2.result (omega (arith, less))
+    (omega (arith, c.ranges.ssrc.fits)))
     ∙ and_mask c.args.many 32 ∙ omega arith

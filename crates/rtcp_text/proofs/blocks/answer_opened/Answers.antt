@@ -28,5 +28,6 @@ returns-clause-leaves g c =
     let last = g.W.Write.contents (inner_of c.answer_blocks.new.writer) in
     let left = g.R.Read.remaining (inner_of c.answer_blocks.new.reader) in
     Writes-opened c.args.opening.now
-    (IsTextFrom c.args.lines g.A.Answerer.answers g.A.Answerer.refuses 1 c.args.answerer) c.answer_blocks.result remaining
+    (IsTextFrom c.args.lines g.A.Answerer.answers g.A.Answerer.refuses 1 c.args.answerer) c.answer_blocks.result
+    remaining
     held holds last left written.0 written.1 written.2 written.3 written.4 c.answer_blocks.ensures.leaves

@@ -35,7 +35,8 @@ returns-then-not-named-offset-clause-free g c session h there =
     record {
       tries = c.tries.offset;
       here = refl;
-      free = taken_is g (goal.at.returns-then-not-named-offset-clause-free g c).After-holds session h there ∙ sym value ∙ c.if-not-named-offset.true;
+      free = taken_is g (goal.at.returns-then-not-named-offset-clause-free g c).After-holds session h there ∙ sym value
+          ∙ c.if-not-named-offset.true;
       sooner = c.tries.invariant session h there;
     }
 

@@ -11,7 +11,8 @@ use Rattle.rtcp_engine.proofs.participant.Participant.inspect_rtcp.Goals as goal
 
 pub returns-in-Some-clause-foretold : goal.returns-in-Some-clause-foretold
 returns-in-Some-clause-foretold g c =
-    call_foretold (rtcp_arrived c.args.now c.args.peer c.args.w c.args.bytes.now) (λ act is. ap moment_of is) (sym c.refusal.ensures.exact ∙ c.in-Some.is)
+    call_foretold (rtcp_arrived c.args.now c.args.peer c.args.w c.args.bytes.now) (λ act is. ap moment_of is)
+    (sym c.refusal.ensures.exact ∙ c.in-Some.is)
 
 pub returns-in-Err-clause-foretold : goal.returns-in-Err-clause-foretold
 returns-in-Err-clause-foretold g c =

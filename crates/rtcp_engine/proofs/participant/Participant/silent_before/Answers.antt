@@ -6,4 +6,5 @@ use Rattle.rtcp_engine.proofs.participant.Participant.silent_before.Goals as goa
 
 pub returns-in-Present : goal.returns-in-Present
 returns-in-Present g c = said_present c.self.view_is (ap phase_value c.in-Present.is)
-    (λ setup life. c.silent_before.result ≡ silent_in_life setup c.args.now life) (λ outcome agrees. c.silent_before.ensures outcome agrees)
+    (λ setup life. c.silent_before.result ≡ silent_in_life setup c.args.now life)
+    (λ outcome agrees. c.silent_before.ensures outcome agrees)

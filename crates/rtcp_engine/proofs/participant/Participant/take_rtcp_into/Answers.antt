@@ -9,7 +9,8 @@ arrive_once_read-requires-clause-few g c =
 
 pub returns : goal.returns
 returns g c = record {
-  takes = as_compound c.args.inspected.octets.now (Ok c.args.inspected.compound) c.requires.read c.arrive_once_read.ensures.takes;
+  takes = as_compound c.args.inspected.octets.now (Ok c.args.inspected.compound) c.requires.read
+      c.arrive_once_read.ensures.takes;
   spares = c.arrive_once_read.ensures.spares;
   writes = c.arrive_once_read.ensures.writes;
 }
