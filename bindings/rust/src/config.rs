@@ -160,7 +160,8 @@ impl Config {
     }
 
     pub(crate) fn declared(&self) -> sys::jalwedd_config {
-        let Config { ntp_base, start, ssrc, capacity, limit, sender_bw, receiver_bw, rate, clocks, guard } = *self;
+        let Config { ntp_base, start, ssrc, capacity, limit, sender_bw, receiver_bw, rate, clocks, guard } =
+            *self;
         let (start, (clock_count, clocks)) = (start.as_micros(), clocks.declared());
         sys::jalwedd_config {
             ntp_base,

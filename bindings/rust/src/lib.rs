@@ -141,7 +141,9 @@ pub use config::{Config, Guard, Item, ItemKind, RtpClock, RtpClocks, Settings};
 pub use datagram::{
     about, check, check_rtp, ntp_base_of, ntp_of, plain_text, round_trip, text, Report, Reports,
 };
-pub use errors::{Fault, FaultReason, GuardError, NewError, NotRising, Refusal, RtpFault, TextTooLong, TooManyClocks};
+pub use errors::{
+    Fault, FaultReason, GuardError, NewError, NotRising, Refusal, RtpFault, TextTooLong, TooManyClocks,
+};
 pub use guard::HeldBack;
 pub use head::{rtp_head, RtpHead};
 pub use moment::{rtp_at, Moment};

@@ -271,7 +271,8 @@ fn write_hex(to: &mut impl Write, octets: &[u8]) -> fmt::Result {
 /// [`NoOption`] if a text, an item or a clock has no option. Numbers that `Participant::new` refuses are written all
 /// the same, and the program refuses them too, but for a start.
 pub fn command(config: &Config, cname: &[u8], items: &[Item], word: u32) -> Result<String, NoOption> {
-    let Config { ntp_base, start, ssrc, capacity, limit, sender_bw, receiver_bw, rate, clocks, guard: _ } = *config;
+    let Config { ntp_base, start, ssrc, capacity, limit, sender_bw, receiver_bw, rate, clocks, guard: _ } =
+        *config;
     let cname = quoted(cname).ok_or(NoOption::Cname)?;
     if !items.is_sorted_by(|one, next| one.kind() < next.kind()) {
         return Err(NoOption::Item);

@@ -2,7 +2,8 @@
 
 use jalwedd::{
     about, apps, blocks, check, check_rtp, goodbyes, items, ntp_of, plain_text, reporters, round_trip,
-    rtp_head, senders, text, App, Fault, FaultReason, Goodbye, Moment, Refusal, Report, RtpFault, SdesItem, SenderReport,
+    rtp_head, senders, text, App, Fault, FaultReason, Goodbye, Moment, Refusal, Report, RtpFault, SdesItem,
+    SenderReport,
 };
 use std::time::Duration;
 

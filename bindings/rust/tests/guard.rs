@@ -48,7 +48,11 @@ fn without_a_guard_there_is_none_to_be_told() {
 
 #[test]
 fn limits_out_of_range_are_refused() {
-    for guard in [Guard { names: 0, ..NARROW }, Guard { names: 1025, ..NARROW }, Guard { trusted_names: 1025, ..NARROW }] {
+    for guard in [
+        Guard { names: 0, ..NARROW },
+        Guard { names: 1025, ..NARROW },
+        Guard { trusted_names: 1025, ..NARROW },
+    ] {
         assert!(matches!(begun(guard), Err(NewError::Guard)));
     }
     assert!(begun(Guard::USUAL).is_ok());
