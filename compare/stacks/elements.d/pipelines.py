@@ -8,7 +8,7 @@ CAPS = 'caps="application/x-rtp,media=audio,clock-rate=8000,encoding-name=PCMA,p
 RTCP_CAPS = "caps=application/x-rtcp"
 NOW = "sync=false async=false"
 KEY = "000102030405060708090a0b0c0d0e0f101112131415161718191a1b1c1d"  # play.c has it too
-FIRST_PORT, PORTS_EACH = 45_000, 20
+FIRST_PORT, PORTS_EACH = 25_000, 20  # below those that Linux gives to sockets without a port
 bases = itertools.count(FIRST_PORT, PORTS_EACH)
 
 
