@@ -15,9 +15,16 @@ FLAGS = ["-std=gnu11", "-O2", "-g", "-Wall", "-Wextra", "-Wno-unused-parameter"]
 MEMORY, THREADS = "address,undefined", "thread"  # sanitizers
 
 
+def has_all():
+    """Whether the tools, the headers and GStreamer's SRTP, which its bad plugins have, are there."""
+    tools = ["meson", "gcc", "pkg-config", "gst-launch-1.0", "gst-inspect-1.0"]
+    asked = [["pkg-config", "--cflags", *LIBRARIES], ["gst-inspect-1.0", "--exists", "srtpenc"]]
+    return all(map(shutil.which, tools)) and not any(
+        subprocess.run(words, capture_output=True).returncode for words in asked)
+
+
 def install():
-    has_all = all(map(shutil.which, ["meson", "gcc", "pkg-config", "gst-launch-1.0"]))
-    if not has_all or subprocess.run(["pkg-config", "--cflags", *LIBRARIES], capture_output=True).returncode:
+    if not has_all():
         subprocess.run(["apt-get", "install", "-y", "--no-install-recommends", *DEBIAN], check=True,
                        stdout=subprocess.DEVNULL)
 
