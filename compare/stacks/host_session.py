@@ -135,6 +135,11 @@ class Session:
     # ---- For the commands of compare/stacks/peer_programs.py, which are those of side 1
 
     @property
+    def host(self):
+        """The address of both sides."""
+        return ADDRESSES[self.family]
+
+    @property
     def local(self):
         return self.relay.own(1)
 

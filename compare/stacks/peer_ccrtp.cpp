@@ -1,7 +1,7 @@
 /* A peer of compare/stacks/peers over ccRTP: sends and receives mu-law audio, 20 milliseconds a packet, until it is
  * interrupted; then it is destroyed, which says goodbye. Prints each second the CNAME of each source.
  *
- *     peer_ccrtp RTP-PORT PEER-RTP-PORT      on 127.0.0.1, with RTCP at the ports one above */
+ *     peer_ccrtp RTP-PORT PEER-RTP-PORT [ADDRESS]      on 127.0.0.1, with RTCP at the ports one above */
 #include <ccrtp/rtp.h>
 
 #include <chrono>
@@ -56,11 +56,11 @@ void play(ost::RTPSession &session)
 
 int main(int count, char **words)
 {
-    if (count != 3) {
-        std::fprintf(stderr, "usage: peer_ccrtp RTP-PORT PEER-RTP-PORT\n");
+    if (count != 3 && count != 4) {
+        std::fprintf(stderr, "usage: peer_ccrtp RTP-PORT PEER-RTP-PORT [ADDRESS]\n");
         return 2;
     }
-    const ost::InetHostAddress here("127.0.0.1");
+    const ost::InetHostAddress here(count > 3 ? words[3] : "127.0.0.1");
     ost::RTPSession session(here, static_cast<ost::tpport_t>(std::atoi(words[1])));
     if (!session.addDestination(here, static_cast<ost::tpport_t>(std::atoi(words[2]))))
         return 1;

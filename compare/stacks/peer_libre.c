@@ -1,7 +1,7 @@
 /* A peer of compare/stacks/peers over libre: sends and receives mu-law audio, 20 milliseconds a packet, until it is
  * interrupted; then it is freed, which says goodbye. Prints each CNAME that a source description names.
  *
- *     peer_libre RTP-PORT PEER-RTP-PORT      on 127.0.0.1, with RTCP at the ports one above */
+ *     peer_libre RTP-PORT PEER-RTP-PORT [ADDRESS]      on 127.0.0.1 or ::1, with RTCP at the ports one above */
 #define HAVE_INTTYPES_H
 #define HAVE_STDBOOL_H
 #include <re.h>
@@ -68,15 +68,16 @@ int main(int count, char **words)
 {
     struct peer peer = {.sent = 0};
     struct sa own, to_rtcp;
-    if (count != 3) {
-        fprintf(stderr, "usage: peer_libre RTP-PORT PEER-RTP-PORT\n");
+    if (count != 3 && count != 4) {
+        fprintf(stderr, "usage: peer_libre RTP-PORT PEER-RTP-PORT [ADDRESS]\n");
         return 2;
     }
+    const char *address = count > 3 ? words[3] : "127.0.0.1";
     const uint16_t port = (uint16_t)atoi(words[1]), other = (uint16_t)atoi(words[2]);
     libre_init();
-    sa_set_str(&own, "127.0.0.1", 0);
-    sa_set_str(&peer.to, "127.0.0.1", other);
-    sa_set_str(&to_rtcp, "127.0.0.1", other + 1);
+    sa_set_str(&own, address, 0);
+    sa_set_str(&peer.to, address, other);
+    sa_set_str(&to_rtcp, address, other + 1);
     if (rtp_listen(&peer.session, IPPROTO_UDP, &own, port, port + 1, true, take_packet, print_names, &peer) != 0)
         return 1;
     rtcp_set_srate(peer.session, 8000, 8000);

@@ -1,7 +1,7 @@
 /* A peer of compare/stacks/peers over oRTP: sends and receives mu-law audio, 20 milliseconds a packet, until it is
  * interrupted; then says goodbye. Prints each CNAME that a source description names.
  *
- *     peer_ortp RTP-PORT PEER-RTP-PORT      on 127.0.0.1, with RTCP at the ports one above */
+ *     peer_ortp RTP-PORT PEER-RTP-PORT [ADDRESS]      on 127.0.0.1 or ::1, with RTCP at the ports one above */
 #include <ortp/ortp.h>
 
 #include <signal.h>
@@ -63,16 +63,17 @@ static void play(RtpSession *session, OrtpEvQueue *events)
 
 int main(int count, char **words)
 {
-    if (count != 3) {
-        fprintf(stderr, "usage: peer_ortp RTP-PORT PEER-RTP-PORT\n");
+    if (count != 3 && count != 4) {
+        fprintf(stderr, "usage: peer_ortp RTP-PORT PEER-RTP-PORT [ADDRESS]\n");
         return 2;
     }
+    const char *address = count > 3 ? words[3] : "127.0.0.1";
     const int port = atoi(words[1]), peer = atoi(words[2]);
     ortp_init();
     RtpSession *session = rtp_session_new(RTP_SESSION_SENDRECV);
     OrtpEvQueue *events = ortp_ev_queue_new();
-    rtp_session_set_local_addr(session, "127.0.0.1", port, port + 1);
-    rtp_session_set_remote_addr_and_port(session, "127.0.0.1", peer, peer + 1);
+    rtp_session_set_local_addr(session, address, port, port + 1);
+    rtp_session_set_remote_addr_and_port(session, address, peer, peer + 1);
     rtp_session_set_profile(session, &av_profile);
     rtp_session_set_payload_type(session, 0);
     rtp_session_set_source_description(session, "ortp@example.com", NULL, NULL, NULL, NULL, "oRTP", NULL);

@@ -12,12 +12,12 @@ from pathlib import Path
 from peer_relay import PLAYER
 from relay import HOST
 
-SDP = f"""v=0
-o=- 0 0 IN IP4 {HOST}
+SDP = """v=0
+o=- 0 0 IN {family} {host}
 s=-
-c=IN IP4 {HOST}
+c=IN {family} {host}
 t=0 0
-m=audio %d RTP/AVP 0
+m=audio {port} RTP/AVP 0
 """
 
 
@@ -89,12 +89,14 @@ class FFmpeg(Peer):
     version_in = r"version ([\d.]+)"
 
     def commands(self, session):
+        family, host = ("IP6", f"[{session.host}]") if ":" in session.host else ("IP4", session.host)
+        sdp = SDP.format(family=family, host=session.host, port=session.local)
         yield [*"ffmpeg -hide_banner -loglevel warning -re -f lavfi -i".split(),
                "sine=frequency=440:sample_rate=8000:samples_per_frame=160", *"-c:a pcm_mulaw -ac 1 -f rtp".split(),
-               f"rtp://{HOST}:{session.remote}?rtcpport={session.remote + 1}&localrtpport={session.spare}"
+               f"rtp://{host}:{session.remote}?rtcpport={session.remote + 1}&localrtpport={session.spare}"
                f"&localrtcpport={session.spare + 1}"]
         yield [*"ffmpeg -hide_banner -loglevel warning -protocol_whitelist file,udp,rtp".split(),
-               *"-sdp_flags rtcp_to_source -i".split(), session.file("sdp", SDP % session.local), "-f", "null", "-"]
+               *"-sdp_flags rtcp_to_source -i".split(), session.file("sdp", sdp), "-f", "null", "-"]
 
 
 class Program(Peer):
@@ -112,7 +114,7 @@ class Program(Peer):
                         "-o", room / f"peer_{self.name}"], check=True)
 
     def commands(self, session):
-        yield [session.room / f"peer_{self.name}", session.local, session.remote]
+        yield [session.room / f"peer_{self.name}", session.local, session.remote, session.host]
 
 
 class Ortp(Program):

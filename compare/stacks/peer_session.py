@@ -7,6 +7,7 @@ import time
 from pathlib import Path
 
 from peer_relay import PEER, PLAYER, SECOND, Relay
+from relay import HOST
 
 FIRST_PORT, PORTS = 7_000, 40  # of each session
 CNAME = "player@example.com"  # of examples/by_hand/player.c
@@ -32,6 +33,8 @@ class Session:
         self.running, self.lists = [], {}
 
     # ---- For the peer's commands
+
+    host = HOST  # the address of both sides
 
     @property
     def local(self):
