@@ -1,5 +1,6 @@
 """A session of compare/stacks/hosts: two sides, by IPv4 or IPv6, and a relay between them that loses packets; and what
 is wrong with what a player printed, beside the relay's counts."""
+import math
 import random
 import re
 import select
@@ -18,6 +19,7 @@ RTP, RTCP = 0, 1
 MOST_TO_BYE = 1.0  # seconds from the interrupt
 LATER = 2.5  # seconds from one side's end to the other's
 LEAST_LINES = 5  # about the other side
+MOST_TO_TELL = 2  # seconds from a report to the line that tells of it
 
 # A line about a source, of any of the players
 LINE = re.compile(r"^  ([0-9a-f]{8}) (\d+) received, (-?\d+) lost, ([\d.]+) % in this second, jitter ([\d.]+) ms"
@@ -78,9 +80,10 @@ class Relay:
     def stream_of(self, side, ssrc):
         return self.streams.get((side, bytes.fromhex(ssrc)))
 
-    def losses_told(self, side):
-        """The losses in all report blocks that a side sent."""
-        return {lost for by, _, octets in self.heard if by == side for lost in blocks_of(octets)}
+    def losses_told(self, side, until=math.inf):
+        """The losses in all report blocks that a side sent until a moment."""
+        return {lost for by, moment, octets in self.heard if by == side and moment <= until
+                for lost in blocks_of(octets)}
 
     def bye_after(self, side, moment):
         """How long after a moment a side said goodbye, or None."""
@@ -170,13 +173,14 @@ class Session:
     def play(self):
         for side in (0, 1):
             self.start(side)
-        self.relay.run_until(time.monotonic() + self.seconds)
+        self.end = time.monotonic() + self.seconds
+        self.relay.run_until(self.end)
         for side in (1, 0):
             self.stop(side)
         for side in (0, 1):
             if self.sides[side].is_player:
                 self.check(side)
-            elif not re.search(self.sides[side].says, self.output(side).read_text(errors="replace"), re.M):
+            elif not re.search(self.sides[side].says, self.printed(side), re.M):
                 self.faults.append(f"{self.sides[side].name} does not say that it heard the player")
 
     def start(self, side):
@@ -188,6 +192,11 @@ class Session:
 
     def output(self, side, number=0):
         return self.room / f"{self.name}-{side}-{number}".replace(" ", "-")
+
+    def printed(self, side):
+        """All that the programs of a side printed."""
+        return "".join(self.output(side, number).read_text(errors="replace")
+                       for number in range(len(self.running[side])))
 
     def stop(self, side):
         """Interrupts a side. A player has to say goodbye within a second, and to end with status 0."""
@@ -234,8 +243,10 @@ class Session:
                 yield f"{lost} lost of {ssrc} after {received}, but {wanted} by the relay"
 
     def wrong_reports(self, side, lines):
-        """What it says that the other reported was in a block that passed by."""
+        """What it says that the other reported was in a block that passed by, and it says so if there was one."""
         told = self.relay.losses_told(1 - side)
+        if self.relay.losses_told(1 - side, self.end - MOST_TO_TELL) and not any(line[5] for line in lines):
+            yield "does not say what the other reported"
         for line in lines:
             if line[5] and int(line[5]) not in told:
                 yield f"says that {line[5]} lost were reported"
