@@ -82,8 +82,9 @@ class Reader:
         self.skip_to(")")
         kind = " ".join(self.tokens[start:self.at])
         self.take(")")
-        quantifier = "every" if self.next() == "(" else {"→": "every", "×": "some"}[self.take()]
-        return (quantifier, names, kind, self.expression())
+        if self.next() != "(":
+            self.take("→")  # what there is some value of is not read
+        return ("every", names, kind, self.expression())
 
     def expression(self, least=0):
         token = self.next()
