@@ -4,7 +4,7 @@ use Rattle.std.specs.Option.{option_or}
 use Rattle.rtcp_engine.specs.declared.config.ConfigError.{ConfigError}
 use Rattle.rtcp_engine.specs.declared.refusal.Refusal.TheVariants.{Settings}
 use Rattle.rtcp_engine.specs.answers.Setups.{Setup, SettingsValue, IsUsable, settings_of, with_settings}
-use Rattle.rtcp_engine.specs.answers.Acts.{Act, arrived, configured}
+use Rattle.rtcp_engine.specs.answers.Acts.{Act, arrived, configured, rtcp, rtp}
 use Rattle.rtcp_engine.specs.answers.Leaving.{Life, present, backing_off, finished}
 use Rattle.rtcp_engine.specs.answers.Lives.{out_by, own_bye}
 use Rattle.rtcp_engine.specs.answers.Changes.{NewIdentifier, Session, change_by, changed_by, changed_to, with_ssrc}
@@ -116,7 +116,8 @@ or_none {A} (Some x) = refl
 pub nothing_more : (session : Session) (act : Act) (new : NewIdentifier) → change_by session act ≡ Some new →
     (setup : Setup) (life : Life) → out_by setup act life ≡ None
 nothing_more session (arrived moment peer word datagram) new is setup (present outcome) = refl
-nothing_more session (arrived moment peer word datagram) new is setup (backing_off outcome backoff) = refl
+nothing_more session (arrived moment peer word (rtcp size reading)) new is setup (backing_off outcome backoff) = refl
+nothing_more session (arrived moment peer word (rtp reading)) new is setup (backing_off outcome backoff) = refl
 nothing_more session act new is setup (finished outcome) = refl
 nothing_more session act new is setup life = absurd cc
 

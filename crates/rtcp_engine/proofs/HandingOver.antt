@@ -6,7 +6,7 @@ use Rattle.std.proofs.lemmas.List.{append_assoc}
 use Rattle.std.specs.Option.{option_or}
 use Rattle.rtcp_engine.specs.declared.refusal.Refusal.{Refusal}
 use Rattle.rtcp_engine.specs.declared.refusal.Refusal.TheVariants.{Left}
-use Rattle.rtcp_engine.specs.answers.Acts.{Act, ticked, left, moment_of}
+use Rattle.rtcp_engine.specs.answers.Acts.{Act, ticked, left, moment_of, arrived, rtcp, rtp}
 use Rattle.rtcp_engine.specs.answers.Answers.{answer_of, answers_to, followed_by, followed_by_all, step_by}
 use Rattle.rtcp_engine.specs.answers.Changes.{NewIdentifier, Session, bye_of_change, change_by, changed_by}
 use Rattle.rtcp_engine.specs.answers.Histories.{History, after_act, brought_by, life_at, session_at, with_act}
@@ -15,7 +15,7 @@ use Rattle.rtcp_engine.specs.answers.Lives.{bye_out, lived, out_by, report_out}
 use Rattle.rtcp_engine.specs.answers.Outcomes.{Outcome}
 use Rattle.rtcp_engine.specs.answers.Refusals.{refusal_after, refusal_in}
 use Rattle.rtcp_engine.specs.answers.Reporting.{bye_octets}
-use Rattle.rtcp_engine.specs.bounds.Runs.{AnsweredInTime, AreRefusals, AreRefusalsForgotten, EndAtBye, HandsOver, IsRefusalForgotten, handed_over, is_bye, says_bye, taken_since}
+use Rattle.rtcp_engine.specs.bounds.Runs.{AllAlong, AreRefusals, EndAtBye, HandsOver, IsAnsweredInTime, IsRefusalForgotten, handed_over, is_bye, says_bye, taken_since}
 use Rattle.rtcp_engine.specs.bounds.Sent.{Sent, deciding_interval, handed_out, sent_at}
 use Rattle.rtcp_engine.specs.answers.Setups.{Setup}
 use Rattle.rtcp_engine.specs.bounds.Spacing.{AreBounded, first_leave}
@@ -64,6 +64,8 @@ gone_after : (setup : Setup) (act : Act) (life : Life) → is_bye (out_by setup 
 gone_after setup (ticked moment first_word second_word) (present o) bye = absurd (no_report _ bye)
 gone_after setup (left moment word) (present o) bye = leaves _ _ o _ (bye_octets setup) bye
 gone_after setup (ticked moment first_word second_word) (backing_off o b) bye = waits _ o _ (bye_octets setup) bye
+gone_after setup (arrived moment peer word (rtcp size reading)) (backing_off o b) bye = absurd (cc bye)
+gone_after setup (arrived moment peer word (rtp reading)) (backing_off o b) bye = absurd (cc bye)
 gone_after setup act (finished o) bye = tt
 gone_after setup act life bye = absurd (cc bye)
 
@@ -123,7 +125,7 @@ history_before h (act ∷ acts) is =
     (one_less h act (refusal_after h act) refl (history_before (followed_by h act) acts is)).0
 
 in_time : (h : History) (acts : List Act) → IsHistory (followed_by_all h acts) →
-    AnsweredInTime h acts (answers_to h acts)
+    AllAlong IsAnsweredInTime h acts (answers_to h acts)
 in_time h [] is = tt
 in_time h (act ∷ acts) is =
     let next = followed_by h act in
@@ -137,7 +139,7 @@ forgotten_by h act None is = tt
 forgotten_by h act (Some reason) is =
     ap (λ (r : Option Refusal). elim r [ None ↦ with_act h act | Some other ↦ h ]) is
 
-all_forgotten : (h : History) (acts : List Act) → AreRefusalsForgotten h acts (answers_to h acts)
+all_forgotten : (h : History) (acts : List Act) → AllAlong IsRefusalForgotten h acts (answers_to h acts)
 all_forgotten h [] = tt
 all_forgotten h (act ∷ acts) =
     (forgotten_by h act (refusal_after h act) refl, all_forgotten (followed_by h act) acts)

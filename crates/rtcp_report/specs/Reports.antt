@@ -31,28 +31,32 @@ report_with ssrc (Some sent) blocks =
     sr (record { ssrc = ssrc; ntp = sent.ntp; rtp = sent.rtp; packets = sent.packets; octets = sent.octets })
     blocks []
 
--- How many reports follow the first one: each report has at most 31 blocks.
-abbrev pub further_count : (blocks : ℕ) → ℕ
-further_count blocks = (blocks - 1) / 31
-
 -- as many receiver's reports, each with the next 31 blocks, or with those that are left
 abbrev pub further_reports : (ssrc count : ℕ) → List ReportBlock → List RtcpPacket
 further_reports ssrc zero blocks = []
 further_reports ssrc (suc count) blocks =
     rr ssrc (take 31 blocks) [] ∷ further_reports ssrc count (drop 31 blocks)
 
+-- The packets of a report with these blocks, at most 31 of them in each, and a source description of one chunk.
+abbrev pub packets_with : Reporter → List ReportBlock → List RtcpPacket
+packets_with reporter blocks =
+    report_with reporter.ssrc reporter.sent (take 31 blocks)
+    ∷ (further_reports reporter.ssrc ((length blocks - 1) / 31) (drop 31 blocks)
+    ++ sdes (record { id = reporter.ssrc; items = reporter.items } ∷ []) ∷ [])
+
+-- ---- Parts of it, by names of their own
+
+-- How many reports follow the first one.
+abbrev pub further_count : (blocks : ℕ) → ℕ
+further_count blocks = (blocks - 1) / 31
+
 abbrev pub reports_with : (ssrc : ℕ) → Option SentValue → List ReportBlock → List RtcpPacket
 reports_with ssrc sent blocks =
     report_with ssrc sent (take 31 blocks)
     ∷ further_reports ssrc (further_count (length blocks)) (drop 31 blocks)
 
--- the source description, of one chunk
 abbrev pub description_of : Reporter → RtcpPacket
 description_of reporter = sdes (record { id = reporter.ssrc; items = reporter.items } ∷ [])
-
--- The packets of a report with these blocks.
-abbrev pub packets_with : Reporter → List ReportBlock → List RtcpPacket
-packets_with reporter blocks = reports_with reporter.ssrc reporter.sent blocks ++ description_of reporter ∷ []
 
 -- ---- Leaving
 

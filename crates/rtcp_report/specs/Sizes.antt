@@ -1,5 +1,5 @@
 -- The size of a compound report, and how many of the pending sources it holds (RFC 3550, 6.1, 6.4).
-use Rattle.std.specs.Prelude.{ℕ, zero, suc, ◌+◌, ◌*◌, ◌/◌, ◌≡◌, ◌<◌, ◌≤◌, Bool, nat_le, if◌then◌else◌, List, ◌++◌, length, sum_by, take, Option, Some, None}
+use Rattle.std.specs.Prelude.{ℕ, zero, suc, ◌+◌, ◌-◌, ◌*◌, ◌/◌, ◌≡◌, ◌<◌, ◌≤◌, Bool, nat_le, if◌then◌else◌, List, ◌++◌, length, sum_by, take, Option, Some, None}
 use Rattle.rtcp_wire.specs.Values.{ItemValue, RtcpPacket}
 use Rattle.rtcp_members.specs.Tables.{TableValue}
 use Rattle.rtcp_members.specs.Pending.{EntryRow, pending, blocks_of}
@@ -12,17 +12,18 @@ abbrev pub first_report_size : Option SentValue → ℕ
 first_report_size None = 8
 first_report_size (Some sent) = 28
 
+-- A report with so many blocks, in octets. The source description has a header and an SSRC, the items, and zeros up to
+-- the end of a word, at least one.
+abbrev pub report_size : Reporter → (blocks : ℕ) → ℕ
+report_size reporter blocks =
+    first_report_size reporter.sent + 24 * blocks + 8 * ((blocks - 1) / 31)
+    + (8 + 4 * (sum_by (λ item. length item.text + 2) reporter.items / 4 + 1))
+
 abbrev pub item_size : ItemValue → ℕ
 item_size item = length item.text + 2
 
--- the source description: its header and SSRC, its items, and zeros up to the end of a word, at least one
 abbrev pub description_size : List ItemValue → ℕ
 description_size items = 8 + 4 * (sum_by item_size items / 4 + 1)
-
--- A report with so many blocks, in octets.
-abbrev pub report_size : Reporter → (blocks : ℕ) → ℕ
-report_size reporter blocks =
-    first_report_size reporter.sent + 24 * blocks + 8 * further_count blocks + description_size reporter.items
 
 -- an item of at most 255 octets, if there is one
 abbrev pub IsShort : Option ItemValue → Type 0
@@ -36,14 +37,15 @@ abbrev pub greatest_passing : (ℕ → Bool) → (most : ℕ) → ℕ
 greatest_passing test zero = 0
 greatest_passing test (suc n) = if test (suc n) then suc n else greatest_passing test n
 
+-- The sources that a report is of: the longest prefix of the pending ones that fits the limit.
+abbrev pub fitting : {A : Type 0} → Reporter → (limit : ℕ) → List A → List A
+fitting reporter limit sources =
+    take (greatest_passing (λ blocks. nat_le (report_size reporter blocks) limit) (length sources)) sources
+
 -- how many blocks a report has where so many sources wait for one
 abbrev pub block_count : Reporter → (limit waiting : ℕ) → ℕ
 block_count reporter limit waiting =
     greatest_passing (λ blocks. nat_le (report_size reporter blocks) limit) waiting
-
--- The sources that a report is of: the longest prefix of the pending ones that fits the limit.
-abbrev pub fitting : {A : Type 0} → Reporter → (limit : ℕ) → List A → List A
-fitting reporter limit sources = take (block_count reporter limit (length sources)) sources
 
 abbrev pub reported_rows : Reporter → (limit : ℕ) → (last : Option ℕ) → TableValue → List EntryRow
 reported_rows reporter limit last table = fitting reporter limit (pending last table)

@@ -4,7 +4,7 @@ use Rattle.rtcp_engine.specs.declared.refusal.Refusal.{Refusal}
 use Rattle.rtcp_engine.specs.answers.Acts.{Act}
 use Rattle.rtcp_engine.specs.answers.Changes.{change_by}
 use Rattle.rtcp_engine.specs.answers.Histories.{History, brought_by, session_at, session_for, with_act}
-use Rattle.rtcp_engine.specs.answers.Lives.{others_moved_by, step_into}
+use Rattle.rtcp_engine.specs.answers.Lives.{entries_in_life, members_in_life, next_in_life, others_moved_by, senders_in_life}
 use Rattle.rtcp_engine.specs.answers.Refusals.{refusal_after}
 use Rattle.rtcp_engine.specs.answers.Steps.{StepValue, AnswerValue, answer_unless}
 
@@ -14,8 +14,14 @@ step_by history act =
     let before = session_at history in
     let now = session_for before act in
     let next = session_at (with_act history act) in
-    record (step_into next.setup (brought_by before act) (others_moved_by now.setup act now.life) next.life) {
+    record {
+      out = brought_by before act;
+      members = members_in_life next.setup next.life;
+      senders = senders_in_life next.setup next.life;
+      entries = entries_in_life next.setup next.life;
+      next = next_in_life next.life;
       changed = option_map (λ new. new.ssrc) (change_by before act);
+      others_changed = others_moved_by now.setup act now.life;
     }
 
 -- What is answered to an act after a history.

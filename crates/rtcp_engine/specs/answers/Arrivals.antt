@@ -18,14 +18,49 @@ use Rattle.rtcp_engine.specs.answers.Ticks.{with_recount, after_tick, without_so
 
 -- ---- Arrivals
 
--- The facts of a compound that came (RFC 3550, 6.3.3, 6.3.7). It moves the average, and members may have
+-- A compound that came (RFC 3550, 6.3.3, 6.3.7): its facts are noted, it moves the average, and members may have
 -- departed.
+abbrev pub with_compound : Setup → (t size : ℕ) → List RtcpPacket → Outcome → Outcome
+with_compound setup t size packets outcome =
+    with_recount setup t (record outcome {
+      trace = with_facts (facts_of packets) t outcome.trace;
+      sizes = size ∷ outcome.sizes;
+    })
+
+-- An RTP packet that came (6.3.3): the fact of the packet, whose timestamp counts in the clock of its payload type, and
+-- if it is counted, facts of its contributing sources too, but for the participant itself.
+abbrev pub with_media : Setup → (t : ℕ) → RtpValue → Outcome → Outcome
+with_media setup t head outcome =
+    let rate = rate_among setup.clocks setup.rate head.payload_type in
+    let fact : Fact = Media head.ssrc head.sequence head.timestamp (length head.payload) rate in
+    let csrcs = map Heard (filter (λ ssrc. not (ssrc == setup.ssrc)) head.csrcs) in
+    record outcome {
+      trace =
+          with_facts (fact ∷ (if counted_at setup.capacity outcome.trace fact then csrcs else [])) t outcome.trace;
+    }
+
+-- What a datagram with a fault would change is nothing, and so no history holds one.
+abbrev pub with_datagram : Setup → (t : ℕ) → Datagram → Outcome → Outcome
+with_datagram setup t (rtcp size (Ok packets)) outcome = with_compound setup t size packets outcome
+with_datagram setup t (rtp (Ok head)) outcome = with_media setup t head outcome
+with_datagram setup t _ outcome = outcome
+
+-- ---- Changes of identifier
+
+-- The BYE of the old identifier is a compound that was sent, if something was sent under that one. The counts of the
+-- own stream begin anew.
+abbrev pub with_change : Setup → Outcome → Outcome
+with_change setup outcome =
+    record outcome {
+      own = counts_anew ∷ outcome.own;
+      sizes = if has_sent outcome.own then length (bye_octets setup) ∷ outcome.sizes else outcome.sizes;
+    }
+
+-- ---- What functions do one after the other: each unfolds to a part of what stands above, or of an act (Lives)
+
 abbrev pub with_facts_of : (t size : ℕ) → List RtcpPacket → Outcome → Outcome
 with_facts_of t size packets outcome =
     record outcome { trace = with_facts (facts_of packets) t outcome.trace; sizes = size ∷ outcome.sizes }
-
-abbrev pub with_compound : Setup → (t size : ℕ) → List RtcpPacket → Outcome → Outcome
-with_compound setup t size packets outcome = with_recount setup t (with_facts_of t size packets outcome)
 
 -- An RTP packet, whose timestamp counts in units of a clock of this rate.
 abbrev pub media_fact : (rate : ℕ) → RtpValue → Fact
@@ -39,45 +74,14 @@ rate_of setup head = rate_among setup.clocks setup.rate head.payload_type
 abbrev pub facts_of_csrcs : (own : ℕ) → (csrcs : List ℕ) → List Fact
 facts_of_csrcs own csrcs = map Heard (filter (λ ssrc. not (ssrc == own)) csrcs)
 
--- The facts of an RTP packet that came (6.3.3): the packet, and if it is counted, its contributing sources
--- too.
 abbrev pub facts_of_media : (own rate : ℕ) → RtpValue → (is_counted : Bool) → List Fact
 facts_of_media own rate head is_counted =
     media_fact rate head ∷ (if is_counted then facts_of_csrcs own head.csrcs else [])
 
-abbrev pub with_media : Setup → (t : ℕ) → RtpValue → Outcome → Outcome
-with_media setup t head outcome =
-    let rate = rate_of setup head in
-    let is_counted = counted_at setup.capacity outcome.trace (media_fact rate head) in
-    record outcome { trace = with_facts (facts_of_media setup.ssrc rate head is_counted) t outcome.trace }
-
--- What a datagram with a fault would change is nothing, and so no history holds one.
-abbrev pub with_datagram : Setup → (t : ℕ) → Datagram → Outcome → Outcome
-with_datagram setup t (rtcp size (Ok packets)) outcome = with_compound setup t size packets outcome
-with_datagram setup t (rtp (Ok head)) outcome = with_media setup t head outcome
-with_datagram setup t _ outcome = outcome
-
--- ---- Sent packets
-
 abbrev pub with_packet : (t timestamp octets : ℕ) → Outcome → Outcome
 with_packet t timestamp octets outcome = record outcome { own = packet_sent t timestamp octets ∷ outcome.own }
 
--- ---- Changes of identifier
-
--- The BYE of the old identifier is a compound that was sent, if something was sent under that one. The counts of the
--- own stream begin anew.
-abbrev pub with_change : Setup → Outcome → Outcome
-with_change setup outcome =
-    record outcome {
-      own = counts_anew ∷ outcome.own;
-      sizes = if has_sent outcome.own then length (bye_octets setup) ∷ outcome.sizes else outcome.sizes;
-    }
-
--- ---- Acts
-
--- (A leave ends the participation whose outcome this is, and adds nothing to it. Settings change the setup: members,
--- average and schedule stay, each interval is computed with the setup of its act, and only the pace of checks is
--- noted, where bandwidths change.)
+-- What an act makes of a session that the participant takes part in: a leave ends that, and adds nothing to it.
 abbrev pub after : Setup → Act → Outcome → Outcome
 after setup (arrived moment peer word datagram) outcome = with_datagram setup moment datagram outcome
 after setup (rtp_sent moment timestamp octets) outcome = with_packet moment timestamp octets outcome

@@ -11,9 +11,6 @@ use Rattle.rtcp_engine.specs.answers.Steps.{OutValue}
 use Rattle.rtcp_engine.specs.answers.Leaving.{Life, present, backing_off, finished}
 use Rattle.rtcp_engine.specs.answers.Lives.{own_bye, with_new_ssrc}
 
-abbrev pub with_ssrc : (ssrc : ℕ) → Setup → Setup
-with_ssrc ssrc setup = record setup { ssrc = ssrc }
-
 abbrev pub is_among : List ℕ → ℕ → Bool
 is_among numbers number = list_any (λ other. other == number) numbers
 
@@ -38,14 +35,6 @@ pub record Session : Type 0 where
   -- the changes of identifier so far, newest first: whose datagrams brought them, and what was given up
   pub changes : List IdentifierChange
   pub life : Life
-
--- all identifiers so far, the present one first
-abbrev pub identifiers : Session → List ℕ
-identifiers session = session.setup.ssrc ∷ map (λ change. change.former) session.changes
-
--- the peers whose datagrams changed the identifier
-abbrev pub changing_peers : Session → List ℕ
-changing_peers session = map (λ change. change.peer) session.changes
 
 -- ---- Datagrams
 
@@ -72,15 +61,13 @@ is_in_table setup (finished outcome) ssrc = false
 -- An identifier is taken if the participant has or had it, if the table has it, or if the datagram names it.
 abbrev pub is_taken : Session → Datagram → (ssrc : ℕ) → Bool
 is_taken session datagram ssrc =
-    is_among (identifiers session) ssrc
+    is_among (session.setup.ssrc ∷ map (λ change. change.former) session.changes) ssrc
     || (is_in_table session.setup session.life ssrc || is_among (named_by datagram) ssrc)
 
--- As many may be taken: those of the participant, those of the table, and those that the datagram names.
-abbrev pub most_taken : Session → Datagram → ℕ
-most_taken session datagram = most_changes + 1 + session.setup.capacity + length (named_by datagram)
-
+-- The search passes no more than may be taken: those of the participant, of the table, and those that the datagram names.
 abbrev pub new_identifier : (word : ℕ) → Session → Datagram → ℕ
-new_identifier word session datagram = first_free (most_taken session datagram) (is_taken session datagram) word
+new_identifier word session datagram =
+    first_free (most_changes + 1 + session.setup.capacity + length (named_by datagram)) (is_taken session datagram) word
 
 -- ---- Changes
 
@@ -97,18 +84,34 @@ change_by session (arrived moment peer word datagram) =
     else None
 change_by session act = None
 
-abbrev pub changed_to : NewIdentifier → Session → Session
-changed_to new session = record {
-  setup = with_ssrc new.ssrc session.setup;
+abbrev pub changed_by : Option NewIdentifier → Session → Session
+changed_by None session = session
+changed_by (Some new) session = record {
+  setup = record session.setup { ssrc = new.ssrc };
   changes = record { peer = new.peer; former = session.setup.ssrc } ∷ session.changes;
   life = with_new_ssrc session.setup session.life;
 }
-
-abbrev pub changed_by : Option NewIdentifier → Session → Session
-changed_by None session = session
-changed_by (Some new) session = changed_to new session
 
 -- the BYE that a change hands out
 abbrev pub bye_of_change : Option NewIdentifier → Session → Option OutValue
 bye_of_change None session = None
 bye_of_change (Some new) session = own_bye session.setup session.life
+
+-- ---- Parts of what stands above, by names of their own
+
+abbrev pub with_ssrc : (ssrc : ℕ) → Setup → Setup
+with_ssrc ssrc setup = record setup { ssrc = ssrc }
+
+-- all identifiers so far, the present one first
+abbrev pub identifiers : Session → List ℕ
+identifiers session = session.setup.ssrc ∷ map (λ change. change.former) session.changes
+
+-- the peers whose datagrams changed the identifier
+abbrev pub changing_peers : Session → List ℕ
+changing_peers session = map (λ change. change.peer) session.changes
+
+abbrev pub most_taken : Session → Datagram → ℕ
+most_taken session datagram = most_changes + 1 + session.setup.capacity + length (named_by datagram)
+
+abbrev pub changed_to : NewIdentifier → Session → Session
+changed_to new session = changed_by (Some new) session

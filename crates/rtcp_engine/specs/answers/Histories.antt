@@ -6,7 +6,7 @@ use Rattle.rtcp_engine.specs.answers.Acts.{Act, configured, moment_of}
 use Rattle.rtcp_engine.specs.answers.Outcomes.{beginning}
 use Rattle.rtcp_engine.specs.answers.Steps.{OutValue}
 use Rattle.rtcp_engine.specs.answers.Leaving.{Life, present}
-use Rattle.rtcp_engine.specs.answers.Lives.{lived, others_moved_by, out_by}
+use Rattle.rtcp_engine.specs.answers.Lives.{made_by}
 use Rattle.rtcp_engine.specs.answers.Changes.{Session, bye_of_change, change_by, changed_by}
 
 -- A session so far.
@@ -38,13 +38,13 @@ setup_after act setup = setup
 abbrev pub after_act : Session → Act → Session
 after_act session act =
     let now = session_for session act in
-    record now { setup = setup_after act now.setup; life = lived now.setup act now.life }
+    record now { setup = setup_after act now.setup; life = (made_by now.setup act now.life).life }
 
 -- The compound that an act brings: the BYE of an identifier that it gives up, or else its own.
 abbrev pub brought_by : Session → Act → Option OutValue
 brought_by session act =
     let now = session_for session act in
-    option_or (bye_of_change (change_by session act) session) (out_by now.setup act now.life)
+    option_or (bye_of_change (change_by session act) session) (made_by now.setup act now.life).out
 
 -- ---- Histories
 

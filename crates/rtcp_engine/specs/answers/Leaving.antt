@@ -19,10 +19,6 @@ abbrev pub is_bye : RtcpPacket → Bool
 is_bye (bye ids reason) = true
 is_bye _ = false
 
--- how many packets of a compound are BYE packets
-abbrev pub bye_count : List RtcpPacket → ℕ
-bye_count packets = length (filter is_bye packets)
-
 -- a compound with BYE packets: how many, and its size
 pub record ByeCompound : Type 0 where
   pub byes : ℕ
@@ -41,19 +37,15 @@ pub record Backoff : Type 0 where
 abbrev pub leaving_count : Backoff → ℕ
 leaving_count backoff = min 65535 (1 + sum_by (λ bye_compound. bye_compound.byes) backoff.bye_compounds)
 
--- The average begins anew with the participant's own BYE, and BYE packets of others move it.
-abbrev pub leaving_average : Setup → List ByeCompound → ℕ
-leaving_average setup bye_compounds =
-    average_of (length (bye_octets setup)) (map (λ bye_compound. bye_compound.size) bye_compounds)
-
--- The participant counts as one that joins, and does not send.
+-- The participant counts as one that joins, and does not send. The average begins anew with its own BYE, and BYE packets
+-- of others move it.
 abbrev pub leaving_load : Setup → (members : ℕ) → List ByeCompound → Load
 leaving_load setup members bye_compounds = record {
   members = members;
   senders = 0;
   we_sent = false;
   initial = true;
-  avg = leaving_average setup bye_compounds;
+  avg = average_of (length (bye_octets setup)) (map (λ bye_compound. bye_compound.size) bye_compounds);
   sender_bw = setup.sender_bw;
   receiver_bw = setup.receiver_bw;
 }
@@ -71,8 +63,36 @@ with_byes_of byes size backoff =
 -- A compound counts if it has a BYE packet.
 abbrev pub with_byes : (size : ℕ) → Result (List RtcpPacket) WireFault → Backoff → Backoff
 with_byes size (Ok packets) backoff =
-    if bye_count packets == 0 then backoff else with_byes_of (bye_count packets) size backoff
+    let byes = length (filter is_bye packets) in if byes == 0 then backoff else with_byes_of byes size backoff
 with_byes size (Err fault) backoff = backoff
+
+-- Where a participant is in its session.
+pub data Life : Type 0 where
+  -- it takes part
+  present : Outcome → Life
+  -- it left, and has yet to say so
+  backing_off : Outcome → Backoff → Life
+  -- it left for good
+  finished : Outcome → Life
+
+-- ---- A change of identifier
+
+-- The old identifier's BYE moves the average, if something was sent under that one, and adds no member.
+abbrev pub after_own_bye : Setup → Outcome → Backoff → Backoff
+after_own_bye setup outcome backoff =
+    if has_sent outcome.own then with_byes_of 0 (length (bye_octets setup)) backoff else backoff
+
+-- ---- What functions do one after the other: each unfolds to a part of an act (Lives)
+
+abbrev pub bye_count : List RtcpPacket → ℕ
+bye_count packets = length (filter is_bye packets)
+
+abbrev pub leaving_average : Setup → List ByeCompound → ℕ
+leaving_average setup bye_compounds =
+    average_of (length (bye_octets setup)) (map (λ bye_compound. bye_compound.size) bye_compounds)
+
+abbrev pub counted_anew : Outcome → Outcome
+counted_anew outcome = record outcome { own = counts_anew ∷ outcome.own }
 
 abbrev pub is_bye_due : Setup → (t word : ℕ) → Backoff → Bool
 is_bye_due setup t word backoff =
@@ -90,8 +110,6 @@ after_wait setup t word backoff =
     }
     else backoff
 
--- ---- A leave
-
 -- nothing was sent under the present identifier, no report and no RTP packet
 abbrev pub sent_nothing : Outcome → Bool
 sent_nothing outcome = not (has_sent outcome.own)
@@ -108,15 +126,6 @@ backoff_from setup t word outcome = record {
   happenings =
       transmitted t (drawn_interval (interval_of (leaving_load setup 1 [])) word) 1 ∷ outcome.happenings;
 }
-
--- Where a participant is in its session.
-pub data Life : Type 0 where
-  -- it takes part
-  present : Outcome → Life
-  -- it left, and has yet to say so
-  backing_off : Outcome → Backoff → Life
-  -- it left for good
-  finished : Outcome → Life
 
 -- What a leave makes of a session, without a check before it.
 abbrev pub left_at : Setup → (t word : ℕ) → Outcome → Life
@@ -136,13 +145,3 @@ abbrev pub after_waiting_tick : Setup → (t word : ℕ) → Outcome → Backoff
 after_waiting_tick setup t word outcome backoff =
     if is_bye_due setup t word backoff then finished outcome
     else backing_off outcome (after_wait setup t word backoff)
-
--- ---- A change of identifier
-
--- The old identifier's BYE moves the average, if something was sent under that one, and adds no member.
-abbrev pub after_own_bye : Setup → Outcome → Backoff → Backoff
-after_own_bye setup outcome backoff =
-    if has_sent outcome.own then with_byes_of 0 (length (bye_octets setup)) backoff else backoff
-
-abbrev pub counted_anew : Outcome → Outcome
-counted_anew outcome = record outcome { own = counts_anew ∷ outcome.own }

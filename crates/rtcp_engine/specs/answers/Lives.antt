@@ -1,47 +1,130 @@
 -- What the acts of a session make of it, its leave included: the participant takes part, backs off, or has finished.
-use Rattle.std.specs.Prelude.{ℕ, ◌≡◌, ◌-◌, ◌==◌, not, Bool, false, List, [], length, if◌then◌else◌, Option, Some, None, option_map, Result, Ok, Err}
+use Rattle.std.specs.Prelude.{ℕ, ◌≡◌, ◌+◌, ◌-◌, ◌==◌, ◌&&◌, nat_le, not, Bool, false, List, [], ◌∷◌, length, if◌then◌else◌, Option, Some, None, option_map, Result, Ok, Err}
 use Rattle.rtcp_wire.specs.declared.fault.WireFault.{WireFault}
 use Rattle.rtcp_wire.specs.Values.{RtcpPacket}
-use Rattle.rtcp_members.specs.Traces.{names}
+use Rattle.rtcp_members.specs.Traces.{names, source_forgotten}
 use Rattle.rtcp_members.specs.Stays.{present_among, stay_of}
 use Rattle.rtcp_members.specs.Entries.{EntryValue, entry_at, members_at, moved_within}
 use Rattle.rtcp_members.specs.Listings.{StateValue, ListsAbove, IsWalk}
 use Rattle.rtcp_engine.specs.declared.step.Standing.{Standing}
 use Rattle.rtcp_engine.specs.declared.step.OutKind.TheVariants.{Report, Bye}
 use Rattle.rtcp_engine.specs.answers.Setups.{Setup, SettingsValue}
-use Rattle.rtcp_engine.specs.answers.Acts.{Act, rtcp, arrived, ticked, left}
-use Rattle.rtcp_engine.specs.answers.OwnStreams.{has_sent}
-use Rattle.rtcp_engine.specs.answers.Reporting.{bye_octets}
-use Rattle.rtcp_engine.specs.answers.Outcomes.{Outcome, check_interval, member_count, sender_count, timing_of, with_pace}
-use Rattle.rtcp_engine.specs.answers.Arrivals.{after, with_change}
+use Rattle.rtcp_clock.specs.Intervals.{drawn_interval}
+use Rattle.rtcp_timer.specs.Loads.{interval_of}
+use Rattle.rtcp_timer.specs.Schedules.{transmitted, tried}
+use Rattle.rtcp_engine.specs.answers.Acts.{Act, rtcp, arrived, rtp_sent, ticked, left, configured, forgotten}
+use Rattle.rtcp_engine.specs.answers.OwnStreams.{has_sent, counts_anew, packet_sent}
+use Rattle.rtcp_engine.specs.answers.Reporting.{bye_octets, report_octets}
+use Rattle.rtcp_engine.specs.answers.Outcomes.{Outcome, check_interval, interval_at, member_count, sender_count, timing_of, with_pace}
+use Rattle.rtcp_engine.specs.answers.Arrivals.{with_change, with_datagram}
 use Rattle.rtcp_engine.specs.answers.Steps.{OutValue, StepValue}
-use Rattle.rtcp_engine.specs.answers.Ticks.{checked, horizons_of, report_due}
-use Rattle.rtcp_engine.specs.answers.Leaving.{Backoff, Life, present, backing_off, finished, bye_at_once, after_own_bye, counted_anew, after_waiting_tick, is_bye_due, left_at, leaving_count, leaving_timing, with_byes}
+use Rattle.rtcp_engine.specs.answers.Ticks.{checked, horizons_of, with_draw, with_recount, with_report}
+use Rattle.rtcp_engine.specs.answers.Leaving.{Backoff, Life, present, backing_off, finished, after_own_bye, leaving_count, leaving_interval, leaving_load, leaving_timing, with_byes}
 
 -- ---- Acts
 
-abbrev pub while_present : Setup → Act → Outcome → Life
-while_present setup (left moment word) outcome = left_at setup moment word outcome
-while_present setup act outcome = present (after setup act outcome)
+abbrev pub report_out : List ℕ → OutValue
+report_out octets = record { kind = Report; octets = octets }
 
--- Nothing counts but compounds, and ticks, which make no check. A second leave begins nothing anew.
-abbrev pub while_backing_off : Setup → Act → Outcome → Backoff → Life
-while_backing_off setup (arrived moment peer word (rtcp size reading)) outcome backoff =
-    backing_off outcome (with_byes size reading backoff)
-while_backing_off setup (ticked moment first_word second_word) outcome backoff =
-    after_waiting_tick setup moment first_word outcome backoff
-while_backing_off setup act outcome backoff = backing_off outcome backoff
+abbrev pub bye_out : List ℕ → OutValue
+bye_out octets = record { kind = Bye; octets = octets }
 
-abbrev pub lived : Setup → Act → Life → Life
-lived setup act (present outcome) = while_present setup act outcome
-lived setup act (backing_off outcome backoff) = while_backing_off setup act outcome backoff
-lived setup act (finished outcome) = finished outcome
+-- What an act makes of a life, the compound that it brings, if it brings one, and the deterministic interval that
+-- decides on this (6.3.6, 6.3.7), or 0.
+pub record Made : Type 0 where
+  pub life : Life
+  pub out : Option OutValue
+  pub interval : ℕ
+
+abbrev pub made_silently : (interval : ℕ) → Life → Made
+made_silently interval life = record { life = life; out = None; interval = interval }
+
+-- A tick makes a check. Then a report goes out if the next transmission's moment has come, and an interval that is drawn
+-- now has passed since the last one; if it has not, the transmission is put off (6.3.6). After a report the next interval
+-- is drawn, by the average with this report in it, and by the minimum after the first report.
+abbrev pub made_by_tick : Setup → (t first_word second_word : ℕ) → Outcome → Made
+made_by_tick setup t first_word second_word outcome =
+    let now = checked setup t outcome in
+    let timing = timing_of now in
+    let has_come = nat_le timing.next t in
+    let has_passed = nat_le (timing.last + drawn_interval (interval_at setup now) first_word) t in
+    record {
+      life =
+          present (if has_come
+          then (if has_passed
+          then with_draw transmitted setup t second_word (with_report setup t now)
+          else with_draw tried setup t first_word now)
+          else now);
+      out = option_map report_out (if has_come && has_passed then Some (report_octets setup t now) else None);
+      interval = interval_at setup now;
+    }
+
+-- A leave (6.3.7): in silence if nothing was sent under the present identifier; with a BYE at once among at most 50
+-- members; or else with a backoff, which begins as if the participant, alone, had just sent a compound.
+abbrev pub made_by_leave : Setup → (t word : ℕ) → Outcome → Made
+made_by_leave setup t word outcome =
+    let is_silent = not (has_sent outcome.own) in
+    let are_few = nat_le (member_count setup outcome) 50 in
+    let drawn = drawn_interval (interval_of (leaving_load setup 1 [])) word in
+    let backoff : Backoff =
+        record { since = t; bye_compounds = []; happenings = transmitted t drawn 1 ∷ outcome.happenings } in
+    record {
+      life =
+          if is_silent then finished outcome
+          else (if are_few then finished outcome else backing_off outcome backoff);
+      out = option_map bye_out (if is_silent then None else (if are_few then Some (bye_octets setup) else None));
+      interval = 0;
+    }
+
+-- Settings change the setup: members, average and schedule stay, each interval is computed with the setup of its act, and
+-- only the pace of checks is noted, where bandwidths change.
+abbrev pub made_while_present : Setup → Act → Outcome → Made
+made_while_present setup (arrived moment peer word datagram) outcome =
+    made_silently 0 (present (with_datagram setup moment datagram outcome))
+made_while_present setup (rtp_sent moment timestamp octets) outcome =
+    made_silently 0 (present (record outcome { own = packet_sent moment timestamp octets ∷ outcome.own }))
+made_while_present setup (ticked moment first_word second_word) outcome =
+    made_by_tick setup moment first_word second_word outcome
+made_while_present setup (left moment word) outcome = made_by_leave setup moment word outcome
+made_while_present setup (configured moment settings) outcome =
+    made_silently 0 (present (with_pace setup settings moment outcome))
+-- A source goes as one that was silent for too long: the members are counted again (6.3.4).
+made_while_present setup (forgotten moment ssrc) outcome =
+    made_silently 0
+    (present (with_recount setup moment (record outcome { trace = source_forgotten ssrc ∷ outcome.trace })))
+
+-- In a backoff nothing counts but compounds, and ticks, which make no check. A second leave begins nothing anew.
+abbrev pub made_backing_off : Setup → Act → Outcome → Backoff → Made
+made_backing_off setup (arrived moment peer word (rtcp size reading)) outcome backoff =
+    made_silently (leaving_interval setup backoff) (backing_off outcome (with_byes size reading backoff))
+made_backing_off setup (ticked moment first_word second_word) outcome backoff =
+    let timing = leaving_timing backoff in
+    let drawn = drawn_interval (leaving_interval setup backoff) first_word in
+    let has_come = nat_le timing.next moment in
+    let has_passed = nat_le (timing.last + drawn) moment in
+    let later = tried moment drawn (leaving_count backoff) ∷ backoff.happenings in
+    record {
+      life =
+          if has_come && has_passed then finished outcome
+          else backing_off outcome (if has_come then record backoff { happenings = later } else backoff);
+      out = if has_come && has_passed then Some (bye_out (bye_octets setup)) else None;
+      interval = leaving_interval setup backoff;
+    }
+made_backing_off setup act outcome backoff =
+    made_silently (leaving_interval setup backoff) (backing_off outcome backoff)
+
+abbrev pub made_by : Setup → Act → Life → Made
+made_by setup act (present outcome) = made_while_present setup act outcome
+made_by setup act (backing_off outcome backoff) = made_backing_off setup act outcome backoff
+made_by setup act (finished outcome) = made_silently 0 (finished outcome)
+
+-- ---- A change of identifier
 
 -- A change of identifier: the BYE of the old one counts as a compound that was sent, if something was sent under it.
 abbrev pub with_new_ssrc : Setup → Life → Life
 with_new_ssrc setup (present outcome) = present (with_change setup outcome)
 with_new_ssrc setup (backing_off outcome backoff) =
-    backing_off (counted_anew outcome) (after_own_bye setup outcome backoff)
+    backing_off (record outcome { own = counts_anew ∷ outcome.own }) (after_own_bye setup outcome backoff)
 with_new_ssrc setup (finished outcome) = finished outcome
 
 -- Settings note the pace of checks where they change it, as long as the participant takes part.
@@ -85,23 +168,16 @@ WalksInLife setup _ states = states ≡ []
 
 -- ---- Changes of the others
 
--- whether some other source is a member
-abbrev pub has_others : Setup → Outcome → Bool
-has_others setup outcome = not (members_at setup.capacity outcome.trace == 0)
-
--- Whether one of the steps since changed who of the others is a member, or who of them sends.
-abbrev pub moved_since : Setup → (before after : Outcome) → Bool
-moved_since setup before after =
-    moved_within setup.capacity (length after.trace - length before.trace) after.trace
-
--- the same of a life that began as this outcome: nobody is told of from a leave on
+-- Whether an act changes who of the others is a member, or who of them sends, as far as the participant tells: one of
+-- the steps since does; and nobody is told of from a leave on.
 abbrev pub others_moved_into : Setup → (before : Outcome) → Life → Bool
-others_moved_into setup before (present after) = moved_since setup before after
-others_moved_into setup before _ = has_others setup before
+others_moved_into setup before (present after) =
+    moved_within setup.capacity (length after.trace - length before.trace) after.trace
+others_moved_into setup before _ = not (members_at setup.capacity before.trace == 0)
 
--- Whether an act changes who of the others is a member, or who of them sends, as far as the participant tells.
 abbrev pub others_moved_by : Setup → Act → Life → Bool
-others_moved_by setup act (present outcome) = others_moved_into setup outcome (while_present setup act outcome)
+others_moved_by setup act (present outcome) =
+    others_moved_into setup outcome (made_by setup act (present outcome)).life
 others_moved_by setup act _ = false
 
 -- the moment to ask again, until the participant is gone
@@ -128,30 +204,7 @@ standing_in_life setup life = record {
   next = next_in_life life;
 }
 
--- ---- Compounds to send
-
-abbrev pub report_out : List ℕ → OutValue
-report_out octets = record { kind = Report; octets = octets }
-
-abbrev pub bye_out : List ℕ → OutValue
-bye_out octets = record { kind = Bye; octets = octets }
-
-abbrev pub out_while_present : Setup → Act → Outcome → Option OutValue
-out_while_present setup (ticked moment first_word second_word) outcome =
-    option_map report_out (report_due setup moment first_word (checked setup moment outcome))
-out_while_present setup (left moment word) outcome = option_map bye_out (bye_at_once setup outcome)
-out_while_present setup act outcome = None
-
-abbrev pub out_while_backing_off : Setup → Act → Outcome → Backoff → Option OutValue
-out_while_backing_off setup (ticked moment first_word second_word) outcome backoff =
-    if is_bye_due setup moment first_word backoff then Some (bye_out (bye_octets setup)) else None
-out_while_backing_off setup act outcome backoff = None
-
--- the compound that an act brings, if it brings one
-abbrev pub out_by : Setup → Act → Life → Option OutValue
-out_by setup act (present outcome) = out_while_present setup act outcome
-out_by setup act (backing_off outcome backoff) = out_while_backing_off setup act outcome backoff
-out_by setup act (finished outcome) = None
+-- ---- Answers
 
 abbrev pub bye_if_sent : Setup → Outcome → Option OutValue
 bye_if_sent setup outcome = if has_sent outcome.own then Some (bye_out (bye_octets setup)) else None
@@ -161,8 +214,6 @@ abbrev pub own_bye : Setup → Life → Option OutValue
 own_bye setup (present outcome) = bye_if_sent setup outcome
 own_bye setup (backing_off outcome backoff) = bye_if_sent setup outcome
 own_bye setup (finished outcome) = None
-
--- ---- Answers
 
 -- What is answered where a session has come to this, by an act that brought a compound, if it brought one, and that
 -- changed who of the others is there or sends, if it did.
@@ -176,3 +227,32 @@ step_into setup out others_changed life = record {
   changed = None;
   others_changed = others_changed;
 }
+
+-- ---- Parts of what stands above, by names of their own
+
+abbrev pub lived : Setup → Act → Life → Life
+lived setup act life = (made_by setup act life).life
+
+abbrev pub out_by : Setup → Act → Life → Option OutValue
+out_by setup act life = (made_by setup act life).out
+
+abbrev pub while_present : Setup → Act → Outcome → Life
+while_present setup act outcome = lived setup act (present outcome)
+
+abbrev pub while_backing_off : Setup → Act → Outcome → Backoff → Life
+while_backing_off setup act outcome backoff = lived setup act (backing_off outcome backoff)
+
+abbrev pub out_while_present : Setup → Act → Outcome → Option OutValue
+out_while_present setup act outcome = out_by setup act (present outcome)
+
+abbrev pub out_while_backing_off : Setup → Act → Outcome → Backoff → Option OutValue
+out_while_backing_off setup act outcome backoff = out_by setup act (backing_off outcome backoff)
+
+-- whether some other source is a member
+abbrev pub has_others : Setup → Outcome → Bool
+has_others setup outcome = not (members_at setup.capacity outcome.trace == 0)
+
+-- Whether one of the steps since changed who of the others is a member, or who of them sends.
+abbrev pub moved_since : Setup → (before after : Outcome) → Bool
+moved_since setup before after =
+    moved_within setup.capacity (length after.trace - length before.trace) after.trace

@@ -38,40 +38,31 @@ pub record Outcome : Type 0 where
 abbrev pub member_count : Setup → Outcome → ℕ
 member_count setup outcome = 1 + members_at setup.capacity outcome.trace
 
-abbrev pub one_if : Bool → ℕ
-one_if b = if b then 1 else 0
-
 -- the senders, the participant among them if it is one
 abbrev pub sender_count : Setup → Outcome → ℕ
 sender_count setup outcome =
-    senders_at setup.capacity outcome.trace + one_if (we_sent outcome.own)
+    senders_at setup.capacity outcome.trace + (if we_sent outcome.own then 1 else 0)
 
 -- ---- The average and the interval
-
--- The size of the first compound of a session, a receiver report without blocks, as far as one can tell
--- (6.3.2).
-abbrev pub first_size_of : Setup → ℕ
-first_size_of setup =
-    let reporter : Reporter = record { ssrc = setup.ssrc; sent = None; items = items_of setup.cname None } in
-    report_size reporter 0
-
-abbrev pub average_size : Setup → Outcome → ℕ
-average_size setup outcome = average_of (first_size_of setup) outcome.sizes
 
 abbrev pub is_initial : List Report → Bool
 is_initial [] = true
 is_initial (report ∷ earlier) = false
 
+-- What the interval is computed from. The average begins with the size of a receiver report without blocks, which is the
+-- first compound as far as one can tell (6.3.2).
 abbrev pub load_of : Setup → Outcome → Load
-load_of setup outcome = record {
-  members = member_count setup outcome;
-  senders = sender_count setup outcome;
-  we_sent = we_sent outcome.own;
-  initial = is_initial outcome.reports;
-  avg = average_size setup outcome;
-  sender_bw = setup.sender_bw;
-  receiver_bw = setup.receiver_bw;
-}
+load_of setup outcome =
+    let receiver : Reporter = record { ssrc = setup.ssrc; sent = None; items = items_of setup.cname None } in
+    record {
+      members = member_count setup outcome;
+      senders = sender_count setup outcome;
+      we_sent = we_sent outcome.own;
+      initial = is_initial outcome.reports;
+      avg = average_of (report_size receiver 0) outcome.sizes;
+      sender_bw = setup.sender_bw;
+      receiver_bw = setup.receiver_bw;
+    }
 
 -- The deterministic interval (6.3.1).
 abbrev pub interval_at : Setup → Outcome → ℕ
@@ -80,9 +71,6 @@ interval_at setup outcome = interval_of (load_of setup outcome)
 -- The same for a participant that is no sender.
 abbrev pub receiver_load : Setup → Outcome → Load
 receiver_load setup outcome = record (load_of setup outcome) { we_sent = false }
-
-abbrev pub receiver_interval_at : Setup → Outcome → ℕ
-receiver_interval_at setup outcome = interval_of (receiver_load setup outcome)
 
 -- ---- The pace of checks
 
@@ -114,20 +102,16 @@ abbrev pub end_of : Option Pace → ℕ
 end_of None = 0
 end_of (Some pace) = pace.until
 
--- Five intervals by the bandwidths of the setup after the moment `t`, at which they change, each source that is still
--- there has reported at the new pace.
-abbrev pub end_at : Setup → (t : ℕ) → Outcome → ℕ
-end_at setup t outcome = t + 5 * receiver_interval_at setup outcome
-
--- The bandwidths that checks went by up to the moment `t`, at which those of the setup change. Where an older pace
--- still counts, they are the least, and count until the later end of the two.
+-- The bandwidths that checks went by up to the moment `t`, at which those of the setup change. Five intervals of a
+-- receiver later each source that is still there has reported at the new pace. Where an older pace still counts, the
+-- bandwidths are the least, and count until the later end of the two.
 abbrev pub pace_at : Setup → (t : ℕ) → Outcome → Pace
 pace_at setup t outcome =
     let load = check_load setup t outcome in
     record {
       sender_bw = load.sender_bw;
       receiver_bw = load.receiver_bw;
-      until = max (end_of (newest_pace outcome.paces)) (end_at setup t outcome);
+      until = max (end_of (newest_pace outcome.paces)) (t + 5 * interval_of (receiver_load setup outcome));
     }
 
 -- Settings are given. Where they have other bandwidths than the setup, the former ones are noted.
@@ -156,3 +140,24 @@ beginning setup word =
     record nothing_yet {
       happenings = transmitted 0 (drawn_interval (interval_at setup nothing_yet) word) 1 ∷ [];
     }
+
+-- ---- Parts of what stands above, by names of their own
+
+abbrev pub one_if : Bool → ℕ
+one_if b = if b then 1 else 0
+
+-- the size of the first compound of a session
+abbrev pub first_size_of : Setup → ℕ
+first_size_of setup =
+    let reporter : Reporter = record { ssrc = setup.ssrc; sent = None; items = items_of setup.cname None } in
+    report_size reporter 0
+
+abbrev pub average_size : Setup → Outcome → ℕ
+average_size setup outcome = average_of (first_size_of setup) outcome.sizes
+
+abbrev pub receiver_interval_at : Setup → Outcome → ℕ
+receiver_interval_at setup outcome = interval_of (receiver_load setup outcome)
+
+-- until when checks go by the pace up to the moment `t`
+abbrev pub end_at : Setup → (t : ℕ) → Outcome → ℕ
+end_at setup t outcome = t + 5 * receiver_interval_at setup outcome

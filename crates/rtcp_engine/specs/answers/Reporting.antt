@@ -48,14 +48,17 @@ reported_at setup t outcome =
     fitting (reporter_at setup t outcome) setup.limit
     (pending_at (last_reported_in outcome.trace) setup.capacity outcome.trace)
 
-abbrev pub report_packets : Setup → (t : ℕ) → Outcome → List RtcpPacket
-report_packets setup t outcome =
-    packets_with (reporter_at setup t outcome)
-    (blocks_at t setup.capacity outcome.trace (reported_at setup t outcome))
-
 abbrev pub report_octets : Setup → (t : ℕ) → Outcome → List ℕ
-report_octets setup t outcome = written_all (report_packets setup t outcome)
+report_octets setup t outcome =
+    let blocks = blocks_at t setup.capacity outcome.trace (reported_at setup t outcome) in
+    written_all (packets_with (reporter_at setup t outcome) blocks)
 
 -- the octets of the compound with the participant's BYE
 abbrev pub bye_octets : Setup → List ℕ
 bye_octets setup = written_all (bye_of setup.ssrc setup.cname)
+
+-- the packets of a report
+abbrev pub report_packets : Setup → (t : ℕ) → Outcome → List RtcpPacket
+report_packets setup t outcome =
+    packets_with (reporter_at setup t outcome)
+    (blocks_at t setup.capacity outcome.trace (reported_at setup t outcome))

@@ -89,9 +89,6 @@ is_extra_item item = is_within 2 8 item.kind && nat_le (length item.text) 255
 abbrev pub IsExtraItem : ItemValue → Type 0
 IsExtraItem item = IsWithin 2 8 item.kind × (length item.text ≤ 255)
 
-abbrev pub is_clock : ClockValue → Bool
-is_clock clock = is_within 1 (2 ^ 20) clock.rate
-
 abbrev pub IsClock : ClockValue → Type 0
 IsClock clock = IsWithin 1 (2 ^ 20) clock.rate
 
@@ -108,10 +105,6 @@ pub record IsUsable (setup : Setup) : Type 0 where
   pub few_extras : length setup.extras ≤ 7
   pub extras : All IsExtraItem setup.extras
 
--- whether these may be given beside the CNAME
-abbrev pub are_extras : List ItemValue → Bool
-are_extras items = nat_le (length items) 7 && list_all is_extra_item items
-
 abbrev pub is_bandwidth : (bandwidth : ℕ) → Bool
 is_bandwidth bandwidth = is_within 16 (2 ^ 30) bandwidth
 
@@ -119,6 +112,16 @@ is_bandwidth bandwidth = is_within 16 (2 ^ 30) bandwidth
 abbrev pub settings_error : SettingsValue → Option ConfigError
 settings_error settings =
     if not (is_bandwidth settings.sender_bw && is_bandwidth settings.receiver_bw) then Some Bandwidth
-    else (if not (is_within 1 (2 ^ 20) settings.rate && list_all is_clock settings.clocks) then Some Rate
-    else (if not (are_extras settings.extras) then Some Item
+    else (if not (is_within 1 (2 ^ 20) settings.rate
+    && list_all (λ clock. is_within 1 (2 ^ 20) clock.rate) settings.clocks) then Some Rate
+    else (if not (nat_le (length settings.extras) 7 && list_all is_extra_item settings.extras) then Some Item
     else None))
+
+-- ---- Parts of what stands above, by names of their own
+
+abbrev pub is_clock : ClockValue → Bool
+is_clock clock = is_within 1 (2 ^ 20) clock.rate
+
+-- whether these may be given beside the CNAME
+abbrev pub are_extras : List ItemValue → Bool
+are_extras items = nat_le (length items) 7 && list_all is_extra_item items

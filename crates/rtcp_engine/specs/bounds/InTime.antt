@@ -6,12 +6,12 @@ use Rattle.rtcp_timer.specs.Loads.{interval_of}
 use Rattle.rtcp_engine.specs.answers.Setups.{Setup}
 use Rattle.rtcp_engine.specs.answers.Acts.{Act, rtcp, arrived, ticked, left, forgotten, moment_of}
 use Rattle.rtcp_engine.specs.answers.Outcomes.{Outcome, interval_at, member_count, nothing_yet}
-use Rattle.rtcp_engine.specs.answers.Lives.{out_by}
+use Rattle.rtcp_engine.specs.answers.Lives.{made_by}
 use Rattle.rtcp_engine.specs.answers.Ticks.{checked, with_report, without_source}
 use Rattle.rtcp_engine.specs.answers.Arrivals.{with_datagram}
-use Rattle.rtcp_engine.specs.answers.Histories.{History, brought_by, life_at, session_at, session_for, session_of, setup_at}
+use Rattle.rtcp_engine.specs.answers.Histories.{History, brought_by, session_at, session_for, session_of}
 use Rattle.rtcp_engine.specs.answers.Leaving.{Backoff, Life, present, backing_off, finished, leaving_interval, leaving_load}
-use Rattle.rtcp_engine.specs.bounds.Sent.{Sent, reports_in, interval_by, sent_at}
+use Rattle.rtcp_engine.specs.bounds.Sent.{Sent, reports_in, sent_at}
 use Rattle.rtcp_engine.specs.bounds.Spacing.{newest_moment}
 
 -- ---- Falls
@@ -43,7 +43,7 @@ last_fall setup word (act ∷ earlier) =
 abbrev pub greatest_while_present : Setup → Act → Outcome → (before : ℕ) → ℕ
 greatest_while_present setup (ticked moment first_word second_word) outcome before =
     let now = checked setup moment outcome in
-    if is_some (out_by setup (ticked moment first_word second_word) (present outcome))
+    if is_some (made_by setup (ticked moment first_word second_word) (present outcome)).out
     then interval_at setup (with_report setup moment now)
     else max (interval_at setup now) before
 greatest_while_present setup (left moment word) outcome before = interval_of (leaving_load setup 1 [])
@@ -62,7 +62,7 @@ greatest_by setup act (finished outcome) before = before
 
 -- The greatest of the deterministic intervals computed since the newest report: for the draw that followed it, and at
 -- each tick since, after its check. Before the first report, since the start; after a leave, since that. A report is
--- what an act brings (`out_by`).
+-- what an act brings.
 abbrev pub greatest_interval : Setup → (word : ℕ) → List Act → ℕ
 greatest_interval setup word [] = interval_at setup nothing_yet
 greatest_interval setup word (act ∷ earlier) =
@@ -75,7 +75,8 @@ greatest_interval setup word (act ∷ earlier) =
 -- that of this tick included
 abbrev pub longest_wait : History → Act → ℕ
 longest_wait history act =
-    longest_draw (max (interval_by (setup_at history) act (life_at history))
+    let session = session_at history in
+    longest_draw (max (made_by session.setup act session.life).interval
     (greatest_interval history.setup history.word history.acts))
 
 -- Since the newest report, or moment 0, and since the newest fall, that of this tick included, so long has passed; in a
@@ -90,7 +91,7 @@ HasWaited wait moment fall sent (finished outcome) = ⊥
 abbrev pub IsOverdue : History → Act → Type 0
 IsOverdue history act =
     HasWaited (longest_wait history act) (moment_of act)
-    (last_fall history.setup history.word (act ∷ history.acts)) (sent_at history) (life_at history)
+    (last_fall history.setup history.word (act ∷ history.acts)) (sent_at history) (session_at history).life
 
 -- ---- In time
 

@@ -63,19 +63,12 @@ IsAnsweredInTime history (ticked moment first_word second_word) answer =
     refusal_after history (ticked moment first_word second_word) ≡ None → HasCompound answer
 IsAnsweredInTime history act answer = Unit {0}
 
--- Each tick that has an answer has such a one.
-abbrev pub AnsweredInTime : History → List Act → List AnswerValue → Type 0
-AnsweredInTime = AllAlong IsAnsweredInTime
-
 -- ---- Refusals
 
 -- An act whose answer is a refusal changes nothing.
 abbrev pub IsRefusalForgotten : History → Act → AnswerValue → Type 0
 IsRefusalForgotten history act (Ok step) = Unit {0}
 IsRefusalForgotten history act (Err refusal) = followed_by history act ≡ history
-
-abbrev pub AreRefusalsForgotten : History → List Act → List AnswerValue → Type 0
-AreRefusalsForgotten = AllAlong IsRefusalForgotten
 
 -- ---- All together
 
@@ -84,9 +77,9 @@ AreRefusalsForgotten = AllAlong IsRefusalForgotten
 -- limit. A tick that comes late sends, and what is refused changes nothing.
 pub record HandsOver (history : History) (acts : List Act) (answers : List AnswerValue) : Type 0 where
   -- A tick that comes late sends.
-  pub in_time : AnsweredInTime history acts answers
+  pub in_time : AllAlong IsAnsweredInTime history acts answers
   -- What is refused changes nothing.
-  pub refused : AreRefusalsForgotten history acts answers
+  pub refused : AllAlong IsRefusalForgotten history acts answers
   pub bounded : let after = followed_by_all history acts in
       AreBounded (first_leave after.acts) after.setup.limit (handed_over history acts answers ++ sent_at history)
   pub ends : EndAtBye answers

@@ -4,7 +4,7 @@ use Rattle.rtcp_engine.specs.declared.step.OutKind.TheVariants.{Report as Report
 use Rattle.rtcp_engine.specs.answers.Setups.{Setup}
 use Rattle.rtcp_engine.specs.answers.Acts.{Act, ticked, moment_of}
 use Rattle.rtcp_engine.specs.answers.Outcomes.{Outcome, Report, interval_at}
-use Rattle.rtcp_engine.specs.answers.Ticks.{checked}
+use Rattle.rtcp_engine.specs.answers.Lives.{made_by}
 use Rattle.rtcp_engine.specs.answers.Histories.{History, brought_by, session_of}
 use Rattle.rtcp_engine.specs.answers.Steps.{OutValue, AnswerValue}
 use Rattle.rtcp_engine.specs.answers.Leaving.{Life, present, backing_off, finished, leaving_interval}
@@ -28,21 +28,11 @@ reports_in sent = filter is_report sent
 
 -- ---- Intervals
 
-abbrev pub interval_while_present : Setup → Act → Outcome → ℕ
-interval_while_present setup (ticked moment first_word second_word) outcome =
-    interval_at setup (checked setup moment outcome)
-interval_while_present setup act outcome = 0
-
-abbrev pub interval_by : Setup → Act → Life → ℕ
-interval_by setup act (present outcome) = interval_while_present setup act outcome
-interval_by setup act (backing_off outcome backoff) = leaving_interval setup backoff
-interval_by setup act (finished outcome) = 0
-
 -- The deterministic interval that decides whether an act brings a compound (RFC 3550, 6.3.6, 6.3.7): 0 where it changes
 -- the identifier.
 abbrev pub deciding_interval : Session → Act → ℕ
 deciding_interval session act =
-    if is_some (change_by session act) then 0 else interval_by session.setup act session.life
+    if is_some (change_by session act) then 0 else (made_by session.setup act session.life).interval
 
 -- ---- Sessions
 
@@ -79,3 +69,6 @@ reports_of (finished outcome) = outcome.reports
 
 abbrev pub counted_report : Sent → Report
 counted_report sent = record { moment = sent.moment; interval = sent.interval; octets = sent.out.octets }
+
+abbrev pub interval_by : Setup → Act → Life → ℕ
+interval_by setup act life = (made_by setup act life).interval

@@ -29,12 +29,9 @@ AreSpaced [] = Unit {0}
 AreSpaced (report ∷ earlier) =
     HalfPasses (newest_moment earlier) report.moment report.interval × AreSpaced earlier
 
-abbrev pub is_between : (from until : ℕ) → Sent → Bool
-is_between from until report = is_within from until report.moment
-
 -- how many reports lie in a window of so many microseconds, its ends included
 abbrev pub count_within : (from width : ℕ) → List Sent → ℕ
-count_within from width reports = length (filter (is_between from (from + width)) reports)
+count_within from width reports = length (filter (λ report. is_within from (from + width) report.moment) reports)
 
 -- ---- Leaving
 
@@ -98,8 +95,13 @@ pub record AreBounded (leave : Option ℕ) (most : ℕ) (sent : List Sent) : Typ
   -- At most eight identifiers are given up with a BYE.
   pub few_changes : length (filter is_change_bye sent) ≤ most_changes
   -- No compound passes the limit.
-  pub limit : AllFit most sent
+  pub limit : All (λ compound. length compound.out.octets ≤ most) sent
 
 -- What was sent over a history keeps its bounds.
 abbrev pub KeepsBounds : History → Type 0
 KeepsBounds history = AreBounded (first_leave history.acts) history.setup.limit (sent_at history)
+
+-- ---- Parts of what stands above, by names of their own
+
+abbrev pub is_between : (from until : ℕ) → Sent → Bool
+is_between from until report = is_within from until report.moment
