@@ -14,7 +14,7 @@ use Rattle.rtcp_timer.specs.Loads.{interval_of}
 use Rattle.rtcp_timer.proofs.LawLemmas.{interval_has_minimum}
 use Rattle.rtcp_engine.specs.declared.changes.IdentifierChange.{IdentifierChange}
 use Rattle.rtcp_engine.specs.answers.Setups.{Setup, IsUsable}
-use Rattle.rtcp_engine.specs.answers.Acts.{Datagram, Act, arrived, rtp_sent, ticked, left, configured, forgotten}
+use Rattle.rtcp_engine.specs.answers.Acts.{Datagram, rtcp, rtp, Act, arrived, rtp_sent, ticked, left, configured, forgotten}
 use Rattle.rtcp_engine.specs.answers.OwnStreams.{has_sent}
 use Rattle.rtcp_engine.specs.answers.Outcomes.{Outcome}
 use Rattle.rtcp_engine.specs.answers.Reporting.{bye_octets}
@@ -85,8 +85,11 @@ module _ (Q : BackoffBye → Type 0) where
       let now = changed_by change session in
       parted_with setup backoff (sent_with moment (if is_some change then 0 else interval_by setup act session.life)
       (is_some change) (option_or (bye_of_change change session) (out_by now.setup act now.life))) ≡ []
-  by_arrival setup changes outcome backoff moment peer word datagram None = refl
-  by_arrival setup changes outcome backoff moment peer word datagram (Some new) =
+  by_arrival setup changes outcome backoff moment peer word (rtcp size reading) None = refl
+  by_arrival setup changes outcome backoff moment peer word (rtp reading) None = refl
+  by_arrival setup changes outcome backoff moment peer word (rtcp size reading) (Some new) =
+      none_of_change setup backoff moment (bye_octets setup) (has_sent outcome.own)
+  by_arrival setup changes outcome backoff moment peer word (rtp reading) (Some new) =
       none_of_change setup backoff moment (bye_octets setup) (has_sent outcome.own)
 
   in_backoff : (setup : Setup) (changes : List IdentifierChange) (outcome : Outcome) (backoff : Backoff) (act : Act) →

@@ -7,7 +7,7 @@ use Rattle.rtcp_timer.specs.Loads.{interval_of, minimum_of}
 use Rattle.rtcp_timer.proofs.LawLemmas.{interval_has_minimum}
 use Rattle.rtcp_engine.specs.declared.changes.IdentifierChange.{IdentifierChange}
 use Rattle.rtcp_engine.specs.answers.Setups.{Setup}
-use Rattle.rtcp_engine.specs.answers.Acts.{Act, arrived, rtp_sent, ticked, left, configured, moment_of, forgotten}
+use Rattle.rtcp_engine.specs.answers.Acts.{Act, rtcp, rtp, arrived, rtp_sent, ticked, left, configured, moment_of, forgotten}
 use Rattle.rtcp_engine.specs.answers.OwnStreams.{has_sent}
 use Rattle.rtcp_engine.specs.answers.Outcomes.{Outcome, load_of, member_count}
 use Rattle.rtcp_engine.specs.answers.Ticks.{checked, report_due}
@@ -52,7 +52,8 @@ none_alone setup (left moment word) (present outcome) h = none_of_leave moment (
     (nat_le (member_count setup outcome) few_members) (bye_octets setup)
 none_alone setup (configured moment settings) (present outcome) h = refl
 none_alone setup (forgotten moment ssrc) (present outcome) h = refl
-none_alone setup (arrived moment peer word datagram) (backing_off outcome backoff) h = refl
+none_alone setup (arrived moment peer word (rtcp size reading)) (backing_off outcome backoff) h = refl
+none_alone setup (arrived moment peer word (rtp reading)) (backing_off outcome backoff) h = refl
 none_alone setup (rtp_sent moment timestamp octets) (backing_off outcome backoff) h = refl
 none_alone setup (ticked moment first_word second_word) (backing_off outcome backoff) h =
     none_of_bye moment (leaving_interval setup backoff) false (is_bye_due setup moment first_word backoff)
