@@ -32,14 +32,16 @@ abbrev pub setup_given : Config → (cname : List ℕ) → List ItemGiven → Se
 setup_given config cname items = record {
   ssrc = config.ssrc;
   cname = cname;
-  extras = items_given items;
   capacity = config.capacity;
   limit = config.limit;
-  sender_bw = config.sender_bw;
-  receiver_bw = config.receiver_bw;
-  rate = config.rate;
-  clocks = clocks_given config.clock_count config.clocks;
-  ntp_base = config.ntp_base;
+  settings = record {
+    sender_bw = config.sender_bw;
+    receiver_bw = config.receiver_bw;
+    rate = config.rate;
+    clocks = clocks_given config.clock_count config.clocks;
+    ntp_base = config.ntp_base;
+    extras = items_given items;
+  };
 }
 
 abbrev pub settings_given : Settings → List ItemGiven → SettingsValue

@@ -100,7 +100,7 @@ extras_in found = do
   Ok (name ++ email ++ phone ++ place ++ tool ++ note ++ private)
 
 abbrev pub with_extras : Setup → List ItemValue → Setup
-with_extras setup items = record setup { extras = setup.extras ++ items }
+with_extras setup items = record setup { settings = record setup.settings { extras = setup.settings.extras ++ items } }
 
 -- ---- The setup
 
@@ -123,14 +123,16 @@ setup_in found ssrc ntp = do
   Ok (record {
     ssrc = ssrc;
     cname = cname;
-    extras = extras;
     capacity = capacity;
     limit = limit;
-    sender_bw = sender_bw;
-    receiver_bw = receiver_bw;
-    rate = rate;
-    clocks = clocks;
-    ntp_base = ntp;
+    settings = record {
+      sender_bw = sender_bw;
+      receiver_bw = receiver_bw;
+      rate = rate;
+      clocks = clocks;
+      ntp_base = ntp;
+      extras = extras;
+    };
   })
 
 -- 1 to 2^32 - 1 lines

@@ -39,7 +39,7 @@ sizes_text setup = codes " --capacity " ++ decimal setup.capacity ++ codes " --l
 
 abbrev pub bandwidths_text : Setup → List ℕ
 bandwidths_text setup =
-    codes " --sender-bw " ++ decimal setup.sender_bw ++ codes " --receiver-bw " ++ decimal setup.receiver_bw
+    codes " --sender-bw " ++ decimal setup.settings.sender_bw ++ codes " --receiver-bw " ++ decimal setup.settings.receiver_bw
 
 -- the option of a payload type's clock
 abbrev pub clock_option_text : ClockValue → List ℕ
@@ -47,14 +47,14 @@ clock_option_text clock = codes " --clock " ++ clock_text clock
 
 abbrev pub clocks_text : Setup → List ℕ
 clocks_text setup =
-    codes " --rate " ++ decimal setup.rate ++ flat_map clock_option_text setup.clocks
-    ++ codes " --ntp " ++ hex_long setup.ntp_base
+    codes " --rate " ++ decimal setup.settings.rate ++ flat_map clock_option_text setup.settings.clocks
+    ++ codes " --ntp " ++ hex_long setup.settings.ntp_base
 
 -- the options of a configuration
 abbrev pub setup_text : Setup → List ℕ
 setup_text setup =
     name_text setup ++ sizes_text setup ++ bandwidths_text setup ++ clocks_text setup
-    ++ flat_map item_text setup.extras
+    ++ flat_map item_text setup.settings.extras
 
 -- With each option, the random word of the start, as many lines as may be, and the file of the record.
 abbrev pub replay_command : Setup → (word : ℕ) → (file : List ℕ) → List ℕ

@@ -33,7 +33,7 @@ pub record IsStart (setup : Setup) (word : ℕ) (table : TableValue) (timing : T
   pub is_table : table ≡ no_members setup.capacity
   pub is_average : average ≡ average_of (first_size_of setup) []
   pub is_timing : timing ≡ schedule_at
-      (transmitted 0 (drawn_interval (interval_of (first_load average setup.sender_bw setup.receiver_bw)) word) 1 ∷ [])
+      (transmitted 0 (drawn_interval (interval_of (first_load average setup.settings.sender_bw setup.settings.receiver_bw)) word) 1 ∷ [])
   pub is_own : own ≡ own_of []
 
 pub start_is_sound : (setup : Setup) (word : ℕ) (table : TableValue) (timing : Timing) (average : ℕ) (own : OwnValue) →
@@ -58,8 +58,8 @@ pub start_stands : (setup : Setup) (word : ℕ) (table : TableValue) (timing : T
     IsStart setup word table timing average own →
     StandsAt (newcomer (state_with setup table timing average own None None 0 0 0)) (begun setup word)
 start_stands setup word table timing average own usable word_fits start =
-    let for_senders = setup.sender_bw in
-    let for_others = setup.receiver_bw in
+    let for_senders = setup.settings.sender_bw in
+    let for_others = setup.settings.receiver_bw in
     record {
       is_history = record { usable = usable; word = word_fits; taken = tt };
       session = record {

@@ -60,7 +60,7 @@ blocks_have rate (ssrc ∷ ssrcs) trace has = blocks_have rate ssrcs (block_made
 
 -- Each payload type has a clock of this rate.
 abbrev IsOfOneClock : Setup → (rate : ℕ) → Type 0
-IsOfOneClock setup rate = (payload_type : ℕ) → rate_among setup.clocks setup.rate payload_type ≡ rate
+IsOfOneClock setup rate = (payload_type : ℕ) → rate_among setup.settings.clocks setup.settings.rate payload_type ≡ rate
 
 after_has : (setup : Setup) (rate : ℕ) → IsOfOneClock setup rate → (act : Act) (outcome : Outcome) →
     HasOneClock rate outcome.trace → HasOneClock rate (after setup act outcome).trace
@@ -112,9 +112,9 @@ changed_has rate session (Some new) has = renamed_has rate session.setup session
 -- ---- Sessions
 
 -- Nothing is said of the clocks of payload types, as long as no act says something.
-no_clocks : (setup : Setup) (word : ℕ) (acts : List Act) → setup.clocks ≡ [] →
-    AllByRecursion (GivesNoClocks setup.rate) acts → let now = (session_of setup word acts).setup in
-    (now.clocks ≡ []) × (now.rate ≡ setup.rate)
+no_clocks : (setup : Setup) (word : ℕ) (acts : List Act) → setup.settings.clocks ≡ [] →
+    AllByRecursion (GivesNoClocks setup.settings.rate) acts → let now = (session_of setup word acts).setup in
+    (now.settings.clocks ≡ []) × (now.settings.rate ≡ setup.settings.rate)
 no_clocks setup word [] none gives = (none, refl)
 no_clocks setup word (act ∷ earlier) none gives =
     let before = session_of setup word earlier in
@@ -123,13 +123,13 @@ no_clocks setup word (act ∷ earlier) none gives =
     (by_change before change (no_clocks setup word earlier none gives.1))
   where
     by_change : (session : Session) (change : Option NewIdentifier) →
-        (session.setup.clocks ≡ []) × (session.setup.rate ≡ setup.rate) →
-        ((changed_by change session).setup.clocks ≡ []) × ((changed_by change session).setup.rate ≡ setup.rate)
+        (session.setup.settings.clocks ≡ []) × (session.setup.settings.rate ≡ setup.settings.rate) →
+        ((changed_by change session).setup.settings.clocks ≡ []) × ((changed_by change session).setup.settings.rate ≡ setup.settings.rate)
     by_change session None none = none
     by_change session (Some new) none = none
 
-    by_act : (act : Act) (now : Setup) → GivesNoClocks setup.rate act → (now.clocks ≡ []) × (now.rate ≡ setup.rate) →
-        ((setup_after act now).clocks ≡ []) × ((setup_after act now).rate ≡ setup.rate)
+    by_act : (act : Act) (now : Setup) → GivesNoClocks setup.settings.rate act → (now.settings.clocks ≡ []) × (now.settings.rate ≡ setup.settings.rate) →
+        ((setup_after act now).settings.clocks ≡ []) × ((setup_after act now).settings.rate ≡ setup.settings.rate)
     by_act (configured t settings) now gives none = gives
     by_act act now gives none = none
 
@@ -138,25 +138,25 @@ changed_clock : (rate : ℕ) (session : Session) (change : Option NewIdentifier)
 changed_clock rate session None is = is
 changed_clock rate session (Some new) is = is
 
-one_clock_at : (setup : Setup) (word : ℕ) (acts : List Act) → setup.clocks ≡ [] →
-    AllByRecursion (GivesNoClocks setup.rate) acts → IsOfOneClock (session_of setup word acts).setup setup.rate
+one_clock_at : (setup : Setup) (word : ℕ) (acts : List Act) → setup.settings.clocks ≡ [] →
+    AllByRecursion (GivesNoClocks setup.settings.rate) acts → IsOfOneClock (session_of setup word acts).setup setup.settings.rate
 one_clock_at setup word acts none gives payload_type =
     let now = (session_of setup word acts).setup in
     let same = no_clocks setup word acts none gives in
-    ap (λ (clocks : List ClockValue). rate_among clocks now.rate payload_type) same.0 ∙ same.1
+    ap (λ (clocks : List ClockValue). rate_among clocks now.settings.rate payload_type) same.0 ∙ same.1
 
-session_has : (setup : Setup) (word : ℕ) (acts : List Act) → setup.clocks ≡ [] →
-    AllByRecursion (GivesNoClocks setup.rate) acts → HasIn setup.rate (session_of setup word acts).life
+session_has : (setup : Setup) (word : ℕ) (acts : List Act) → setup.settings.clocks ≡ [] →
+    AllByRecursion (GivesNoClocks setup.settings.rate) acts → HasIn setup.settings.rate (session_of setup word acts).life
 session_has setup word [] none gives = tt
 session_has setup word (act ∷ earlier) none gives =
     let before = session_of setup word earlier in
     let change = change_by before act in
     let now = changed_by change before in
-    lived_has now.setup setup.rate
-    (changed_clock setup.rate before change (one_clock_at setup word earlier none gives.1)) act now.life
-    (changed_has setup.rate before change (session_has setup word earlier none gives.1))
+    lived_has now.setup setup.settings.rate
+    (changed_clock setup.settings.rate before change (one_clock_at setup word earlier none gives.1)) act now.life
+    (changed_has setup.settings.rate before change (session_has setup word earlier none gives.1))
 
-pub one_clock : (setup : Setup) (word : ℕ) (acts : List Act) (outcome : Outcome) → setup.clocks ≡ [] →
-    AllByRecursion (GivesNoClocks setup.rate) acts → (session_of setup word acts).life ≡ present outcome →
-    HasOneClock setup.rate outcome.trace
-one_clock setup word acts outcome none gives is = subst (HasIn setup.rate) is (session_has setup word acts none gives)
+pub one_clock : (setup : Setup) (word : ℕ) (acts : List Act) (outcome : Outcome) → setup.settings.clocks ≡ [] →
+    AllByRecursion (GivesNoClocks setup.settings.rate) acts → (session_of setup word acts).life ≡ present outcome →
+    HasOneClock setup.settings.rate outcome.trace
+one_clock setup word acts outcome none gives is = subst (HasIn setup.settings.rate) is (session_has setup word acts none gives)

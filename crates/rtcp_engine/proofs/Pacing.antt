@@ -100,9 +100,9 @@ pace_usable setup t outcome usable paced =
     let pace = newest_pace outcome.paces in
     let load = receiver_load setup outcome in (
       subst (λ (n : ℕ). 16 ≤ n) (sym (slowed_sender t pace load))
-          (some_left t pace (λ (p : Pace). p.sender_bw) setup.sender_bw (for_senders pace paced) usable.for_senders.0),
+          (some_left t pace (λ (p : Pace). p.sender_bw) setup.settings.sender_bw (for_senders pace paced) usable.for_senders.0),
       subst (λ (n : ℕ). 16 ≤ n) (sym (slowed_receiver t pace load))
-          (some_left t pace (λ (p : Pace). p.receiver_bw) setup.receiver_bw (for_others pace paced)
+          (some_left t pace (λ (p : Pace). p.receiver_bw) setup.settings.receiver_bw (for_others pace paced)
           usable.for_others.0),
     )
 
@@ -235,17 +235,17 @@ module _ {history : History} {moment t : ℕ} {settings : SettingsValue} {before
   of_senders =
       subst (λ (n : ℕ). n ≤ (slowed_by t older load).sender_bw)
       (sym (slowed_sender moment older (receiver_load former before)))
-      (subst (λ (n : ℕ). least_of moment older (λ (p : Pace). p.sender_bw) former.sender_bw ≤ n)
+      (subst (λ (n : ℕ). least_of moment older (λ (p : Pace). p.sender_bw) former.settings.sender_bw ≤ n)
       (sym (slowed_sender t older load))
-      (counts_less moment t older (λ (p : Pace). p.sender_bw) former.sender_bw is.order))
+      (counts_less moment t older (λ (p : Pace). p.sender_bw) former.settings.sender_bw is.order))
 
   of_others : noted.receiver_bw ≤ (slowed_by t older load).receiver_bw
   of_others =
       subst (λ (n : ℕ). n ≤ (slowed_by t older load).receiver_bw)
       (sym (slowed_receiver moment older (receiver_load former before)))
-      (subst (λ (n : ℕ). least_of moment older (λ (p : Pace). p.receiver_bw) former.receiver_bw ≤ n)
+      (subst (λ (n : ℕ). least_of moment older (λ (p : Pace). p.receiver_bw) former.settings.receiver_bw ≤ n)
       (sym (slowed_receiver t older load))
-      (counts_less moment t older (λ (p : Pace). p.receiver_bw) former.receiver_bw is.order))
+      (counts_less moment t older (λ (p : Pace). p.receiver_bw) former.settings.receiver_bw is.order))
 
   pub no_sooner : check_interval former t (unpaced before later) ≤ check_interval present_setup t later
   no_sooner =
@@ -289,6 +289,6 @@ pub present_alone : (setup : Setup) (t : ℕ) (outcome : Outcome) (pace : Pace) 
     pace.until ≤ t → check_interval setup t outcome ≡ receiver_interval_at setup outcome
 present_alone setup t outcome pace is late =
     ap (λ (p : Option Pace). interval_of (slowed_by t p (receiver_load setup outcome))) is
-    ∙ ap (λ (b : Bool). interval_of (if b then with_bandwidths (min setup.sender_bw pace.sender_bw)
-    (min setup.receiver_bw pace.receiver_bw) (receiver_load setup outcome) else receiver_load setup outcome))
+    ∙ ap (λ (b : Bool). interval_of (if b then with_bandwidths (min setup.settings.sender_bw pace.sender_bw)
+    (min setup.settings.receiver_bw pace.receiver_bw) (receiver_load setup outcome) else receiver_load setup outcome))
     (le-ltb t pace.until late)

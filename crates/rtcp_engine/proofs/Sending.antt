@@ -131,9 +131,9 @@ short_if false found short = tt
 report_is_within : (setup : Setup) (t : ℕ) (outcome : Outcome) → IsUsable setup →
     length (report_octets setup t outcome) ≤ setup.limit
 report_is_within setup t outcome usable =
-    let extra = short_if _ _ (short_read setup.extras _ usable.extras) in
-    let empty = compounds_are_small-empty setup.ssrc (sent_of setup.ntp_base setup.rate t (own_of outcome.own))
-    setup.cname (extra_item setup.extras (length outcome.reports + 1)) usable.cname.1 extra in
+    let extra = short_if _ _ (short_read setup.settings.extras _ usable.extras) in
+    let empty = compounds_are_small-empty setup.ssrc (sent_of setup.settings.ntp_base setup.settings.rate t (own_of outcome.own))
+    setup.cname (extra_item setup.settings.extras (length outcome.reports + 1)) usable.cname.1 extra in
     let last = last_reported_in outcome.trace in
     subst (λ (blocks : List ReportBlock). length (written_all (packets_with (reporter_at setup t outcome) blocks))
     ≤ setup.limit)

@@ -32,27 +32,27 @@ usable_of_unrefused setup h =
     let cname = passed (is_within 1 255 (length setup.cname)) Cname _ h in
     let capacity = passed (is_within 1 1024 setup.capacity) Capacity _ cname.1 in
     let limit = passed (is_limit setup.limit) Limit _ capacity.1 in
-    let bandwidth = passed (is_bandwidth setup.sender_bw && is_bandwidth setup.receiver_bw) Bandwidth _ limit.1 in
-    let clocks = passed (is_within 1 (2 ^ 20) setup.rate && list_all is_clock setup.clocks) Rate _ bandwidth.1 in
-    let extras = passed (are_extras setup.extras) Item _ clocks.1 in
-    let rates = and_parts (is_within 1 (2 ^ 20) setup.rate) (list_all is_clock setup.clocks) clocks.0 in
-    let bandwidths = and_parts (is_bandwidth setup.sender_bw) (is_bandwidth setup.receiver_bw) bandwidth.0 in
+    let bandwidth = passed (is_bandwidth setup.settings.sender_bw && is_bandwidth setup.settings.receiver_bw) Bandwidth _ limit.1 in
+    let clocks = passed (is_within 1 (2 ^ 20) setup.settings.rate && list_all is_clock setup.settings.clocks) Rate _ bandwidth.1 in
+    let extras = passed (are_extras setup.settings.extras) Item _ clocks.1 in
+    let rates = and_parts (is_within 1 (2 ^ 20) setup.settings.rate) (list_all is_clock setup.settings.clocks) clocks.0 in
+    let bandwidths = and_parts (is_bandwidth setup.settings.sender_bw) (is_bandwidth setup.settings.receiver_bw) bandwidth.0 in
     let limits = and_parts (is_within 576 1472 setup.limit) (setup.limit % 4 == 0) limit.0 in
-    let items = and_parts (nat_le (length setup.extras) 7) (list_all is_extra_item setup.extras) extras.0 in
+    let items = and_parts (nat_le (length setup.settings.extras) 7) (list_all is_extra_item setup.settings.extras) extras.0 in
     record {
       cname = within 1 255 (length setup.cname) cname.0;
       capacity = within 1 1024 setup.capacity capacity.0;
       limit = within 576 1472 setup.limit limits.0;
       words = eqb-true (setup.limit % 4) 0 limits.1;
-      for_senders = within 16 (2 ^ 30) setup.sender_bw bandwidths.0;
-      for_others = within 16 (2 ^ 30) setup.receiver_bw bandwidths.1;
-      rate = within 1 (2 ^ 20) setup.rate rates.0;
+      for_senders = within 16 (2 ^ 30) setup.settings.sender_bw bandwidths.0;
+      for_others = within 16 (2 ^ 30) setup.settings.receiver_bw bandwidths.1;
+      rate = within 1 (2 ^ 20) setup.settings.rate rates.0;
       clocks = All-weaker (λ (clock : ClockValue). is_clock clock ≡ true) IsClock
-          (λ (clock : ClockValue). within 1 (2 ^ 20) clock.rate) setup.clocks
-          (AllPass-from_list_all is_clock setup.clocks rates.1);
-      few_extras = leb-true (length setup.extras) 7 items.0;
-      extras = All-weaker (λ (item : ItemValue). is_extra_item item ≡ true) IsExtraItem extra setup.extras
-          (AllPass-from_list_all is_extra_item setup.extras items.1);
+          (λ (clock : ClockValue). within 1 (2 ^ 20) clock.rate) setup.settings.clocks
+          (AllPass-from_list_all is_clock setup.settings.clocks rates.1);
+      few_extras = leb-true (length setup.settings.extras) 7 items.0;
+      extras = All-weaker (λ (item : ItemValue). is_extra_item item ≡ true) IsExtraItem extra setup.settings.extras
+          (AllPass-from_list_all is_extra_item setup.settings.extras items.1);
     }
 
 -- ---- And the other way round
@@ -68,12 +68,12 @@ is_within_of least most number h = both_true (le-leb least number h.0) (le-leb n
 is_extra_of : (item : ItemValue) → IsExtraItem item → is_extra_item item ≡ true
 is_extra_of item h = both_true (is_within_of 2 8 item.kind h.0) (le-leb (length item.text) 255 h.1)
 
-clocks_pass : (setup : Setup) → IsUsable setup → (is_within 1 (2 ^ 20) setup.rate && list_all is_clock setup.clocks)
+clocks_pass : (setup : Setup) → IsUsable setup → (is_within 1 (2 ^ 20) setup.settings.rate && list_all is_clock setup.settings.clocks)
     ≡ true
 clocks_pass setup h =
-    both_true (is_within_of 1 (2 ^ 20) setup.rate h.rate) (list_all-from_AllPass is_clock setup.clocks
+    both_true (is_within_of 1 (2 ^ 20) setup.settings.rate h.rate) (list_all-from_AllPass is_clock setup.settings.clocks
     (All-weaker IsClock (λ (clock : ClockValue). is_clock clock ≡ true)
-    (λ (clock : ClockValue). is_within_of 1 (2 ^ 20) clock.rate) setup.clocks h.clocks))
+    (λ (clock : ClockValue). is_within_of 1 (2 ^ 20) clock.rate) setup.settings.clocks h.clocks))
 
 pub unrefused_of_usable : (setup : Setup) → IsUsable setup → error_in setup ≡ None
 unrefused_of_usable setup h =
@@ -81,14 +81,14 @@ unrefused_of_usable setup h =
     (passes (is_within 1 1024 setup.capacity) Capacity _ (is_within_of 1 1024 setup.capacity h.capacity)
     (passes (is_limit setup.limit) Limit _
     (both_true (is_within_of 576 1472 setup.limit h.limit) (eq-eqb (setup.limit % 4) 0 h.words))
-    (passes (is_bandwidth setup.sender_bw && is_bandwidth setup.receiver_bw) Bandwidth _
-    (both_true (is_within_of 16 (2 ^ 30) setup.sender_bw h.for_senders)
-    (is_within_of 16 (2 ^ 30) setup.receiver_bw h.for_others))
-    (passes (is_within 1 (2 ^ 20) setup.rate && list_all is_clock setup.clocks) Rate _
+    (passes (is_bandwidth setup.settings.sender_bw && is_bandwidth setup.settings.receiver_bw) Bandwidth _
+    (both_true (is_within_of 16 (2 ^ 30) setup.settings.sender_bw h.for_senders)
+    (is_within_of 16 (2 ^ 30) setup.settings.receiver_bw h.for_others))
+    (passes (is_within 1 (2 ^ 20) setup.settings.rate && list_all is_clock setup.settings.clocks) Rate _
     (clocks_pass setup h)
-    (passes (are_extras setup.extras) Item None
-    (both_true (le-leb (length setup.extras) 7 h.few_extras) (list_all-from_AllPass is_extra_item setup.extras
-    (All-weaker IsExtraItem (λ (item : ItemValue). is_extra_item item ≡ true) is_extra_of setup.extras h.extras)))
+    (passes (are_extras setup.settings.extras) Item None
+    (both_true (le-leb (length setup.settings.extras) 7 h.few_extras) (list_all-from_AllPass is_extra_item setup.settings.extras
+    (All-weaker IsExtraItem (λ (item : ItemValue). is_extra_item item ≡ true) is_extra_of setup.settings.extras h.extras)))
     refl)))))
 
 -- ---- Settings

@@ -263,9 +263,9 @@ pub fn listed_moments_have_passed()
 /// count in units of clocks of one rate, the usual one. So each source has the jitter of its whole run, in units of
 /// that clock (rtcp_members's law `one_clock_is_one_rate`): it is as if there were no payload types.
 pub fn one_clock_without_others()
-    ensures { (setup : Setup) (word : ℕ) (acts : List Act) (outcome : Outcome) → setup.clocks ≡ [] →
-        AllByRecursion (GivesNoClocks setup.rate) acts → (session_of setup word acts).life ≡ present outcome →
-        HasOneClock setup.rate outcome.trace }
+    ensures { (setup : Setup) (word : ℕ) (acts : List Act) (outcome : Outcome) → setup.settings.clocks ≡ [] →
+        AllByRecursion (GivesNoClocks setup.settings.rate) acts → (session_of setup word acts).life ≡ present outcome →
+        HasOneClock setup.settings.rate outcome.trace }
 {}
 
 /// The source that was reported last is that of the newest block, over any number of blocks.

@@ -235,7 +235,7 @@ backoff_byes_wait history is =
 record IsLeave (leave : ByeWait) : Type 0 where
   order : leave.since < leave.until
   half : 100000 * interval_of (backoff_bye_load leave.backoff_bye) ≤ 2 * 121828 * (leave.until - leave.since)
-  for_others : (backoff_bye_load leave.backoff_bye).receiver_bw ≡ leave.backoff_bye.setup.receiver_bw
+  for_others : (backoff_bye_load leave.backoff_bye).receiver_bw ≡ leave.backoff_bye.setup.settings.receiver_bw
   some : 1 ≤ (backoff_bye_load leave.backoff_bye).sender_bw
   some_more : 1 ≤ (backoff_bye_load leave.backoff_bye).receiver_bw
 

@@ -62,8 +62,8 @@ ordered setup outcome =
 
 -- The load has the bandwidths of a setup, of which there are some, and counts no more senders than members.
 pub record IsLoadOf (setup : Setup) (load : Load) : Type 0 where
-  pub for_senders : load.sender_bw ≡ setup.sender_bw
-  pub for_others : load.receiver_bw ≡ setup.receiver_bw
+  pub for_senders : load.sender_bw ≡ setup.settings.sender_bw
+  pub for_others : load.receiver_bw ≡ setup.settings.receiver_bw
   pub some : 1 ≤ load.sender_bw
   pub some_more : 1 ≤ load.receiver_bw
   pub most : load.sender_bw ≤ 2 ^ 30
@@ -135,7 +135,7 @@ report_is_large setup t outcome =
       arith,
       size_is_that_of_the_octets reporter blocks,
       first_is_least reporter.sent,
-      described setup.cname (extra_item setup.extras (length outcome.reports + 1)),
+      described setup.cname (extra_item setup.settings.extras (length outcome.reports + 1)),
     )
 
 bye_is_large : (setup : Setup) → first_size_of setup ≤ length (bye_octets setup)

@@ -79,7 +79,7 @@ total_shares from width all = sum_by (shares_within from width) all
 
 -- When a report was sent, the session had at most this bandwidth for those that do not send.
 abbrev pub LeavesOthers : (receiver_bw : ℕ) → Decided → Type 0
-LeavesOthers receiver_bw decided = decided.setup.receiver_bw ≤ receiver_bw
+LeavesOthers receiver_bw decided = decided.setup.settings.receiver_bw ≤ receiver_bw
 
 -- one of a session with at most this bandwidth for those that do not send, at each of its reports in the window but the
 -- oldest
@@ -99,8 +99,8 @@ pub record Terms : Type 0 where
 
 -- a setup with at most this bandwidth
 pub record HasAtMost (terms : Terms) (setup : Setup) : Type 0 where
-  pub for_senders : setup.sender_bw ≤ terms.sender_bw
-  pub for_others : setup.receiver_bw ≤ terms.receiver_bw
+  pub for_senders : setup.settings.sender_bw ≤ terms.sender_bw
+  pub for_others : setup.settings.receiver_bw ≤ terms.receiver_bw
 
 -- All are at most so many percent of the members that a load counts; and so are those who report in its role.
 pub record CountsMost (percent from width : ℕ) (all : List Joined) (load : Load) : Type 0 where

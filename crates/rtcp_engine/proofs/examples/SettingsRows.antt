@@ -78,7 +78,7 @@ clocks = search
 
 -- A session of this bandwidth, in which the interval of two members is 6 seconds,
 abbrev slow_start : History
-slow_start = start_of (record setup { sender_bw = 16; receiver_bw = 16 })
+slow_start = start_of (record setup { settings = record setup.settings { sender_bw = 16; receiver_bw = 16 } })
 
 -- becomes one of the least interval, 2.5 seconds before the first report, and 5 seconds after it.
 abbrev fast : SettingsValue

@@ -31,7 +31,7 @@ with_compound setup t size packets outcome =
 -- if it is counted, facts of its contributing sources too, but for the participant itself.
 abbrev pub with_media : Setup → (t : ℕ) → RtpValue → Outcome → Outcome
 with_media setup t head outcome =
-    let rate = rate_among setup.clocks setup.rate head.payload_type in
+    let rate = rate_among setup.settings.clocks setup.settings.rate head.payload_type in
     let fact : Fact = Media head.ssrc head.sequence head.timestamp (length head.payload) rate in
     let csrcs = map Heard (filter (λ ssrc. not (ssrc == setup.ssrc)) head.csrcs) in
     record outcome {
@@ -68,7 +68,7 @@ media_fact rate head = Media head.ssrc head.sequence head.timestamp (length head
 
 -- the rate of the clock of its payload type
 abbrev pub rate_of : Setup → RtpValue → ℕ
-rate_of setup head = rate_among setup.clocks setup.rate head.payload_type
+rate_of setup head = rate_among setup.settings.clocks setup.settings.rate head.payload_type
 
 -- what the contributing sources give, but for the participant itself
 abbrev pub facts_of_csrcs : (own : ℕ) → (csrcs : List ℕ) → List Fact

@@ -1,7 +1,7 @@
 -- What the acts of a session come to, from its beginning on. A history is a list of acts, newest first.
 use Rattle.std.specs.Prelude.{ℕ, Bool, List, [], ◌∷◌, Option}
 use Rattle.std.specs.Option.{option_or}
-use Rattle.rtcp_engine.specs.answers.Setups.{Setup, with_settings}
+use Rattle.rtcp_engine.specs.answers.Setups.{Setup}
 use Rattle.rtcp_engine.specs.answers.Acts.{Act, configured, moment_of}
 use Rattle.rtcp_engine.specs.answers.Outcomes.{beginning}
 use Rattle.rtcp_engine.specs.answers.Steps.{OutValue}
@@ -32,7 +32,7 @@ session_for session act = changed_by (change_by session act) session
 
 -- the setup after an act: with other settings, where it gives them
 abbrev pub setup_after : Act → Setup → Setup
-setup_after (configured moment settings) setup = with_settings settings setup
+setup_after (configured moment settings) setup = record setup { settings = settings }
 setup_after act setup = setup
 
 abbrev pub after_act : Session → Act → Session

@@ -46,8 +46,8 @@ leaving_load setup members bye_compounds = record {
   we_sent = false;
   initial = true;
   avg = average_of (length (bye_octets setup)) (map (λ bye_compound. bye_compound.size) bye_compounds);
-  sender_bw = setup.sender_bw;
-  receiver_bw = setup.receiver_bw;
+  sender_bw = setup.settings.sender_bw;
+  receiver_bw = setup.settings.receiver_bw;
 }
 
 abbrev pub leaving_interval : Setup → Backoff → ℕ

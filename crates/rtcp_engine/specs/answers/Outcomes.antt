@@ -60,8 +60,8 @@ load_of setup outcome =
       we_sent = we_sent outcome.own;
       initial = is_initial outcome.reports;
       avg = average_of (report_size receiver 0) outcome.sizes;
-      sender_bw = setup.sender_bw;
-      receiver_bw = setup.receiver_bw;
+      sender_bw = setup.settings.sender_bw;
+      receiver_bw = setup.settings.receiver_bw;
     }
 
 -- The deterministic interval (6.3.1).

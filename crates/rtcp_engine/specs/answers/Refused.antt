@@ -17,7 +17,7 @@ error_in setup =
     if not (is_within 1 255 (length setup.cname)) then Some Cname
     else (if not (is_within 1 1024 setup.capacity) then Some Capacity
     else (if not (is_limit setup.limit) then Some Limit
-    else (if not (is_bandwidth setup.sender_bw && is_bandwidth setup.receiver_bw) then Some Bandwidth
-    else (if not (is_within 1 (2 ^ 20) setup.rate && list_all is_clock setup.clocks) then Some Rate
-    else (if not (are_extras setup.extras) then Some Item
+    else (if not (is_bandwidth setup.settings.sender_bw && is_bandwidth setup.settings.receiver_bw) then Some Bandwidth
+    else (if not (is_within 1 (2 ^ 20) setup.settings.rate && list_all is_clock setup.settings.clocks) then Some Rate
+    else (if not (are_extras setup.settings.extras) then Some Item
     else None)))))

@@ -30,16 +30,16 @@ last_reported_in (_ ∷ earlier) = last_reported_in earlier
 abbrev pub reporter_at : Setup → (t : ℕ) → Outcome → Reporter
 reporter_at setup t outcome = record {
   ssrc = setup.ssrc;
-  sent = stream_at setup.ntp_base setup.rate t outcome.own;
-  items = items_of setup.cname (extra_item setup.extras (length outcome.reports + 1));
+  sent = stream_at setup.settings.ntp_base setup.settings.rate t outcome.own;
+  items = items_of setup.cname (extra_item setup.settings.extras (length outcome.reports + 1));
 }
 
 -- the same of the report of this number, by the few numbers of the own stream
 abbrev pub reporter_by : Setup → OwnValue → (number t : ℕ) → Reporter
 reporter_by setup own number t = record {
   ssrc = setup.ssrc;
-  sent = sent_of setup.ntp_base setup.rate t own;
-  items = items_of setup.cname (extra_item setup.extras number);
+  sent = sent_of setup.settings.ntp_base setup.settings.rate t own;
+  items = items_of setup.cname (extra_item setup.settings.extras number);
 }
 
 -- The sources that a report is of: as many of the pending ones as fit, in turn after the last one reported.

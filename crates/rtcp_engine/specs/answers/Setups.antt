@@ -16,18 +16,9 @@ rate_among [] usual payload_type = usual
 rate_among (clock ∷ clocks) usual payload_type =
     if clock.payload_type == payload_type then clock.rate else rate_among clocks usual payload_type
 
-pub record Setup : Type 0 where
-  -- its SSRC
-  pub ssrc : ℕ
-  -- its CNAME
-  pub cname : List ℕ
-  -- other items that describe it, which go out in turn
-  pub extras : List ItemValue
-  -- how many other sources its table may hold
-  pub capacity : ℕ
-  -- the most octets of a compound that it sends
-  pub limit : ℕ
-  -- the RTCP bandwidth of the session, in octets a second
+-- What a host may change in a running session (RFC 3550, 6.4.1, 6.5).
+pub record SettingsValue : Type 0 where
+  -- the RTCP bandwidth of the session, in octets a second (RFC 3556)
   pub sender_bw : ℕ
   pub receiver_bw : ℕ
   -- units a second of the clock of its own media, and of those payload types of which nothing else is said
@@ -36,45 +27,31 @@ pub record Setup : Type 0 where
   pub clocks : List ClockValue
   -- the NTP timestamp of moment 0
   pub ntp_base : ℕ
-
--- What a host may change of a setup in a running session: the bandwidths of the session (RFC 3556), the clocks of its
--- own media and of its payload types, the time of day, and what the participant says of itself beside its CNAME
--- (RFC 3550, 6.4.1, 6.5). Each field is that of a setup.
-pub record SettingsValue : Type 0 where
-  pub sender_bw : ℕ
-  pub receiver_bw : ℕ
-  pub rate : ℕ
-  pub clocks : List ClockValue
-  pub ntp_base : ℕ
+  -- the items that describe the participant beside its CNAME, which go out in turn
   pub extras : List ItemValue
 
+pub record Setup : Type 0 where
+  -- its SSRC
+  pub ssrc : ℕ
+  -- its CNAME
+  pub cname : List ℕ
+  -- how many other sources its table may hold
+  pub capacity : ℕ
+  -- the most octets of a compound that it sends
+  pub limit : ℕ
+  pub settings : SettingsValue
+
 abbrev pub settings_of : Setup → SettingsValue
-settings_of setup =
-    record {
-      sender_bw = setup.sender_bw;
-      receiver_bw = setup.receiver_bw;
-      rate = setup.rate;
-      clocks = setup.clocks;
-      ntp_base = setup.ntp_base;
-      extras = setup.extras;
-    }
+settings_of setup = setup.settings
 
 -- the rest of a setup, with these settings
 abbrev pub with_settings : SettingsValue → Setup → Setup
-with_settings settings setup =
-    record setup {
-      sender_bw = settings.sender_bw;
-      receiver_bw = settings.receiver_bw;
-      rate = settings.rate;
-      clocks = settings.clocks;
-      ntp_base = settings.ntp_base;
-      extras = settings.extras;
-    }
+with_settings settings setup = record setup { settings = settings }
 
 -- whether settings have the bandwidths of a setup
 abbrev pub keeps_bandwidths : SettingsValue → Setup → Bool
 keeps_bandwidths settings setup =
-    settings.sender_bw == setup.sender_bw && settings.receiver_bw == setup.receiver_bw
+    settings.sender_bw == setup.settings.sender_bw && settings.receiver_bw == setup.settings.receiver_bw
 
 abbrev pub is_within : (least most number : ℕ) → Bool
 is_within least most number = nat_le least number && nat_le number most
@@ -98,12 +75,12 @@ pub record IsUsable (setup : Setup) : Type 0 where
   pub capacity : IsWithin 1 1024 setup.capacity
   pub limit : IsWithin 576 1472 setup.limit
   pub words : setup.limit % 4 ≡ 0
-  pub for_senders : IsWithin 16 (2 ^ 30) setup.sender_bw
-  pub for_others : IsWithin 16 (2 ^ 30) setup.receiver_bw
-  pub rate : IsWithin 1 (2 ^ 20) setup.rate
-  pub clocks : All IsClock setup.clocks
-  pub few_extras : length setup.extras ≤ 7
-  pub extras : All IsExtraItem setup.extras
+  pub for_senders : IsWithin 16 (2 ^ 30) setup.settings.sender_bw
+  pub for_others : IsWithin 16 (2 ^ 30) setup.settings.receiver_bw
+  pub rate : IsWithin 1 (2 ^ 20) setup.settings.rate
+  pub clocks : All IsClock setup.settings.clocks
+  pub few_extras : length setup.settings.extras ≤ 7
+  pub extras : All IsExtraItem setup.settings.extras
 
 abbrev pub is_bandwidth : (bandwidth : ℕ) → Bool
 is_bandwidth bandwidth = is_within 16 (2 ^ 30) bandwidth

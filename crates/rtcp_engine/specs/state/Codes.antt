@@ -7,7 +7,7 @@ use Rattle.rtcp_timer.specs.Schedules.{Timing}
 use Rattle.rtcp_wire.specs.Values.{ItemValue}
 use Rattle.rtcp_engine.specs.declared.changes.IdentifierChange.{IdentifierChange}
 use Rattle.rtcp_engine.specs.declared.pace.Pace.{Pace}
-use Rattle.rtcp_engine.specs.answers.Setups.{Setup, ClockValue}
+use Rattle.rtcp_engine.specs.answers.Setups.{Setup, SettingsValue, ClockValue}
 use Rattle.rtcp_engine.specs.answers.OwnStreams.{PacketValue, OwnValue}
 use Rattle.rtcp_engine.specs.state.States.{State, PhaseValue, taking_part, leaving, over, ParticipantValue}
 
@@ -21,35 +21,33 @@ clock_code =
     code_by (ℕ × ℕ) (coded× coded_ℕ coded_ℕ) (λ c. (c.payload_type, c.rate))
     (λ p. record { payload_type = p.0; rate = p.1 }) (λ _. refl)
 
+abbrev pub settings_code : Coded SettingsValue
+settings_code =
+    code_by (ℕ × (ℕ × (ℕ × (ℕ × (List ClockValue × List ItemValue)))))
+    (coded× coded_ℕ (coded× coded_ℕ (coded× coded_ℕ (coded× coded_ℕ
+    (coded× (coded_list clock_code) (coded_list item_code))))))
+    (λ s. (s.sender_bw, (s.receiver_bw, (s.rate, (s.ntp_base, (s.clocks, s.extras))))))
+    (λ p. record {
+      sender_bw = p.0;
+      receiver_bw = p.1.0;
+      rate = p.1.1.0;
+      ntp_base = p.1.1.1.0;
+      clocks = p.1.1.1.1.0;
+      extras = p.1.1.1.1.1;
+    })
+    (λ _. refl)
+
 abbrev pub setup_code : Coded Setup
 setup_code =
-    code_by (ℕ × (List ℕ × (List ItemValue × (ℕ × (ℕ × (ℕ × (ℕ × (ℕ × (ℕ × List ClockValue)))))))))
-    (coded× coded_ℕ (coded× (coded_list coded_ℕ)
-    (coded× (coded_list item_code)
-    (coded× coded_ℕ (coded× coded_ℕ (coded× coded_ℕ (coded× coded_ℕ (coded× coded_ℕ
-    (coded× coded_ℕ (coded_list clock_code))))))))))
-    (λ s. (
-      s.ssrc,
-      (
-        s.cname,
-        (
-          s.extras,
-          (s.capacity, (s.limit, (s.sender_bw, (s.receiver_bw, (s.rate, (s.ntp_base, s.clocks)))))),
-        ),
-      ),
-    ))
+    code_by (ℕ × (List ℕ × (ℕ × (ℕ × SettingsValue))))
+    (coded× coded_ℕ (coded× (coded_list coded_ℕ) (coded× coded_ℕ (coded× coded_ℕ settings_code))))
+    (λ s. (s.ssrc, (s.cname, (s.capacity, (s.limit, s.settings)))))
     (λ p. record {
       ssrc = p.0;
       cname = p.1.0;
-      extras = p.1.1.0;
-      capacity = p.1.1.1.0;
-      limit = p.1.1.1.1.0;
-      sender_bw =
-          p.1.1.1.1.1.0;
-      receiver_bw = p.1.1.1.1.1.1.0;
-      rate = p.1.1.1.1.1.1.1.0;
-      ntp_base = p.1.1.1.1.1.1.1.1.0;
-      clocks = p.1.1.1.1.1.1.1.1.1;
+      capacity = p.1.1.0;
+      limit = p.1.1.1.0;
+      settings = p.1.1.1.1;
     })
     (λ _. refl)
 

@@ -40,14 +40,16 @@ abbrev pub setup_of : Config → Setup
 setup_of config = record {
   ssrc = config.ssrc;
   cname = config.cname.items;
-  extras = map item_value config.extras.items;
   capacity = config.capacity;
   limit = config.limit;
-  sender_bw = config.sender_bw;
-  receiver_bw = config.receiver_bw;
-  rate = config.rate;
-  clocks = map clock_value config.clocks.items;
-  ntp_base = config.ntp_base;
+  settings = record {
+    sender_bw = config.sender_bw;
+    receiver_bw = config.receiver_bw;
+    rate = config.rate;
+    clocks = map clock_value config.clocks.items;
+    ntp_base = config.ntp_base;
+    extras = map item_value config.extras.items;
+  };
 }
 
 abbrev pub settings_value : Settings → SettingsValue

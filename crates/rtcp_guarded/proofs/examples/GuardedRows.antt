@@ -16,14 +16,16 @@ abbrev setup : Setup
 setup = record {
   ssrc = 170;
   cname = 97 ∷ [];
-  extras = [];
   capacity = 4;
   limit = 1472;
-  sender_bw = 100;
-  receiver_bw = 300;
-  rate = 8000;
-  clocks = [];
-  ntp_base = 0;
+  settings = record {
+    sender_bw = 100;
+    receiver_bw = 300;
+    rate = 8000;
+    clocks = [];
+    ntp_base = 0;
+    extras = [];
+  };
 }
 
 -- up to two sources an origin, and a hold of ten

@@ -15,14 +15,16 @@ abbrev pub setup : Setup
 setup = record {
   ssrc = 170;
   cname = 97 ∷ [];
-  extras = [];
   capacity = 4;
   limit = 1472;
-  sender_bw = 1000;
-  receiver_bw = 1000;
-  rate = 8000;
-  clocks = [];
-  ntp_base = 0;
+  settings = record {
+    sender_bw = 1000;
+    receiver_bw = 1000;
+    rate = 8000;
+    clocks = [];
+    ntp_base = 0;
+    extras = [];
+  };
 }
 
 pub usable : IsUsable setup

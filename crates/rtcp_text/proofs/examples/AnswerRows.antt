@@ -36,14 +36,16 @@ abbrev participant : Setup
 participant = record {
   ssrc = 170;
   cname = 97 ∷ [];
-  extras = [];
   capacity = 1024;
   limit = 1472;
-  sender_bw = 100;
-  receiver_bw = 300;
-  rate = 8000;
-  clocks = [];
-  ntp_base = 0;
+  settings = record {
+    sender_bw = 100;
+    receiver_bw = 300;
+    rate = 8000;
+    clocks = [];
+    ntp_base = 0;
+    extras = [];
+  };
 }
 
 record Answers : Type 0 where
