@@ -22,7 +22,7 @@ use Rattle.rtcp_timer.specs.declared.load.Load.{Load}
 use Rattle.rtcp_timer.specs.Averages.{moved_average}
 use Rattle.rtcp_timer.specs.Schedules.{Happening, Timing}
 use Rattle.rtcp_engine.specs.answers.OwnStreams.{OwnStep, OwnValue, Adds, own_of, report_sent, sending_since}
-use Rattle.rtcp_engine.specs.answers.Outcomes.{Outcome, Report, one_if, member_count, sender_count, is_initial, load_of}
+use Rattle.rtcp_engine.specs.answers.Outcomes.{Outcome, one_if, member_count, sender_count, load_of}
 use Rattle.rtcp_engine.specs.answers.Reporting.{last_reported_in, reporter_at, reporter_by, reported_at, report_octets}
 use Rattle.rtcp_engine.specs.answers.Ticks as ticks
 use Rattle.rtcp_engine.specs.answers.Arrivals.{media_fact, facts_of_media, rate_of, with_media}
@@ -70,10 +70,6 @@ senders_agree s o a =
     ap (λ (n : ℕ). n + one_if (is_some s.own.sending)) table
     ∙ ap (λ (b : Bool). senders_at s.setup.capacity o.trace + one_if b) (we_sent_agrees s o a)
 
-pub none_yet : (sent : List Report) → (length sent == 0) ≡ is_initial sent
-none_yet [] = refl
-none_yet (report ∷ earlier) = ne_eqb (length (report ∷ earlier)) 0 (λ h. absurd cc)
-
 abbrev pub load : (members senders : ℕ) (we_sent initial : Bool) (avg sender_bw receiver_bw : ℕ) → Load
 load members senders we_sent initial avg sender_bw receiver_bw =
     record {
@@ -93,7 +89,7 @@ pub loads_agree : {s : State} {o : Outcome} → Agrees s o → (members senders 
     avg ≡ s.average
     → load members senders we_sent (s.reports == 0) avg s.setup.settings.sender_bw s.setup.settings.receiver_bw ≡ load_of s.setup o
 loads_agree {s} {o} a members senders avg we_sent m n sent average =
-    let initial = ap (λ (r : ℕ). r == 0) a.still.reports ∙ none_yet o.reports in
+    let initial = ap (λ (r : ℕ). r == 0) a.still.reports in
     let sending = sent ∙ we_sent_agrees s o a in
     let size = average ∙ a.average in
     λ i. load (m i) (n i) (sending i) (initial i) (size i) s.setup.settings.sender_bw s.setup.settings.receiver_bw

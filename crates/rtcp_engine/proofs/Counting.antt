@@ -1,10 +1,10 @@
 -- The reports that a session counts are those that it sent.
-use Rattle.std.proofs.Common.{◌≡◌, ℕ, ◌&&◌, Bool, true, false, is_some, nat_le, List, [], ◌∷◌, ◌++◌, map, Option, Some, None, option_map, Ok, if◌then◌else◌, refl, sym, ap, ◌∙◌}
+use Rattle.std.proofs.Common.{◌≡◌, ℕ, ◌&&◌, Bool, true, false, is_some, nat_le, List, [], ◌∷◌, ◌++◌, length, arith, Option, Some, None, option_map, Ok, if◌then◌else◌, refl, sym, ap, ◌∙◌}
 use Rattle.std.specs.Option.{option_or}
 use Rattle.rtcp_engine.specs.answers.Setups.{Setup}
 use Rattle.rtcp_engine.specs.answers.Acts.{rtcp, rtp, Act, arrived, ticked, left, moment_of}
 use Rattle.rtcp_engine.specs.answers.OwnStreams.{has_sent}
-use Rattle.rtcp_engine.specs.answers.Outcomes.{Outcome, Report, interval_at, member_count}
+use Rattle.rtcp_engine.specs.answers.Outcomes.{Outcome, interval_at, member_count}
 use Rattle.rtcp_engine.specs.answers.Ticks.{checked, has_come, has_passed, reported, put_off}
 use Rattle.rtcp_engine.specs.answers.Reporting.{bye_octets, report_octets}
 use Rattle.rtcp_engine.specs.answers.Leaving.{Backoff, Life, present, backing_off, finished, few_members, is_bye_due, sent_nothing, after_wait, backoff_from, leaving_interval}
@@ -12,11 +12,11 @@ use Rattle.rtcp_engine.specs.answers.Lives.{lived, bye_out, out_by, own_bye, rep
 use Rattle.rtcp_engine.specs.answers.Changes.{NewIdentifier, Session, bye_of_change, change_by, changed_by, changed_to}
 use Rattle.rtcp_engine.specs.answers.Histories.{session_of}
 use Rattle.rtcp_engine.specs.answers.Steps.{OutValue}
-use Rattle.rtcp_engine.specs.bounds.Sent.{Sent, interval_by, reports_in, sent_with, sent_over, reports_of, counted_report}
+use Rattle.rtcp_engine.specs.bounds.Sent.{Sent, interval_by, reports_in, sent_with, sent_over, reports_of}
 use Rattle.rtcp_engine.proofs.Changing.{bye_alone, nothing_more}
 
-abbrev counted : List Sent → List Report
-counted sent = map counted_report (reports_in sent)
+abbrev counted : List Sent → ℕ
+counted sent = length (reports_in sent)
 
 tick_by : (setup : Setup) (t first_word second_word : ℕ) (now : Outcome) (sent : List Sent) (come passed : Bool) →
     now.reports ≡ counted sent
@@ -25,11 +25,7 @@ tick_by : (setup : Setup) (t first_word second_word : ℕ) (now : Outcome) (sent
     ≡ counted (sent_with t (interval_at setup now) false
     (option_map report_out (if come && passed then Some (report_octets setup t now) else None)) ++ sent)
 tick_by setup t first_word second_word now sent true true h =
-    ap (λ (reports : List Report). record {
-      moment = t;
-      interval = interval_at setup now;
-      octets = report_octets setup t now;
-    } ∷ reports) h
+    omega (arith, h)
 tick_by setup t first_word second_word now sent come passed h = h
 
 leave_by : (setup : Setup) (t word : ℕ) (outcome : Outcome) (sent : List Sent) (nothing_sent few : Bool) →

@@ -1,6 +1,6 @@
 -- The laws of this crate as lemmas, for the proofs of the crates above: each has the name of its law, and of the
 -- clause where the law has several.
-use Rattle.std.proofs.Common.{◌≡◌, ◌↔◌, map, ℕ, ◌≤◌, ◌^◌, Bool, false, is_some, option_map, List, [], ◌∷◌, ◌++◌, IfSome, Option, Some, None, Result, Ok, Err, if◌then◌else◌, refl, sym, ap, ◌∙◌, arith, inl, inr}
+use Rattle.std.proofs.Common.{length, ◌≡◌, ◌↔◌, map, ℕ, ◌≤◌, ◌^◌, Bool, false, is_some, option_map, List, [], ◌∷◌, ◌++◌, IfSome, Option, Some, None, Result, Ok, Err, if◌then◌else◌, refl, sym, ap, ◌∙◌, arith, inl, inr}
 use Rattle.std.specs.Option.{option_or}
 use Rattle.std.proofs.lemmas.Bool.{lt-ltb, le-ltb, cases_lt}
 use Rattle.rtcp_wire.proofs.LawLemmas as wire
@@ -31,7 +31,7 @@ use Rattle.rtcp_engine.specs.answers.Refusals.{refusal_after}
 use Rattle.rtcp_engine.specs.answers.Steps.{OutValue, answer_unless}
 use Rattle.rtcp_engine.specs.answers.Answers.{step_by, answer_of, followed_by}
 use Rattle.rtcp_engine.specs.state.Taken.{IsHistory}
-use Rattle.rtcp_engine.specs.bounds.Sent.{reports_in, deciding_interval, sent_at, sent_with, handed_out, reports_of, counted_report}
+use Rattle.rtcp_engine.specs.bounds.Sent.{reports_in, deciding_interval, sent_at, sent_with, handed_out, reports_of}
 use Rattle.rtcp_engine.proofs.Changing.{bye_alone, latest_of}
 use Rattle.rtcp_engine.proofs.Past.{latest_in_range, listed_after}
 use Rattle.rtcp_engine.proofs.Usable.{usable_of_unrefused, unrefused_of_usable}
@@ -198,7 +198,7 @@ pub answers_hand_out_compounds : (history : History) (act : Act)
     (answer_of history act) ++ sent_at history
 answers_hand_out_compounds history act = handed_by history act (refusal_after history act)
 
-pub sent_reports_are_counted : (history : History) → reports_of (life_at history) ≡ map counted_report
+pub sent_reports_are_counted : (history : History) → reports_of (life_at history) ≡ length
     (reports_in (sent_at history))
 sent_reports_are_counted history = reports_counted history.setup history.word history.acts
 

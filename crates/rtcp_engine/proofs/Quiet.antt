@@ -10,7 +10,6 @@ use Rattle.rtcp_engine.specs.declared.pace.Pace.{Pace}
 use Rattle.rtcp_engine.specs.answers.Outcomes.{Outcome, check_interval, check_load, newest_pace, receiver_load, slowed_by}
 use Rattle.rtcp_engine.specs.answers.Ticks.{horizons_of, with_check, without_silent}
 use Rattle.rtcp_engine.specs.state.States.{Agrees, Does, IsQuiet, KeepsCapacity, MovesOthers, State}
-use Rattle.rtcp_engine.proofs.Agreeing.{none_yet}
 use Rattle.rtcp_engine.proofs.RolesChanged.{check_since}
 use Rattle.rtcp_engine.proofs.StepLemmas.{checks_agree}
 
@@ -26,7 +25,7 @@ least s outcome agrees =
     let load = check_load s.setup s.latest outcome in
     subst (λ (initial : Bool). minimum_of initial ≤ check_interval s.setup s.latest outcome)
     (slowed_initial s.latest (newest_pace outcome.paces) (receiver_load s.setup outcome)
-    ∙ sym (ap (λ (n : ℕ). n == 0) agrees.still.reports ∙ none_yet outcome.reports))
+    ∙ sym (ap (λ (n : ℕ). n == 0) agrees.still.reports))
     (interval_has_minimum load)
 
 -- ---- What was so stays so

@@ -1,4 +1,5 @@
 -- What a participant sends keeps its distances and its limit, whatever it is told.
+use Rattle.std.proofs.lemmas.Bool.{ne_eqb}
 use Rattle.std.proofs.Common.{◌≡◌, ℕ, ◌+◌, ◌^◌, ◌<◌, ◌≤◌, ◌&&◌, ◌==◌, ◌⊎◌, inl, inr, nat_lt, nat_le, Bool, true, false, is_some, List, [], ◌∷◌, ◌++◌, length, All, Option, Some, None, option_map, Ok, Err, if◌then◌else◌, refl, sym, ap, ◌∙◌, arith, subst}
 use Rattle.std.proofs.lemmas.Bool.{leb-true, and_parts, cond_both, ltb-false}
 use Rattle.std.proofs.lemmas.Option.{slice_get_cases}
@@ -20,7 +21,7 @@ use Rattle.rtcp_engine.specs.declared.refusal.Refusal.{Refusal}
 use Rattle.rtcp_engine.specs.declared.refusal.Refusal.TheVariants.{Backwards}
 use Rattle.rtcp_engine.specs.answers.Setups.{Setup, IsExtraItem, IsUsable}
 use Rattle.rtcp_engine.specs.answers.Acts.{rtcp, rtp, Act, arrived, rtp_sent, ticked, left, configured, moment_of, forgotten}
-use Rattle.rtcp_engine.specs.answers.Outcomes.{Outcome, is_initial, interval_at, load_of, member_count}
+use Rattle.rtcp_engine.specs.answers.Outcomes.{Outcome, interval_at, load_of, member_count}
 use Rattle.rtcp_engine.specs.answers.Ticks.{checked, has_come, has_passed, reported, put_off}
 use Rattle.rtcp_engine.specs.answers.OwnStreams.{has_sent, own_of, sent_of}
 use Rattle.rtcp_engine.specs.answers.Reporting.{bye_octets, report_octets, extra_item, reporter_at, last_reported_in}
@@ -96,7 +97,7 @@ pub record AreUpTo (t : ℕ) (happenings : List Happening) : Type 0 where
 pub record TakesPart (limit t : ℕ) (leave : Option ℕ) (outcome : Outcome) (sent : List Sent) : Type 0 where
   pub up_to : AreUpTo t outcome.happenings
   pub newest : newest_transmission outcome.happenings ≡ newest_moment (reports_in sent)
-  pub initial : is_initial outcome.reports ≡ none_sent (reports_in sent)
+  pub initial : (outcome.reports == 0) ≡ none_sent (reports_in sent)
   pub stays : leave ≡ None
   pub kept : AreKept limit sent
 
@@ -133,7 +134,7 @@ report_is_within : (setup : Setup) (t : ℕ) (outcome : Outcome) → IsUsable se
 report_is_within setup t outcome usable =
     let extra = short_if _ _ (short_read setup.settings.extras _ usable.extras) in
     let empty = compounds_are_small-empty setup.ssrc (sent_of setup.settings.ntp_base setup.settings.rate t (own_of outcome.own))
-    setup.cname (extra_item setup.settings.extras (length outcome.reports + 1)) usable.cname.1 extra in
+    setup.cname (extra_item setup.settings.extras (outcome.reports + 1)) usable.cname.1 extra in
     let last = last_reported_in outcome.trace in
     subst (λ (blocks : List ReportBlock). length (written_all (packets_with (reporter_at setup t outcome) blocks))
     ≤ setup.limit)
@@ -172,7 +173,7 @@ passes : {limit t : ℕ} {leave : Option ℕ} {outcome : Outcome} {sent : List S
 passes {limit} {t} {leave} {outcome} {sent} act new h stays up_to newest reports = record {
   up_to = up_to;
   newest = newest ∙ h.newest;
-  initial = ap is_initial reports ∙ h.initial;
+  initial = ap (λ (n : ℕ). n == 0) reports ∙ h.initial;
   stays = ap (λ (l : Option ℕ). option_or l (leave_moment act)) h.stays ∙ stays;
   kept = h.kept;
 }
@@ -226,7 +227,7 @@ tick_by : (setup : Setup) (t first_word second_word : ℕ) (leave : Option ℕ) 
 tick_by setup t first_word second_word leave now sent true true usable fits due h = record {
   up_to = one_more (transmitted t _ _) (omega arith) h.up_to;
   newest = refl;
-  initial = refl;
+  initial = ne_eqb (now.reports + 1) 0 (λ none. absurd (omega (arith, none)));
   stays = h.stays;
   kept =
       let next = next_report setup t first_word leave now sent usable fits h (due refl refl) in

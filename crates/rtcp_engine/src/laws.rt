@@ -32,7 +32,7 @@ ghost use Rattle.rtcp_engine.specs.bounds.Changed.{KeepsRest};
 ghost use Rattle.rtcp_engine.specs.answers.Identities.{AreApart, IsFirstFree};
 ghost use Rattle.std.specs.List.{AllByRecursion};
 ghost use Rattle.rtcp_engine.specs.state.Taken.{AllTaken, GivesNoClocks, IsHistory, NamesFew};
-ghost use Rattle.rtcp_engine.specs.bounds.Sent.{reports_in, deciding_interval, sent_at, handed_out, reports_of, counted_report};
+ghost use Rattle.rtcp_engine.specs.bounds.Sent.{reports_in, deciding_interval, sent_at, handed_out, reports_of};
 ghost use Rattle.rtcp_engine.specs.bounds.Spacing.{newest_moment, LiesAfter, KeepsBounds};
 ghost use Rattle.rtcp_engine.specs.bounds.InTime.{AllInTime};
 ghost use Rattle.rtcp_engine.specs.declared.refusal.Refusal.{Refusal as Reason};
@@ -200,12 +200,12 @@ pub fn answers_hand_out_compounds()
         ++ sent_at history }
 {}
 
-/// The reports that a session counts, for its minimum interval and for the turns of its extra items, are those
-/// that it sent.
+/// The reports that a session counts, for its minimum interval and for the turns of its extra items, are as many as
+/// it sent.
 #[tactic(auto, using(crate::proofs::LawLemmas::sent_reports_are_counted))]
 pub fn sent_reports_are_counted()
     ensures { (history : History) →
-        reports_of (life_at history) ≡ map counted_report (reports_in (sent_at history)) }
+        reports_of (life_at history) ≡ length (reports_in (sent_at history)) }
 {}
 
 /// The last transmission as the schedule knows it (tp) never lies before the last report, or before the leave

@@ -50,7 +50,7 @@ one_names setup t interval outcome true =
       packets = report_packets setup t outcome;
       written = refl;
       named = names_itself setup.ssrc (reporter_at setup t outcome).sent setup.cname
-          (extra_item setup.settings.extras (length outcome.reports + 1))
+          (extra_item setup.settings.extras (outcome.reports + 1))
           (blocks_at t setup.capacity outcome.trace (reported_at setup t outcome));
     }) (All-nil NamesItsSource)
 

@@ -135,7 +135,7 @@ report_is_large setup t outcome =
       arith,
       size_is_that_of_the_octets reporter blocks,
       first_is_least reporter.sent,
-      described setup.cname (extra_item setup.settings.extras (length outcome.reports + 1)),
+      described setup.cname (extra_item setup.settings.extras (outcome.reports + 1)),
     )
 
 bye_is_large : (setup : Setup) → first_size_of setup ≤ length (bye_octets setup)

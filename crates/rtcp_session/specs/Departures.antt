@@ -10,7 +10,7 @@ use Rattle.rtcp_engine.specs.answers.Setups.{Setup}
 use Rattle.rtcp_engine.specs.answers.Acts.{Act, arrived, rtcp, ticked, forgotten, moment_of}
 use Rattle.rtcp_engine.specs.answers.Changes.{is_among}
 use Rattle.rtcp_engine.specs.answers.Arrivals.{after}
-use Rattle.rtcp_engine.specs.answers.Outcomes.{Outcome, check_interval, is_initial}
+use Rattle.rtcp_engine.specs.answers.Outcomes.{Outcome, check_interval}
 use Rattle.rtcp_engine.specs.answers.Ticks.{checked}
 use Rattle.rtcp_engine.specs.answers.Leaving.{Life, present, backing_off, finished}
 use Rattle.rtcp_engine.specs.answers.Histories.{History, session_at, session_for}
@@ -120,7 +120,7 @@ new_members_since history (act ∷ since) =
 -- What five intervals come to at least: 25 seconds, and half of that until the participant has sent a report, since the
 -- minimum is half as long until then (6.2).
 abbrev pub least_silence : Outcome → ℕ
-least_silence outcome = if is_initial outcome.reports then 12500000 else 25000000
+least_silence outcome = if outcome.reports == 0 then 12500000 else 25000000
 
 -- The check of a tick drops a member, which was silent for too long.
 pub record IsTimedOut (setup : Setup) (t : ℕ) (outcome : Outcome) (ssrc : ℕ) : Type 0 where

@@ -1,6 +1,6 @@
 -- What a session has come to: what happened to its members, its own stream, its compounds and its schedule.
 -- Lists are newest first.
-use Rattle.std.specs.Prelude.{ℕ, ◌+◌, ◌*◌, ◌≤◌, Bool, true, false, nat_lt, min, max, List, [], ◌∷◌, if◌then◌else◌, Option, Some, None}
+use Rattle.std.specs.Prelude.{ℕ, ◌+◌, ◌*◌, ◌≤◌, ◌==◌, Bool, false, nat_lt, min, max, List, [], ◌∷◌, if◌then◌else◌, Option, Some, None}
 use Rattle.rtcp_clock.specs.Intervals.{drawn_interval}
 use Rattle.rtcp_members.specs.Traces.{TraceStep}
 use Rattle.rtcp_members.specs.Entries.{members_at, senders_at}
@@ -14,12 +14,6 @@ use Rattle.rtcp_engine.specs.declared.pace.Pace.{Pace}
 use Rattle.rtcp_engine.specs.answers.Setups.{Setup, SettingsValue, keeps_bandwidths}
 use Rattle.rtcp_engine.specs.answers.OwnStreams.{OwnStep, we_sent}
 
--- a report that was sent, and the deterministic interval at that moment
-pub record Report : Type 0 where
-  pub moment : ℕ
-  pub interval : ℕ
-  pub octets : List ℕ
-
 pub record Outcome : Type 0 where
   -- what happened to the members
   pub trace : List TraceStep
@@ -28,7 +22,8 @@ pub record Outcome : Type 0 where
   pub sizes : List ℕ
   -- what happened to the schedule
   pub happenings : List Happening
-  pub reports : List Report
+  -- how many reports were sent
+  pub reports : ℕ
   -- the bandwidths before each change of these, and until when checks go by them too
   pub paces : List Pace
 
@@ -45,10 +40,6 @@ sender_count setup outcome =
 
 -- ---- The average and the interval
 
-abbrev pub is_initial : List Report → Bool
-is_initial [] = true
-is_initial (report ∷ earlier) = false
-
 -- What the interval is computed from. The average begins with the size of a receiver report without blocks, which is the
 -- first compound as far as one can tell (6.3.2).
 abbrev pub load_of : Setup → Outcome → Load
@@ -58,7 +49,7 @@ load_of setup outcome =
       members = member_count setup outcome;
       senders = sender_count setup outcome;
       we_sent = we_sent outcome.own;
-      initial = is_initial outcome.reports;
+      initial = outcome.reports == 0;
       avg = average_of (report_size receiver 0) outcome.sizes;
       sender_bw = setup.settings.sender_bw;
       receiver_bw = setup.settings.receiver_bw;
@@ -132,7 +123,7 @@ timing_of outcome = schedule_at outcome.happenings
 -- ---- The start
 
 abbrev pub nothing_yet : Outcome
-nothing_yet = record { trace = []; own = []; sizes = []; happenings = []; reports = []; paces = [] }
+nothing_yet = record { trace = []; own = []; sizes = []; happenings = []; reports = 0; paces = [] }
 
 -- A session begins as if its one member, the participant, had sent a compound at 0 (6.3.2).
 abbrev pub beginning : Setup → (word : ℕ) → Outcome

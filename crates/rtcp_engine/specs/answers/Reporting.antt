@@ -31,7 +31,7 @@ abbrev pub reporter_at : Setup → (t : ℕ) → Outcome → Reporter
 reporter_at setup t outcome = record {
   ssrc = setup.ssrc;
   sent = stream_at setup.settings.ntp_base setup.settings.rate t outcome.own;
-  items = items_of setup.cname (extra_item setup.settings.extras (length outcome.reports + 1));
+  items = items_of setup.cname (extra_item setup.settings.extras (outcome.reports + 1));
 }
 
 -- the same of the report of this number, by the few numbers of the own stream

@@ -35,11 +35,7 @@ with_report setup t outcome =
       trace = with_blocks (reported_at setup t outcome) outcome.trace;
       own = report_sent ∷ outcome.own;
       sizes = length (report_octets setup t outcome) ∷ outcome.sizes;
-      reports = record {
-        moment = t;
-        interval = interval_at setup outcome;
-        octets = report_octets setup t outcome;
-      } ∷ outcome.reports;
+      reports = outcome.reports + 1;
     }
 
 -- An interval is drawn, for the next transmission or to see whether one is due (6.3.6).

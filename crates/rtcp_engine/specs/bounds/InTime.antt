@@ -10,7 +10,7 @@ use Rattle.rtcp_engine.specs.answers.Lives.{made_by}
 use Rattle.rtcp_engine.specs.answers.Ticks.{checked, with_report, without_source}
 use Rattle.rtcp_engine.specs.answers.Arrivals.{with_datagram}
 use Rattle.rtcp_engine.specs.answers.Histories.{History, brought_by, session_at, session_for, session_of}
-use Rattle.rtcp_engine.specs.answers.Leaving.{Backoff, Life, present, backing_off, finished, leaving_interval, leaving_load}
+use Rattle.rtcp_engine.specs.answers.Leaving.{Life, present, backing_off, finished, leaving_interval, leaving_load}
 use Rattle.rtcp_engine.specs.bounds.Sent.{Sent, reports_in, sent_at}
 use Rattle.rtcp_engine.specs.bounds.Spacing.{newest_moment}
 
@@ -40,25 +40,17 @@ last_fall setup word (act ∷ earlier) =
 
 -- ---- The greatest interval
 
-abbrev pub greatest_while_present : Setup → Act → Outcome → (before : ℕ) → ℕ
-greatest_while_present setup (ticked moment first_word second_word) outcome before =
+-- one act more
+abbrev pub greatest_by : Setup → Act → Life → (before : ℕ) → ℕ
+greatest_by setup (ticked moment first_word second_word) (present outcome) before =
     let now = checked setup moment outcome in
     if is_some (made_by setup (ticked moment first_word second_word) (present outcome)).out
     then interval_at setup (with_report setup moment now)
     else max (interval_at setup now) before
-greatest_while_present setup (left moment word) outcome before = interval_of (leaving_load setup 1 [])
-greatest_while_present setup act outcome before = before
-
-abbrev pub greatest_while_backing_off : Setup → Act → Backoff → (before : ℕ) → ℕ
-greatest_while_backing_off setup (ticked moment first_word second_word) backoff before =
+greatest_by setup (left moment word) (present outcome) before = interval_of (leaving_load setup 1 [])
+greatest_by setup (ticked moment first_word second_word) (backing_off outcome backoff) before =
     max (leaving_interval setup backoff) before
-greatest_while_backing_off setup act backoff before = before
-
--- one act more
-abbrev pub greatest_by : Setup → Act → Life → (before : ℕ) → ℕ
-greatest_by setup act (present outcome) before = greatest_while_present setup act outcome before
-greatest_by setup act (backing_off outcome backoff) before = greatest_while_backing_off setup act backoff before
-greatest_by setup act (finished outcome) before = before
+greatest_by setup act life before = before
 
 -- The greatest of the deterministic intervals computed since the newest report: for the draw that followed it, and at
 -- each tick since, after its check. Before the first report, since the start; after a leave, since that. A report is

@@ -3,7 +3,7 @@ use Rattle.std.specs.Prelude.{ℕ, List, [], ◌∷◌, ◌++◌, filter, Bool, 
 use Rattle.rtcp_engine.specs.declared.step.OutKind.TheVariants.{Report as ReportKind, Bye as ByeKind}
 use Rattle.rtcp_engine.specs.answers.Setups.{Setup}
 use Rattle.rtcp_engine.specs.answers.Acts.{Act, ticked, moment_of}
-use Rattle.rtcp_engine.specs.answers.Outcomes.{Outcome, Report, interval_at}
+use Rattle.rtcp_engine.specs.answers.Outcomes.{Outcome, interval_at}
 use Rattle.rtcp_engine.specs.answers.Lives.{made_by}
 use Rattle.rtcp_engine.specs.answers.Histories.{History, brought_by, session_of}
 use Rattle.rtcp_engine.specs.answers.Steps.{OutValue, AnswerValue}
@@ -61,14 +61,11 @@ handed_out moment interval (Err refusal) = []
 
 -- ---- What a session counts
 
--- the reports that the participant counts, for the minimum of its interval and for its extra items
-abbrev pub reports_of : Life → List Report
+-- how many reports the participant counts, for the minimum of its interval and for its extra items
+abbrev pub reports_of : Life → ℕ
 reports_of (present outcome) = outcome.reports
 reports_of (backing_off outcome backoff) = outcome.reports
 reports_of (finished outcome) = outcome.reports
-
-abbrev pub counted_report : Sent → Report
-counted_report sent = record { moment = sent.moment; interval = sent.interval; octets = sent.out.octets }
 
 abbrev pub interval_by : Setup → Act → Life → ℕ
 interval_by setup act life = (made_by setup act life).interval

@@ -64,7 +64,7 @@ pub record StandsStill (state : State) (outcome : Outcome) : Type 0 where
   pub capacity : state.table.capacity ≡ state.setup.capacity
   pub own : state.own ≡ own_of outcome.own
   pub cursor : state.cursor ≡ last_reported_in outcome.trace
-  pub reports : state.reports ≡ length outcome.reports
+  pub reports : state.reports ≡ outcome.reports
 
 -- A table and numbers are those of an outcome.
 pub record Agrees (state : State) (outcome : Outcome) : Type 0 where
