@@ -4,9 +4,8 @@ use Rattle.std.proofs.lemmas.Bool.{cases_lt, cases_eq}
 use Rattle.rtcp_wire.specs.declared.rtp.fault.RtpFault.{RtpFault}
 use Rattle.rtcp_wire.specs.declared.rtp.fault.RtpFault.TheVariants.{Short, Version, PayloadType, Extension, Padding}
 use Rattle.rtcp_wire.specs.RtpHeads.{RtpValue, rtp_version_of, has_padding, has_extension, payload_type_of, IsReserved, extension_size, IsRtpHead, lists_size, after_csrcs, after_extension, last_of, FindsRtp, rtp_number_of, IsRtpFault, IsPadded}
-use Rattle.rtcp_wire.specs.RtpReadings.{head_in}
 use Rattle.rtcp_wire.proofs.FirstFound.{first_of_all, one_further, one_first}
-use Rattle.rtcp_wire.proofs.RtpHeading.{IsSoundRtp, sound_head, head_made}
+use Rattle.rtcp_wire.proofs.RtpHeading.{head_in, IsSoundRtp, sound_head, head_made}
 
 -- ---- Packets
 
