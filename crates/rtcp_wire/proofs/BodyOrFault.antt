@@ -7,8 +7,8 @@ use Rattle.rtcp_wire.specs.declared.fault.FaultReason.{FaultReason}
 use Rattle.rtcp_wire.specs.declared.fault.FaultReason.TheVariants.{Body, Reason}
 use Rattle.rtcp_wire.specs.Values.{ReportBlock, sr, rr, bye, app, other}
 use Rattle.rtcp_wire.specs.Grammar.{IsReportEnd, IsOtherType}
-use Rattle.rtcp_wire.specs.Readings.{block_in, sender_in, least_size}
-use Rattle.rtcp_wire.specs.Faults.{IsNoReason, FindsInBody}
+use Rattle.rtcp_wire.specs.Readings.{block_in, sender_in}
+use Rattle.rtcp_wire.specs.Faults.{least_size, IsNoReason, FindsInBody}
 use Rattle.rtcp_wire.specs.Validity.{IsSomeReason, IsSomeBody}
 use Rattle.rtcp_wire.proofs.Fixed.{fixed_from}
 use Rattle.rtcp_wire.proofs.Passing.{BodyEnd, no_chunk_taken, chunks_from}

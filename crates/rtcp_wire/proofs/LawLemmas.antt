@@ -5,7 +5,7 @@ use Rattle.std.proofs.lemmas.List.Concat.{length-flat_map}
 use Rattle.rtcp_wire.specs.Values.{RtcpPacket}
 use Rattle.rtcp_wire.specs.Contents.{all_items, all_goodbyes, all_blocks}
 use Rattle.rtcp_wire.specs.Grammar.{AreOctets, IsAccepted}
-use Rattle.rtcp_wire.specs.Readings.{packets_in}
+use Rattle.rtcp_wire.specs.Walks.{packets_in}
 use Rattle.rtcp_wire.specs.Writing.{written, written_all, IsWritable, IsInRange, BeginsWithReport, IsWritableBlock, IsWritableItem, IsWritableReason}
 use Rattle.rtcp_wire.proofs.PartRanges as parts
 use Rattle.rtcp_wire.proofs.ReadingWalks.{walk_reads}
