@@ -255,6 +255,16 @@ in_datagram octets =
     by (Ok packets) read = subst (IsAccepted octets) (sym read.0) (accepted_as_read octets read.1)
     by (Err fault) first = first
 
+-- Each datagram is read, or has a first fault.
+pub always_one : (octets : List ℕ) →
+    ((packets : List RtcpPacket) × IsAccepted octets packets) ⊎ ((fault : WireFault) × IsFirstFault octets fault)
+always_one octets = by (rtcp_in octets) (in_datagram octets)
+  where
+    by : (said : Result (List RtcpPacket) WireFault) → MatchResult said (IsAccepted octets) (IsFirstFault octets) →
+        ((packets : List RtcpPacket) × IsAccepted octets packets) ⊎ ((fault : WireFault) × IsFirstFault octets fault)
+    by (Ok packets) is = inl (packets, is)
+    by (Err fault) is = inr (fault, is)
+
 -- As no datagram has two readings or two faults, or one of each, the outcome is the only one.
 module _ (octets : List ℕ) where
   reading : (said : Result (List RtcpPacket) WireFault) → MatchResult said (IsAccepted octets) (IsFirstFault octets) →

@@ -136,6 +136,16 @@ is_read octets =
     (λ passed. subst (λ (t : List ℕ). IsRead octets (read_after octets t)) (sym (after_it bit rest))
     (padding_read octets room version type_free (whole bit (length rest) (extension_size rest) passed))))))
 
+-- Each list of octets is a packet or has a first fault.
+pub always_one : (octets : List ℕ) →
+    ((head : RtpValue) × IsRtpHead octets head) ⊎ ((fault : RtpFault) × IsRtpFault octets fault)
+always_one octets = by (rtp_in octets) (is_read octets)
+  where
+    by : (read : Result RtpValue RtpFault) → IsRead octets read →
+        ((head : RtpValue) × IsRtpHead octets head) ⊎ ((fault : RtpFault) × IsRtpFault octets fault)
+    by (Ok head) is = inl (head, is)
+    by (Err fault) is = inr (fault, is)
+
 -- ---- No other packet, and no other fault
 
 -- Octets are a packet exactly where it is read,
