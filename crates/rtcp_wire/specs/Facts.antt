@@ -35,8 +35,7 @@ facts_of_chunk chunk =
 
 -- what one packet says
 abbrev pub facts_of_packet : RtcpPacket → List Fact
-facts_of_packet (sr sender blocks extension) =
-    Heard sender.ssrc ∷ Told sender.ssrc sender.ntp sender.rtp ∷ []
+facts_of_packet (sr sender blocks extension) = Heard sender.ssrc ∷ Told sender.ssrc sender.ntp sender.rtp ∷ []
 facts_of_packet (rr ssrc blocks extension) = Heard ssrc ∷ []
 facts_of_packet (sdes chunks) = flat_map facts_of_chunk chunks
 facts_of_packet (bye ids reason) = map Gone ids

@@ -47,8 +47,8 @@ abbrev pub result_map : {A B E : Type 0} → (A → B) → Result A E → Result
 result_map f (Ok value) = Ok (f value)
 result_map f (Err fault) = Err fault
 
--- 6.5: an item is its type, the length of its text, and the text. Items end at a zero octet in the place of a type, or
--- there are none. Here so many octets belong to an item that was read.
+-- 6.5: an item is its type, the length of its text, and the text. Items end at a zero octet in the place of a type, and
+-- where they do not the answer is None. Here so many octets belong to an item that was read.
 abbrev pub items_or_none : (skip : ℕ) → List ℕ → Option (List ItemValue)
 items_or_none skip [] = None
 items_or_none (suc skip) (octet ∷ rest) = items_or_none skip rest
@@ -83,9 +83,9 @@ reason_or_fault (size ∷ text) =
 abbrev pub at_least : ℕ → (body : List ℕ) → Result RtcpPacket FaultReason → Result RtcpPacket FaultReason
 at_least size body said = if nat_lt (length body) size then Err Body else said
 
--- What a body says under its type and count: a sender's report (6.4.1) or a receiver's (6.4.2), with an extension after
--- its blocks, a source description (6.5), a BYE (6.6), or a packet of an application (6.7). It has the octets that
--- these ask for, of any values but in chunks and in a reason. A body of another type is kept as it is.
+-- What a body says under its type and count. Types 200 to 204 are a sender's report (6.4.1), a receiver's (6.4.2), a
+-- source description (6.5), a BYE (6.6) and a packet of an application (6.7). An extension may follow a report's
+-- blocks. A body has the octets that these ask for, of any values but in chunks and in a reason. Others are kept.
 abbrev pub body_or_fault : (kind count : ℕ) → List ℕ → Result RtcpPacket FaultReason
 body_or_fault kind count body =
     let before_blocks : ℕ = if kind == 200 then 24 else 4 in
@@ -106,9 +106,9 @@ body_or_fault kind count body =
 abbrev pub size_of : List ℕ → ℕ
 size_of octets = 4 * (big_number 2 (drop 2 octets) + 1)
 
--- A.2: the packet that begins here, or the first test that it fails: four octets of header, and version 2 (6.4.1); a
--- compound begins with a report (6.1), without padding; the length; and where its bit is set, the padding (6.4.1). Its
--- last octet counts it, itself included, in whole words that leave the header. The body stands before it.
+-- A.2: the packet that begins here, or the first of these tests that it fails. It has four octets of header, and
+-- version 2 (6.4.1). The first packet is a report, without padding (6.1). Each is whole. Where its bit is set, the
+-- last octet counts the padding and itself, in whole words that leave the header (6.4.1).
 abbrev pub packet_or_fault : (is_first : Bool) → List ℕ → Result RtcpPacket FaultReason
 packet_or_fault is_first octets =
     let first : ℕ = slice_index octets 0 in

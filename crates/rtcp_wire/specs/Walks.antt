@@ -1,5 +1,4 @@
--- What a walk over octets reads, packet by packet and part by part (RFC 3550, 6.4 to 6.7), for the contracts of the
--- walks.
+-- What a walk over octets reads, packet by packet and part by part (RFC 3550, 6.4 to 6.7), for the contracts of walks.
 -- Of octets with a fault nothing is claimed of what it reads.
 use Rattle.std.specs.Prelude.{ℕ, zero, suc, ◌+◌, ◌-◌, ◌*◌, ◌/◌, ◌==◌, if◌then◌else◌, List, [], ◌∷◌, Option, Some, None, length, take, drop, slice_index, sum_by}
 use Rattle.byteorder.specs.Endian.{big_number}
