@@ -5,7 +5,8 @@ use Rattle.std.proofs.lemmas.List.{length-append}
 use Rattle.byteorder.specs.Endian.{big_number}
 use Rattle.rtcp_wire.specs.Values.{SenderValue, ReportBlock, RtcpPacket, sr, rr, sdes, bye, app, other}
 use Rattle.rtcp_wire.specs.Grammar.{IsBlock, IsId, IsReportEnd, IsSenderReport, IsReport, IsChunk, IsReason, IsReasonPart, IsGoodbye, IsApplication, IsOtherType, IsBody}
-use Rattle.rtcp_wire.specs.Readings.{block_in, sender_in, least_size}
+use Rattle.rtcp_wire.specs.Readings.{block_in, sender_in}
+use Rattle.rtcp_wire.specs.Faults.{least_size}
 use Rattle.rtcp_wire.proofs.Joining.{same_count, same_whole}
 use Rattle.rtcp_wire.proofs.Prefixes.{cons_parts, cons_not_nil, same_prefixes, cut_prefix, length_parts}
 use Rattle.rtcp_wire.proofs.Fixed.{one_block, one_id, fixed_length}

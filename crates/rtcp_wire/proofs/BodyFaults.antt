@@ -6,8 +6,7 @@ use Rattle.rtcp_wire.specs.declared.fault.FaultReason.{FaultReason}
 use Rattle.rtcp_wire.specs.declared.fault.FaultReason.TheVariants.{Body, Item, Reason}
 use Rattle.rtcp_wire.specs.Values.{RtcpPacket, sdes, bye}
 use Rattle.rtcp_wire.specs.Grammar.{IsReasonPart, IsGoodbye, IsBody}
-use Rattle.rtcp_wire.specs.Faults.{IsNoReason, FindsInBody}
-use Rattle.rtcp_wire.specs.Readings.{least_size}
+use Rattle.rtcp_wire.specs.Faults.{IsNoReason, FindsInBody, least_size}
 use Rattle.rtcp_wire.proofs.Prefixes.{cons_parts, cons_not_nil, length_parts}
 use Rattle.rtcp_wire.proofs.Fixed.{fixed_length}
 use Rattle.rtcp_wire.proofs.ChunkPrefixes.{not_inside, not_beside, not_both}

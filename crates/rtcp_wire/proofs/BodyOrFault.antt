@@ -1,17 +1,17 @@
--- Each body of whole words is some packet's, or the test of a reason finds a fault in it.
+-- A body of whole words is some packet's, or the test of a reason finds a fault in it: a lemma for each type but a
+-- source description.
 use Rattle.std.proofs.Common.{◌≡◌, ◌≢◌, ℕ, ◌+◌, ◌-◌, ◌*◌, ◌%◌, ◌≤◌, ◌⊎◌, List, [], ◌∷◌, ◌++◌, length, take, drop, Some, None, Result, Ok, Err, MatchResult, refl, sym, ap, subst, ◌∙◌, arith, inl, inr}
 use Rattle.std.proofs.lemmas.Bool.{cases_lt, cases_eq}
 use Rattle.std.proofs.lemmas.List.{take-append-drop, length-drop, length-take-le}
 use Rattle.byteorder.specs.Endian.{big_number}
 use Rattle.rtcp_wire.specs.declared.fault.FaultReason.{FaultReason}
-use Rattle.rtcp_wire.specs.declared.fault.FaultReason.TheVariants.{Body, Reason}
+use Rattle.rtcp_wire.specs.declared.fault.FaultReason.TheVariants.{Reason}
 use Rattle.rtcp_wire.specs.Values.{ReportBlock, sr, rr, bye, app, other}
 use Rattle.rtcp_wire.specs.Grammar.{IsReportEnd, IsOtherType}
-use Rattle.rtcp_wire.specs.Readings.{block_in, sender_in, least_size}
-use Rattle.rtcp_wire.specs.Faults.{IsNoReason, FindsInBody}
+use Rattle.rtcp_wire.specs.Readings.{block_in, sender_in}
+use Rattle.rtcp_wire.specs.Faults.{least_size, IsNoReason, FindsInBody}
 use Rattle.rtcp_wire.specs.Validity.{IsSomeReason, IsSomeBody}
 use Rattle.rtcp_wire.proofs.Fixed.{fixed_from}
-use Rattle.rtcp_wire.proofs.Passing.{BodyEnd, no_chunk_taken, chunks_from}
 
 -- ---- Reports
 
@@ -188,26 +188,3 @@ goodbye_checked kind count body rest (Ok done) is words room following good =
     ]
 goodbye_checked kind count body rest (Err found) is words room following bad =
     subst (λ (r : FaultReason). FindsInBody r kind count body) (sym bad.0) (is, subst IsNoReason following bad.1)
-
--- a body with the octets that its type asks for
-with_room : (kind count : ℕ) (body : List ℕ) → length body % 4 ≡ 0 → least_size kind count ≤ length body →
-    BodyEnd kind count body
-with_room kind count body words room =
-    elim (cases_eq kind 202) [
-      | inl is ↦ subst (λ (k : ℕ). BodyEnd k count body) (sym is)
-          (chunks_from count 0 count body body (omega arith) (no_chunk_taken body words))
-      | inr not_sdes ↦ elim (cases_eq kind 203) [
-        | inr not_bye ↦ inl (plain_body kind count body room not_sdes not_bye)
-        | inl is ↦ elim (goodbye_from kind count body is words room) [
-          | inl some ↦ inl some
-          | inr bad ↦ inr (Reason, (is, bad))
-        ]
-      ]
-    ]
-
--- Each body of whole words is some packet's or has a fault.
-pub body_from : (kind count : ℕ) (body : List ℕ) → length body % 4 ≡ 0 → BodyEnd kind count body
-body_from kind count body words = elim (cases_lt (length body) (least_size kind count)) [
-  | inl few ↦ inr (Body, inl few)
-  | inr room ↦ with_room kind count body words room
-]

@@ -5,7 +5,7 @@ use Rattle.byteorder.specs.Endian.{big_number}
 use Rattle.rtcp_wire.specs.Values.{ChunkValue}
 use Rattle.rtcp_wire.specs.Grammar.{Joins, IsChunk}
 use Rattle.rtcp_wire.specs.Validity.{HasItems, HasChunks}
-use Rattle.rtcp_wire.specs.Readings.{items_after, chunk_size, chunks_in}
+use Rattle.rtcp_wire.specs.Walks.{items_after, chunk_size, chunks_in}
 use Rattle.rtcp_wire.proofs.ReadingWalks.{other_part, chunk_parts, chunk_read, chunk_length, after_chunk}
 
 -- the octets of the chunk that stands first

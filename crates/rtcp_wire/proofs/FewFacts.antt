@@ -8,7 +8,8 @@ use Rattle.rtcp_wire.specs.declared.fact.Fact.TheVariants.{Named, Gone}
 use Rattle.rtcp_wire.specs.Values.{ChunkValue, RtcpPacket, sr, rr, sdes, bye, app, other}
 use Rattle.rtcp_wire.specs.Facts.{facts_of, facts_of_chunk, facts_of_packet, is_cname}
 use Rattle.rtcp_wire.specs.Grammar.{IsAccepted, IsBody, IsChunk, IsSpelling}
-use Rattle.rtcp_wire.specs.Readings.{body_of, padding_of, size_of}
+use Rattle.rtcp_wire.specs.Readings.{size_of}
+use Rattle.rtcp_wire.specs.Headers.{body_of, padding_of}
 use Rattle.rtcp_wire.proofs.Fixed.{fixed_length}
 use Rattle.rtcp_wire.proofs.Prefixes.{length_parts, joined_lengths}
 

@@ -6,7 +6,7 @@ use Rattle.std.proofs.lemmas.List.Sums.{sum_by-append}
 use Rattle.rtcp_wire.specs.Values.{ItemValue}
 use Rattle.rtcp_wire.specs.Grammar.{Joins, IsItem}
 use Rattle.rtcp_wire.specs.Validity.{HasItems}
-use Rattle.rtcp_wire.specs.Readings.{items_after, items_size}
+use Rattle.rtcp_wire.specs.Walks.{items_after, items_size}
 use Rattle.rtcp_wire.proofs.ReadingWalks.{first_item}
 
 -- the octets after the item that stands first

@@ -5,7 +5,7 @@ use Rattle.std.proofs.lemmas.List.Concat.{length-flat_map}
 use Rattle.rtcp_wire.specs.Values.{RtcpPacket}
 use Rattle.rtcp_wire.specs.Contents.{all_items, all_goodbyes, all_blocks}
 use Rattle.rtcp_wire.specs.Grammar.{AreOctets, IsAccepted}
-use Rattle.rtcp_wire.specs.Readings.{packets_in}
+use Rattle.rtcp_wire.specs.Walks.{packets_in}
 use Rattle.rtcp_wire.specs.Writing.{written, written_all, IsWritable, IsInRange, BeginsWithReport, IsWritableBlock, IsWritableItem, IsWritableReason}
 use Rattle.rtcp_wire.proofs.PartRanges as parts
 use Rattle.rtcp_wire.proofs.ReadingWalks.{walk_reads}
@@ -13,14 +13,14 @@ use Rattle.rtcp_wire.proofs.WritableAgain as again
 use Rattle.rtcp_wire.proofs.WrittenPackets as writing
 pub use Rattle.rtcp_wire.proofs.Spellings.{one_spelling, one_reading}
 pub use Rattle.rtcp_wire.proofs.Refusals.{one_fault, never_both as accepted_or_faulty-never_both}
-pub use Rattle.rtcp_wire.proofs.Walking.{always_one as accepted_or_faulty-always_one}
+pub use Rattle.rtcp_wire.proofs.ReadDatagrams.{always_one as accepted_or_faulty-always_one}
 pub use Rattle.rtcp_wire.proofs.ReadDatagrams.{accepted as readings_are_computed-accepted}
 pub use Rattle.rtcp_wire.proofs.ReadDatagrams.{faulty as readings_are_computed-faulty}
 pub use Rattle.rtcp_wire.proofs.NoMedia.{packets_give_none as compounds_give_no_media}
 pub use Rattle.rtcp_wire.proofs.FewFacts.{few_facts as facts_are_few}
 pub use Rattle.rtcp_wire.proofs.RtpFaults.{one_head, one_fault as one_rtp_fault}
 pub use Rattle.rtcp_wire.proofs.RtpFaults.{never_both as packet_or_fault-never_both}
-pub use Rattle.rtcp_wire.proofs.RtpFaults.{always_one as packet_or_fault-always_one}
+pub use Rattle.rtcp_wire.proofs.RtpComputed.{always_one as packet_or_fault-always_one}
 pub use Rattle.rtcp_wire.proofs.RtpComputed.{of_head as rtp_readings_are_computed-head}
 pub use Rattle.rtcp_wire.proofs.RtpComputed.{of_fault as rtp_readings_are_computed-fault}
 pub use Rattle.rtcp_wire.proofs.RtpRanges.{payload_type as heads_are_in_range-payload_type}

@@ -1,12 +1,13 @@
--- Where a packet should begin, one does, or one of the tests is the first that finds a fault.
-use Rattle.std.proofs.Common.{◌≡◌, ◌≢◌, ℕ, suc, ◌+◌, ◌-◌, ◌*◌, ◌%◌, ◌<◌, ◌≤◌, ◌⊎◌, Bool, true, false, cond, List, length, get_or, drop, Result, Ok, Err, IfOk, MatchResult, refl, sym, subst, ◌∙◌, arith, inl, inr, lit<}
-use Rattle.std.proofs.lemmas.Bool.{cases_lt, cases_eq, cases_Bool}
+-- Where a packet should begin, one does, or one of the tests is the first that finds a fault: a lemma for each test.
+use Rattle.std.proofs.Common.{◌≡◌, ℕ, suc, ◌+◌, ◌-◌, ◌*◌, ◌%◌, ◌<◌, ◌≤◌, ◌⊎◌, Bool, true, false, cond, List, length, get_or, drop, Result, Ok, Err, IfOk, MatchResult, refl, sym, subst, ◌∙◌, arith, inl, inr, lit<}
 use Rattle.std.proofs.lemmas.List.{take-append-drop, length-drop, length-take-le}
 use Rattle.byteorder.specs.Endian.{big_number}
 use Rattle.rtcp_wire.specs.declared.fault.FaultReason.{FaultReason}
 use Rattle.rtcp_wire.specs.declared.fault.FaultReason.TheVariants.{Short, Version, FirstType, FirstPadding, Length, Padding, Body, Item, Reason}
 use Rattle.rtcp_wire.specs.Grammar.{IsPadding, IsSpelling}
-use Rattle.rtcp_wire.specs.Readings.{version_of, is_padded, count_of, type_of, size_of, padding_of, body_of, body_says, packet_in}
+use Rattle.rtcp_wire.specs.Readings.{size_of}
+use Rattle.rtcp_wire.specs.Headers.{version_of, is_padded, count_of, type_of, padding_of, body_of}
+use Rattle.rtcp_wire.specs.Walks.{body_says, packet_in}
 use Rattle.rtcp_wire.specs.Faults.{FindsInBody, Finds, number_of, IsFirstFound, MayStand}
 use Rattle.rtcp_wire.specs.Parts.{TakesPrefix, IsWhole, IsUnpadded}
 use Rattle.rtcp_wire.specs.Validity.{IsSomeBody, IsSomePacket}
@@ -14,7 +15,6 @@ use Rattle.rtcp_wire.specs.Values.{RtcpPacket}
 use Rattle.rtcp_wire.proofs.Spellings.{own, is_own}
 use Rattle.rtcp_wire.proofs.Stops.{body_at, padding_at, begins_at, reason_in, reason_has_number}
 use Rattle.rtcp_wire.proofs.BodyFaults.{body_or_item, body_or_reason, item_or_reason}
-use Rattle.rtcp_wire.proofs.BodyOrFault.{body_from}
 use Rattle.rtcp_wire.proofs.FirstFound.{first_of_all, one_further}
 
 -- ---- Tests
@@ -31,59 +31,6 @@ none_at_first first b = first_of_all number_of reason_in reason_has_number (lit<
 next_test : (r : FaultReason) (first : Bool) (b : List ℕ) → NoneBefore (number_of r) first b → (Finds r first b → ⊥) →
     NoneBefore (suc (number_of r)) first b
 next_test r first b = one_further number_of reason_in reason_has_number (lit< tt) (λ reason. Finds reason first b) r
-
--- Some test is the first that finds a fault.
-abbrev pub IsFaulty : Bool → List ℕ → Type 0
-IsFaulty first b = (reason : FaultReason) × IsFirstFound reason first b
-
--- The test that comes next finds one.
-faulty : (r : FaultReason) (first : Bool) (b : List ℕ) → NoneBefore (number_of r) first b → Finds r first b →
-    IsFaulty first b
-faulty r first b none found = (r, record { found = found; no_earlier = none })
-
--- ---- Single tests
-
--- whether the type may be the first packet's
-may_be_first : (first : Bool) (kind : ℕ) → ((first ≡ true) × (kind ≢ 200) × (kind ≢ 201)) ⊎
-    (first ≡ true → (kind ≡ 200) ⊎ (kind ≡ 201))
-may_be_first false kind = inr (λ e. absurd cc)
-may_be_first true kind =
-    elim (cases_eq kind 200) [
-      | inl sender ↦ inr (λ e. inl sender)
-      | inr no_sender ↦ elim (cases_eq kind 201) [
-        | inl receiver ↦ inr (λ e. inr receiver)
-        | inr no_receiver ↦ inl (refl, no_sender, no_receiver)
-      ]
-    ]
-
--- whether the padding bit may be set
-may_be_padded : (first padded : Bool) → ((first ≡ true) × (padded ≡ true)) ⊎ (first ≡ true → padded ≡ false)
-may_be_padded first false = inr (λ e. refl)
-may_be_padded false true = inr (λ e. absurd cc)
-may_be_padded true true = inl (refl, refl)
-
--- whether a number of padding octets fits
-is_padding_or_not : (size padding : ℕ) → IsPadding size padding ⊎ (IsPadding size padding → ⊥)
-is_padding_or_not size padding =
-    elim (cases_eq padding 0) [
-      | inl none ↦ inr (λ h. h.0 none)
-      | inr some ↦ elim (cases_eq (padding % 4) 0) [
-        | inr odd ↦ inr (λ h. odd h.1)
-        | inl even ↦ elim (cases_lt (size - 4) padding) [
-          | inl more ↦ inr (λ h. omega (arith, h.2))
-          | inr fits ↦ inl (some, even, fits)
-        ]
-      ]
-    ]
-
--- whether there is no padding, or one that fits
-padding_is_good : (padded : Bool) (size padding : ℕ) → ((padded ≡ true) × (IsPadding size padding → ⊥)) ⊎
-    (padded ≡ true → IsPadding size padding)
-padding_is_good padded size padding =
-    elim (cases_Bool padded) [
-      | inl set ↦ elim (is_padding_or_not size padding) [ inl good ↦ inr (λ e. good) | inr bad ↦ inl (set, bad) ]
-      | inr clear ↦ inr (λ set. absurd cc)
-    ]
 
 -- One bit isn't both.
 pub not_both_bits : (p : Bool) → p ≡ true → p ≡ false → ⊥
@@ -113,41 +60,6 @@ module _ (first : Bool) (b : List ℕ) where
   pub before_padding : IsWhole first b → NoneBefore 6 first b
   before_padding good = next_test Length first b (before_length good.header good.version good.may_stand)
       (λ (few : length b < size_of b). omega (arith, few, good.size))
-
-  -- A header is good, or a first test finds a fault.
-  header_from : IsWhole first b ⊎ IsFaulty first b
-  header_from =
-      elim (cases_lt (length b) 4) [
-        | inl few ↦ inr (faulty Short first b (none_at_first first b) few)
-        | inr enough ↦ elim (cases_eq (version_of b) 2) [
-          | inr differs ↦ inr (faulty Version first b (before_version enough) differs)
-          | inl version ↦ elim (may_be_first first (type_of b)) [
-            | inl bad ↦ inr (faulty FirstType first b (before_type enough version) bad)
-            | inr kind ↦ elim (may_be_padded first (is_padded b)) [
-              | inl bad ↦ inr (faulty FirstPadding first b (before_first_padding enough version kind) bad)
-              | inr unpadded ↦ (let may : MayStand first b = λ is_first. (kind is_first, unpadded is_first) in
-                  elim (cases_lt (length b) (size_of b)) [
-                    | inl few ↦ inr (faulty Length first b (before_length enough version may) few)
-                    | inr room ↦ inl (record { header = enough; version = version; size = room; may_stand = may })
-                  ])
-            ]
-          ]
-        ]
-      ]
-
--- A padding that is not good is the first fault.
-padding_found : (first : Bool) (b : List ℕ) → IsWhole first b → Finds Padding false (own b) →
-    IsFirstFound Padding first b
-padding_found first b good found =
-    let same = (is_own b good.size).parts in
-    record {
-      found = (
-        same.header.padded ∙ found.0,
-        λ padding. found.1 (padding_at (size_of b) (size_of (own b)) (padding_of b) (padding_of (own b))
-            same.header.size same.padding padding),
-      );
-      no_earlier = before_padding first b good;
-    }
 
 -- ---- The body
 
@@ -246,25 +158,3 @@ module _ (first : Bool) (b body : List ℕ) (kind count : ℕ) (h : HasBody firs
 -- A packet was taken, which may stand here.
 abbrev pub TakesPacket : Bool → List ℕ → List ℕ → Type 0
 TakesPacket first old new = TakesPrefix old new (λ octets. IsSomePacket octets × MayStand first octets)
-
--- A packet is taken, or a first test finds a fault: by the steps of the tests.
-pub packet_from : (first : Bool) (b : List ℕ) → TakesPacket first b (drop (size_of b) b) ⊎ IsFaulty first b
-packet_from first b =
-    elim (header_from first b) [
-      | inr fault ↦ inr fault
-      | inl good ↦ elim (padding_is_good (is_padded (own b)) (size_of (own b)) (padding_of (own b))) [
-        | inl bad ↦ inr (Padding, padding_found first b good bad)
-        | inr padding ↦ (let has : HasBody first b (body_of (own b)) (type_of b) (count_of b) =
-            record { good = good; unpadded = (refl, padding); kind_is = refl; count_is = refl } in
-            elim (body_from (type_of b) (count_of b) (body_of (own b))
-            (body_is_words (own b) (is_own b good.size).size padding)) [
-              | inl some ↦ inl (packet_passed first b (body_of (own b)) (type_of b) (count_of b) has {A = Unit {0}}
-                  (Ok tt) some)
-              | inr fault ↦ inr (
-                fault.0,
-                packet_passed first b (body_of (own b)) (type_of b) (count_of b) has
-                    {A = Unit {0}} (Err fault.0) fault.1,
-              )
-            ])
-      ]
-    ]

@@ -3,7 +3,10 @@ use Rattle.std.proofs.Common.{◌≡◌, ◌≢◌, ℕ, ◌*◌, ◌≤◌, Lis
 use Rattle.std.proofs.lemmas.List.{length-append}
 use Rattle.rtcp_wire.specs.Values.{RtcpPacket, bye}
 use Rattle.rtcp_wire.specs.Grammar.{Joins, IsReasonPart, IsBody, IsSpelling}
-use Rattle.rtcp_wire.specs.Readings.{type_of, count_of, size_of, body_of, least_size, packet_in, packets_in}
+use Rattle.rtcp_wire.specs.Readings.{size_of}
+use Rattle.rtcp_wire.specs.Headers.{type_of, count_of, body_of}
+use Rattle.rtcp_wire.specs.Walks.{packet_in, packets_in}
+use Rattle.rtcp_wire.specs.Faults.{least_size}
 use Rattle.rtcp_wire.specs.Validity.{IsSomeReason, IsSomeBody}
 use Rattle.rtcp_wire.proofs.Bodies.{body_room}
 use Rattle.rtcp_wire.proofs.BodyFaults.{after_ids}

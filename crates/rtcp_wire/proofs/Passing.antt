@@ -1,19 +1,15 @@
--- Items and chunks that are passed one after the other: a lemma for each step of the tests, and a walk over any octets
--- by
--- these steps.
+-- Items and chunks that are passed one after the other: a lemma for each step of the tests, and a walk over the items
+-- of any octets by these steps.
 use Rattle.std.proofs.Common.{◌≡◌, ◌≢◌, ℕ, zero, suc, ◌+◌, ◌%◌, ◌<◌, ◌≤◌, ◌⊎◌, List, [], ◌∷◌, ◌++◌, length, take, drop, refl, sym, ap, subst, ◌∙◌, append_assoc, append-nil, arith, inl, inr}
 use Rattle.std.proofs.lemmas.Bool.{cases_lt, cases_eq}
 use Rattle.std.proofs.lemmas.List.{take-append-drop, length-take-le, length-drop, length-append, length-take, nil_from_length}
 use Rattle.byteorder.specs.Endian.{big_number}
-use Rattle.rtcp_wire.specs.declared.fault.FaultReason.{FaultReason}
-use Rattle.rtcp_wire.specs.declared.fault.FaultReason.TheVariants.{Body, Item}
 use Rattle.rtcp_wire.specs.Values.{ItemValue, ChunkValue, sdes}
 use Rattle.rtcp_wire.specs.Grammar.{Joins, IsItem, IsChunk}
-use Rattle.rtcp_wire.specs.Faults.{IsCut, EndsBesideChunks, EndsInsideChunk, FindsInBody}
+use Rattle.rtcp_wire.specs.Faults.{IsCut, EndsBesideChunks, EndsInsideChunk}
 use Rattle.rtcp_wire.specs.Parts.{TakesPrefix, EndsInItems, EndsInChunk}
 use Rattle.rtcp_wire.specs.Validity.{PassesItems, IsSomeChunk, IsSomeBody}
 use Rattle.rtcp_wire.proofs.Joining.{Joins-push}
-use Rattle.rtcp_wire.proofs.Prefixes.{cons_not_nil}
 
 -- one part more after those that were taken
 pub one_part_more : {A : Type 0} (S : A → List ℕ → Type 0) (xs : List A) (y : A) (octets old new : List ℕ) →
@@ -143,10 +139,6 @@ chunk_from octets room words =
 
 -- ---- Bodies of chunks
 
--- A body is some packet's, or the test of a reason finds a fault in it.
-abbrev pub BodyEnd : ℕ → ℕ → List ℕ → Type 0
-BodyEnd kind count body = IsSomeBody kind count body ⊎ ((reason : FaultReason) × FindsInBody reason kind count body)
-
 -- So many chunks were taken from the body, and whole words are left.
 pub record HasTakenChunks (count : ℕ) (body left : List ℕ) : Type 0 where
   pub words : length left % 4 ≡ 0
@@ -206,19 +198,3 @@ chunks_inside turns count body left h expected e = record {
   each_item = e.items.each;
   ends = e.items.ends;
 }
-
--- The chunks that are counted are passed one by one, to the body's end or to its fault.
-pub chunks_from : (more turns count : ℕ) (body left : List ℕ) → count ≡ turns + more → HasTakenChunks turns body left →
-    BodyEnd 202 count body
-chunks_from zero turns count body [] sum h = inl (all_chunks turns count body [] h (omega (arith, sum)) refl)
-chunks_from zero turns count body (o ∷ left) sum h =
-    inr (Body, inr (refl, chunks_beside turns count body (o ∷ left) h (inr (omega (arith, sum), cons_not_nil o left))))
-chunks_from (suc more) turns count body left sum h =
-    elim (cases_lt (length left) 4) [
-      | inl few ↦ inr (Body, inr (refl, chunks_beside turns count body left h (inl (omega (arith, sum), few))))
-      | inr room ↦ elim (chunk_from left room h.words) [
-        | inl cut ↦ inr (Item, (refl, chunks_inside turns count body left h (omega (arith, sum)) cut))
-        | inr one ↦ chunks_from more (turns + 1) count body one.0 (omega (arith, sum))
-            (chunk_taken turns body left one.0 h one.1.0 one.1.1)
-      ]
-    ]

@@ -1,7 +1,7 @@
 -- What `rtcp_in` finds is what the grammar says: it reads the packets that are accepted, and tells the first fault.
-use Rattle.std.proofs.Common.{◌≡◌, ◌≢◌, ℕ, zero, suc, ◌+◌, ◌-◌, ◌%◌, ◌<◌, ◌≤◌, ◌⊎◌, ◌==◌, Bool, true, false, if◌then◌else◌, List, [], ◌∷◌, length, drop, Option, Some, None, Result, Ok, Err, MatchResult, refl, sym, ap, subst, ◌∙◌, arith, inl, inr}
-use Rattle.std.specs.Prelude.{MatchOption, ◌&&◌, not, nat_le, ◌↔◌}
-use Rattle.std.proofs.lemmas.Bool.{cases_lt, cases_eq, cases_Bool, lt-ltb, le-ltb, eq-eqb, ne_eqb, eqb-true, eqb-false, leb-true, le-leb, and_parts, or_cases, or_parts, not-true, not-false}
+use Rattle.std.proofs.Common.{◌≡◌, ◌≢◌, ℕ, zero, suc, ◌+◌, ◌-◌, ◌%◌, ◌<◌, ◌≤◌, ◌⊎◌, ◌==◌, Bool, true, false, if◌then◌else◌, List, [], ◌∷◌, length, drop, Result, Ok, Err, MatchResult, refl, sym, ap, subst, ◌∙◌, arith, inl, inr}
+use Rattle.std.specs.Prelude.{◌&&◌, ◌||◌, not, nat_lt, ◌↔◌}
+use Rattle.std.proofs.lemmas.Bool.{cases_lt, cases_eq, cases_Bool, lt-ltb, le-ltb, eq-eqb, ne_eqb, eqb-true, eqb-false, ltb-true, ltb-false, and_parts, or_cases, or_parts, not-true, not-false}
 use Rattle.std.proofs.lemmas.List.{nil_from_length}
 use Rattle.rtcp_wire.specs.declared.fault.FaultReason.{FaultReason}
 use Rattle.rtcp_wire.specs.declared.fault.FaultReason.TheVariants.{Short, Padding}
@@ -10,12 +10,14 @@ use Rattle.rtcp_wire.specs.Values.{RtcpPacket}
 use Rattle.rtcp_wire.specs.Grammar.{IsPadding, IsAccepted}
 use Rattle.rtcp_wire.specs.Faults.{IsFirstFound, MayStand, IsFirstFault}
 use Rattle.rtcp_wire.specs.Parts.{IsWhole}
-use Rattle.rtcp_wire.specs.Readings.{is_report, is_padding_right, body_fault, packet_fault, fault_after, rtcp_in, version_of, is_padded, count_of, type_of, size_of, padding_of, body_of, packets_in}
+use Rattle.rtcp_wire.specs.Readings.{result_map, body_or_fault, packet_or_fault, packets_or_fault, rtcp_in, size_of}
+use Rattle.rtcp_wire.specs.Headers.{version_of, is_padded, count_of, type_of, padding_of, body_of}
+use Rattle.rtcp_wire.specs.Walks.{packet_in, packets_in}
 use Rattle.rtcp_wire.specs.Validity.{IsSomeDatagram}
 use Rattle.rtcp_wire.proofs.PacketOrFault.{TakesPacket, HasBody, none_at_first, before_version, before_type, before_first_padding, before_length, before_padding, body_is_words, packet_passed}
 use Rattle.rtcp_wire.proofs.Prefixes.{length_parts}
 use Rattle.rtcp_wire.proofs.ReadBodies.{BodyTested, body_tested}
-use Rattle.rtcp_wire.proofs.ReadingWalks.{accepted_as_read}
+use Rattle.rtcp_wire.proofs.ReadingWalks.{packet_read, first_packet, accepted_as_read}
 use Rattle.rtcp_wire.proofs.Refusals.{never_both, one_fault}
 use Rattle.rtcp_wire.proofs.Spellings.{own, is_own, spelling_length, spelling_parts, one_reading}
 use Rattle.rtcp_wire.proofs.Stops.{padding_at}
@@ -24,18 +26,18 @@ use Rattle.rtcp_wire.proofs.Walking.{HasPassed, none_passed, stops_next, passed_
 -- ---- Tests
 
 -- Each test of the first packet's type and padding, and of a number of padding octets, is the grammar's.
-wrong_type : (first : Bool) (kind : ℕ) → (first && not (is_report kind)) ≡ true →
+wrong_type : (first : Bool) (kind : ℕ) → (first && not (kind == 200 || kind == 201)) ≡ true →
     (first ≡ true) × (kind ≢ 200) × (kind ≢ 201)
 wrong_type first kind e =
-    let tests = and_parts first (not (is_report kind)) e in
-    let neither = or_parts (kind == 200) (kind == 201) (not-true (is_report kind) tests.1) in
+    let tests = and_parts first (not (kind == 200 || kind == 201)) e in
+    let neither = or_parts (kind == 200) (kind == 201) (not-true (kind == 200 || kind == 201) tests.1) in
     (tests.0, eqb-false kind 200 neither.0, eqb-false kind 201 neither.1)
 
-right_type : (first : Bool) (kind : ℕ) → (first && not (is_report kind)) ≡ false → first ≡ true →
+right_type : (first : Bool) (kind : ℕ) → (first && not (kind == 200 || kind == 201)) ≡ false → first ≡ true →
     (kind ≡ 200) ⊎ (kind ≡ 201)
 right_type false kind e is_first = absurd cc
 right_type true kind e is_first =
-    elim (or_cases (kind == 200) (kind == 201) (not-false (is_report kind) e)) [
+    elim (or_cases (kind == 200) (kind == 201) (not-false (kind == 200 || kind == 201) e)) [
       | inl sender ↦ inl (eqb-true kind 200 sender)
       | inr receiver ↦ inr (eqb-true kind 201 receiver)
     ]
@@ -44,53 +46,60 @@ unpadded : (first padded : Bool) → (first && padded) ≡ false → first ≡ t
 unpadded false padded e is_first = absurd cc
 unpadded true padded e is_first = e
 
-is_good : (size padding : ℕ) → is_padding_right size padding ≡ true → IsPadding size padding
-is_good size padding e =
-    let tests = and_parts (not (padding == 0) && (padding % 4 == 0)) (nat_le padding (size - 4)) e in
-    let words = and_parts (not (padding == 0)) (padding % 4 == 0) tests.0 in (
-      eqb-false padding 0 (not-true (padding == 0) words.0),
-      eqb-true (padding % 4) 0 words.1,
-      leb-true padding (size - 4) tests.1,
-    )
+-- whether a number of padding octets is wrong
+abbrev is_wrong : (padded : Bool) (size padding : ℕ) → Bool
+is_wrong padded size padding = padded && (padding == 0 || not (padding % 4 == 0) || nat_lt (size - 4) padding)
 
-good_is : (size padding : ℕ) → IsPadding size padding → is_padding_right size padding ≡ true
-good_is size padding h = rw (ne_eqb padding 0 h.0, eq-eqb (padding % 4) 0 h.1, le-leb padding (size - 4) h.2) refl
-
-wrong_padding : (padded : Bool) (size padding : ℕ) → (padded && not (is_padding_right size padding)) ≡ true →
+wrong_padding : (padded : Bool) (size padding : ℕ) → is_wrong padded size padding ≡ true →
     (padded ≡ true) × (IsPadding size padding → ⊥)
-wrong_padding padded size padding e =
-    let tests = and_parts padded (not (is_padding_right size padding)) e in
-    let is_not : is_padding_right size padding ≡ false = not-true (is_padding_right size padding) tests.1 in
-    (tests.0, λ good. (let is : is_padding_right size padding ≡ true = good_is size padding good in cc))
+wrong_padding false size padding e = absurd cc
+wrong_padding true size padding e = (
+  refl,
+  λ good.
+      elim (or_cases (padding == 0 || not (padding % 4 == 0)) (nat_lt (size - 4) padding) e) [
+        | inr more ↦ omega (arith, good.2, ltb-true (size - 4) padding more)
+        | inl other ↦ elim (or_cases (padding == 0) (not (padding % 4 == 0)) other) [
+          | inl none ↦ good.0 (eqb-true padding 0 none)
+          | inr odd ↦ eqb-false (padding % 4) 0 (not-true (padding % 4 == 0) odd) good.1
+        ]
+      ],
+)
 
-right_padding : (padded : Bool) (size padding : ℕ) → (padded && not (is_padding_right size padding)) ≡ false →
-    padded ≡ true → IsPadding size padding
+right_padding : (padded : Bool) (size padding : ℕ) → is_wrong padded size padding ≡ false → padded ≡ true →
+    IsPadding size padding
 right_padding false size padding e set = absurd cc
-right_padding true size padding e set = is_good size padding (not-false (is_padding_right size padding) e)
+right_padding true size padding e set =
+    let fits = or_parts (padding == 0 || not (padding % 4 == 0)) (nat_lt (size - 4) padding) e in
+    let words = or_parts (padding == 0) (not (padding % 4 == 0)) fits.0 in (
+      eqb-false padding 0 words.0,
+      eqb-true (padding % 4) 0 (not-false (padding % 4 == 0) words.1),
+      ltb-false (size - 4) padding fits.1,
+    )
 
 -- ---- Packets
 
 -- what the tests of a packet found
-abbrev pub PacketTested : Bool → List ℕ → Option FaultReason → Type 0
-PacketTested first b found =
-    MatchOption found (TakesPacket first b (drop (size_of b) b)) (λ reason. IsFirstFound reason first b)
+abbrev pub PacketTested : Bool → List ℕ → Result RtcpPacket FaultReason → Type 0
+PacketTested first b said =
+    MatchResult said (λ packet. (packet ≡ packet_in b) × TakesPacket first b (drop (size_of b) b))
+    (λ reason. IsFirstFound reason first b)
 
 module _ (first : Bool) (b : List ℕ) where
   -- What is found in the body is found of the packet.
-  of_its_body : (found : Option FaultReason) → HasBody first b (body_of b) (type_of b) (count_of b) →
-      BodyTested (type_of b) (count_of b) (body_of b) found → PacketTested first b found
-  of_its_body None has made =
-      packet_passed first b (body_of b) (type_of b) (count_of b) has {A = Unit {0}} (Ok tt) made
-  of_its_body (Some reason) has bad =
+  of_its_body : (said : Result RtcpPacket FaultReason) → HasBody first b (body_of b) (type_of b) (count_of b) →
+      BodyTested (type_of b) (count_of b) (body_of b) said → PacketTested first b said
+  of_its_body (Ok packet) has made =
+      (made.0, packet_passed first b (body_of b) (type_of b) (count_of b) has {A = Unit {0}} (Ok tt) made.1)
+  of_its_body (Err reason) has bad =
       packet_passed first b (body_of b) (type_of b) (count_of b) has {A = Unit {0}} (Err reason) bad
 
   -- the padding and the body of a packet whose header is good
   padding_tested : IsWhole first b → PacketTested first b
-      (if is_padded b && not (is_padding_right (size_of b) (padding_of b)) then Some Padding
-      else body_fault (type_of b) (count_of b) (body_of b))
+      (if is_wrong (is_padded b) (size_of b) (padding_of b) then Err Padding
+      else body_or_fault (type_of b) (count_of b) (body_of b))
   padding_tested good =
       let mine = is_own b good.size in
-      elim (cases_Bool (is_padded b && not (is_padding_right (size_of b) (padding_of b)))) [
+      elim (cases_Bool (is_wrong (is_padded b) (size_of b) (padding_of b))) [
         | inl bad ↦ rw bad (record {
           found = wrong_padding (is_padded b) (size_of b) (padding_of b) bad;
           no_earlier = before_padding first b good;
@@ -102,13 +111,13 @@ module _ (first : Bool) (b : List ℕ) where
             let words : length (body_of b) % 4 ≡ 0 = subst (λ (t : List ℕ). length t % 4 ≡ 0) (sym mine.parts.body)
             (body_is_words (own b) mine.size padding) in
             rw right
-            (of_its_body (body_fault (type_of b) (count_of b) (body_of b))
+            (of_its_body (body_or_fault (type_of b) (count_of b) (body_of b))
             (record { good = good; unpadded = (mine.parts.body, padding); kind_is = refl; count_is = refl })
             (body_tested (type_of b) (count_of b) (body_of b) words)))
       ]
 
   -- the tests in their order
-  packet_tested : PacketTested first b (packet_fault first b)
+  packet_tested : PacketTested first b (packet_or_fault first b)
   packet_tested =
       elim (cases_lt (length b) 4) [
         | inl few ↦ rw (lt-ltb (length b) 4 few) (record { found = few; no_earlier = none_at_first first b })
@@ -116,7 +125,7 @@ module _ (first : Bool) (b : List ℕ) where
           | inr differs ↦ rw (ne_eqb (version_of b) 2 differs)
               (record { found = differs; no_earlier = before_version first b enough })
           | inl version ↦ rw (eq-eqb (version_of b) 2 version)
-              (elim (cases_Bool (first && not (is_report (type_of b)))) [
+              (elim (cases_Bool (first && not (type_of b == 200 || type_of b == 201))) [
                 | inl bad ↦ rw bad (record {
                   found = wrong_type first (type_of b) bad;
                   no_earlier = before_type first b enough version;
@@ -143,37 +152,45 @@ module _ (first : Bool) (b : List ℕ) where
 
 -- the octets of a packet, which were tested
 tested : (skip place : ℕ) (octets : List ℕ) → skip ≤ length octets →
-    fault_after skip place octets ≡ fault_after 0 (place + skip) (drop skip octets)
-tested zero place octets room = ap (λ (n : ℕ). fault_after 0 n octets) (omega arith)
+    packets_or_fault skip place octets ≡ packets_or_fault 0 (place + skip) (drop skip octets)
+tested zero place octets room = ap (λ (n : ℕ). packets_or_fault 0 n octets) (omega arith)
 tested (suc skip) place [] room = absurd (omega arith)
 tested (suc skip) place (o ∷ octets) room =
-    tested skip (suc place) octets (omega arith) ∙ ap (λ (n : ℕ). fault_after 0 n (drop skip octets)) (omega arith)
+    tested skip (suc place) octets (omega arith) ∙ ap (λ (n : ℕ). packets_or_fault 0 n (drop skip octets)) (omega arith)
 
 -- those of the packet that stands first
 one_tested : (place : ℕ) (o : ℕ) (rest : List ℕ) → size_of (o ∷ rest) ≤ suc (length rest) →
-    fault_after (size_of (o ∷ rest) - 1) (suc place) rest
-    ≡ fault_after 0 (place + size_of (o ∷ rest)) (drop (size_of (o ∷ rest)) (o ∷ rest))
+    packets_or_fault (size_of (o ∷ rest) - 1) (suc place) rest
+    ≡ packets_or_fault 0 (place + size_of (o ∷ rest)) (drop (size_of (o ∷ rest)) (o ∷ rest))
 one_tested place o rest room =
     let left : ℕ = size_of (o ∷ rest) - 1 in
     let size : suc left ≡ size_of (o ∷ rest) = omega arith in
     tested left (suc place) rest (omega (arith, size))
-    ∙ ap (λ (n : ℕ). fault_after 0 n (drop left rest)) (omega (arith, size))
-    ∙ ap (λ (n : ℕ). fault_after 0 (place + n) (drop n (o ∷ rest))) size
+    ∙ ap (λ (n : ℕ). packets_or_fault 0 n (drop left rest)) (omega (arith, size))
+    ∙ ap (λ (n : ℕ). packets_or_fault 0 (place + n) (drop n (o ∷ rest))) size
 
--- what the tests of packets found
-abbrev DatagramTested : List ℕ → Option WireFault → Type 0
-DatagramTested datagram found = MatchOption found (IsSomeDatagram datagram) (IsFirstFault datagram)
+-- what the tests of packets found in what is left
+abbrev DatagramTested : (datagram left : List ℕ) → Result (List RtcpPacket) WireFault → Type 0
+DatagramTested datagram left said =
+    MatchResult said (λ packets. (packets ≡ packets_in left) × IsSomeDatagram datagram) (IsFirstFault datagram)
+
+-- one packet before others
+one_packet : (datagram old new : List ℕ) (packet first : RtcpPacket) → packet ≡ first →
+    packets_in old ≡ first ∷ packets_in new → (said : Result (List RtcpPacket) WireFault) →
+    DatagramTested datagram new said → DatagramTested datagram old (result_map (λ packets. packet ∷ packets) said)
+one_packet datagram old new packet first same whole (Ok packets) h = ((λ i. same i ∷ h.0 i) ∙ sym whole, h.1)
+one_packet datagram old new packet first same whole (Err fault) h = h
 
 -- what is found in fewer octets than the bound, after packets that were passed
 abbrev IsTested : ℕ → List ℕ → Type 0
 IsTested bound datagram = (left : List ℕ) (place : ℕ) → length left < bound → HasPassed datagram left → left ≢ [] →
-    place ≡ length datagram - length left → DatagramTested datagram (fault_after 0 place left)
+    place ≡ length datagram - length left → DatagramTested datagram left (packets_or_fault 0 place left)
 
 -- one packet more, to its fault, to the end, or to what follows
 step : (bound : ℕ) (datagram : List ℕ) → IsTested bound datagram → IsTested (suc bound) datagram
 step bound datagram further [] place below h some is = absurd (some refl)
 step bound datagram further (o ∷ rest) place below h some is =
-    by (packet_fault (place == 0) (o ∷ rest)) (packet_tested (place == 0) (o ∷ rest))
+    by (packet_or_fault (place == 0) (o ∷ rest)) (packet_tested (place == 0) (o ∷ rest))
   where
     size : ℕ
     size = size_of (o ∷ rest)
@@ -181,29 +198,36 @@ step bound datagram further (o ∷ rest) place below h some is =
     new : List ℕ
     new = drop size (o ∷ rest)
 
-    by : (found : Option FaultReason) → PacketTested (place == 0) (o ∷ rest) found →
-        DatagramTested datagram (elim found [
-          | None ↦ fault_after (size_of (o ∷ rest) - 1) (suc place) rest
-          | Some reason ↦ Some (record { reason = reason; place = place })
+    by : (said : Result RtcpPacket FaultReason) → PacketTested (place == 0) (o ∷ rest) said →
+        DatagramTested datagram (o ∷ rest) (elim said [
+          | Err reason ↦ Err (record { reason = reason; place = place })
+          | Ok packet ↦ result_map (λ packets. packet ∷ packets)
+              (packets_or_fault (size_of (o ∷ rest) - 1) (suc place) rest)
         ])
-    by (Some reason) bad = stops_next datagram (o ∷ rest) place h is reason bad
-    by None taken =
+    by (Err reason) bad = stops_next datagram (o ∷ rest) place h is reason bad
+    by (Ok packet) found =
+        let taken = found.1 in
         let octets : List ℕ = taken.0 in
+        let first : RtcpPacket = taken.2.0.0 in
         let spelled = taken.2.0.1 in
         let sum : suc (length rest) ≡ length octets + length new = length_parts (o ∷ rest) octets new taken.1 in
         let whole : size ≡ length octets =
-        ap size_of taken.1 ∙ (spelling_parts taken.2.0.0 octets new spelled).header.size ∙ sym spelled.size in
-        let some_octets : 4 ≤ length octets = spelling_length taken.2.0.0 octets spelled in
+        ap size_of taken.1 ∙ (spelling_parts first octets new spelled).header.size ∙ sym spelled.size in
+        let some_octets : 4 ≤ length octets = spelling_length first octets spelled in
         let before : length datagram ≡ length h.prefix + suc (length rest) =
         length_parts datagram h.prefix (o ∷ rest) h.parts in
-        subst (DatagramTested datagram) (sym (one_tested place o rest (omega (arith, whole, sum))))
+        one_packet datagram (o ∷ rest) new packet first
+        (found.0 ∙ ap packet_in taken.1 ∙ packet_read first octets new spelled)
+        (ap packets_in taken.1 ∙ first_packet first octets new spelled)
+        (packets_or_fault (size_of (o ∷ rest) - 1) (suc place) rest)
+        (subst (DatagramTested datagram new) (sym (one_tested place o rest (omega (arith, whole, sum))))
         (elim (cases_eq (length new) 0) [
-          | inl none ↦ subst (λ (t : List ℕ). DatagramTested datagram (fault_after 0 (place + size) t))
-              (sym (nil_from_length new none)) (passed_all datagram (o ∷ rest) place h is new taken none)
+          | inl none ↦ subst (λ (t : List ℕ). DatagramTested datagram t (packets_or_fault 0 (place + size) t))
+              (sym (nil_from_length new none)) (refl, passed_all datagram (o ∷ rest) place h is new taken none)
           | inr more ↦ further new (place + size) (omega (arith, below, sum, some_octets))
               (passed_more datagram (o ∷ rest) place h is new taken more)
               (λ none. more (ap length none)) (omega (arith, is, whole, sum, before))
-        ])
+        ]))
 
 -- all of them, by a bound on the octets that are left
 walk : (bound : ℕ) (datagram : List ℕ) → IsTested bound datagram
@@ -220,17 +244,26 @@ in_datagram octets =
       | inr short ↦ rw (le-ltb 65535 (length octets) short) (elim (cases_eq (length octets) 0) [
         | inl none ↦ rw (eq-eqb (length octets) 0 none) (stops_next octets octets 0 (none_passed octets short)
             (omega arith) Short (record { found = omega (arith, none); no_earlier = none_at_first true octets }))
-        | inr some ↦ rw (ne_eqb (length octets) 0 some) (by (fault_after 0 0 octets)
+        | inr some ↦ rw (ne_eqb (length octets) 0 some) (by (packets_or_fault 0 0 octets)
             (walk (suc (length octets)) octets octets 0 (omega arith) (none_passed octets short)
             (λ none. some (ap length none)) (omega arith)))
       ])
     ]
   where
-    by : (found : Option WireFault) → DatagramTested octets found →
-        MatchResult (elim found [ None ↦ Ok (packets_in octets) | Some fault ↦ Err fault ]) (IsAccepted octets)
-        (IsFirstFault octets)
-    by None read = accepted_as_read octets read
-    by (Some fault) first = first
+    by : (said : Result (List RtcpPacket) WireFault) → DatagramTested octets octets said →
+        MatchResult said (IsAccepted octets) (IsFirstFault octets)
+    by (Ok packets) read = subst (IsAccepted octets) (sym read.0) (accepted_as_read octets read.1)
+    by (Err fault) first = first
+
+-- Each datagram is read, or has a first fault.
+pub always_one : (octets : List ℕ) →
+    ((packets : List RtcpPacket) × IsAccepted octets packets) ⊎ ((fault : WireFault) × IsFirstFault octets fault)
+always_one octets = by (rtcp_in octets) (in_datagram octets)
+  where
+    by : (said : Result (List RtcpPacket) WireFault) → MatchResult said (IsAccepted octets) (IsFirstFault octets) →
+        ((packets : List RtcpPacket) × IsAccepted octets packets) ⊎ ((fault : WireFault) × IsFirstFault octets fault)
+    by (Ok packets) is = inl (packets, is)
+    by (Err fault) is = inr (fault, is)
 
 -- As no datagram has two readings or two faults, or one of each, the outcome is the only one.
 module _ (octets : List ℕ) where

@@ -7,7 +7,9 @@ use Rattle.std.proofs.lemmas.List.Sums.{sum_by-append}
 use Rattle.byteorder.specs.Endian.{big_number}
 use Rattle.rtcp_wire.specs.Values.{ReportBlock, ItemValue, ChunkValue, RtcpPacket, sr, rr, sdes, bye, app, other}
 use Rattle.rtcp_wire.specs.Grammar.{Joins, IsItem, IsChunk, IsReportEnd, IsReasonPart, IsOtherType, IsBody, IsSpelling, IsAccepted}
-use Rattle.rtcp_wire.specs.Readings.{type_of, count_of, size_of, body_of, block_in, sender_in, values_in, blocks_in, ids_in, item_in, items_after, chunk_in, items_size, chunk_size, chunks_in, reason_in, body_says, packet_in, packets_after, packets_in}
+use Rattle.rtcp_wire.specs.Readings.{size_of, block_in, sender_in, values_in}
+use Rattle.rtcp_wire.specs.Headers.{type_of, count_of, body_of}
+use Rattle.rtcp_wire.specs.Walks.{blocks_in, ids_in, item_in, items_after, chunk_in, items_size, chunk_size, chunks_in, reason_in, body_says, packet_in, packets_after, packets_in}
 use Rattle.rtcp_wire.specs.Validity.{IsSomeDatagram}
 use Rattle.rtcp_wire.proofs.Prefixes.{length_parts}
 use Rattle.rtcp_wire.proofs.Fixed.{Says, fixed_length}

@@ -3,7 +3,9 @@ use Rattle.std.proofs.Common.{◌≡◌, ◌≢◌, ℕ, ◌-◌, ◌≤◌, ◌
 use Rattle.std.proofs.lemmas.List.{length-drop, length-take, get_or-take}
 use Rattle.byteorder.specs.Endian.{big_number}
 use Rattle.rtcp_wire.specs.Grammar.{IsAccepted}
-use Rattle.rtcp_wire.specs.Readings.{type_of, count_of, size_of, padding_of, body_of, body_says, packet_in, packets_in}
+use Rattle.rtcp_wire.specs.Readings.{size_of}
+use Rattle.rtcp_wire.specs.Headers.{type_of, count_of, padding_of, body_of}
+use Rattle.rtcp_wire.specs.Walks.{body_says, packet_in, packets_in}
 use Rattle.rtcp_wire.specs.Summaries.{sender_of}
 use Rattle.rtcp_wire.specs.Validity.{IsSomeBody}
 use Rattle.rtcp_wire.specs.Values.{RtcpPacket, sr, rr, sdes, bye, app, other}

@@ -1,12 +1,11 @@
--- Octets are an RTP packet or have a first fault, and never both.
-use Rattle.std.proofs.Common.{◌≡◌, ◌≢◌, ℕ, suc, ◌<◌, ◌≤◌, ◌⊎◌, ◌==◌, if◌then◌else◌, lit<, Bool, true, false, List, [], length, refl, sym, ap, subst, ◌∙◌, arith, inl, inr, Result, Err}
+-- Octets are at most one RTP packet and have at most one first fault, and never both.
+use Rattle.std.proofs.Common.{◌≡◌, ◌≢◌, ℕ, suc, ◌<◌, ◌≤◌, ◌⊎◌, ◌==◌, if◌then◌else◌, lit<, true, List, [], length, refl, sym, ap, subst, ◌∙◌, arith, inl, inr, Result, Err}
 use Rattle.std.proofs.lemmas.Bool.{cases_lt, cases_eq}
 use Rattle.rtcp_wire.specs.declared.rtp.fault.RtpFault.{RtpFault}
 use Rattle.rtcp_wire.specs.declared.rtp.fault.RtpFault.TheVariants.{Short, Version, PayloadType, Extension, Padding}
-use Rattle.rtcp_wire.specs.RtpHeads.{RtpValue, rtp_version_of, has_padding, has_extension, payload_type_of, IsReserved, extension_size, IsRtpHead, lists_size, after_csrcs, after_extension, last_of, FindsRtp, rtp_number_of, IsRtpFault, IsPadded}
-use Rattle.rtcp_wire.specs.RtpReadings.{head_in}
+use Rattle.rtcp_wire.specs.RtpHeads.{RtpValue, rtp_version_of, has_extension, payload_type_of, IsReserved, extension_size, IsRtpHead, lists_size, after_csrcs, after_extension, last_of, FindsRtp, rtp_number_of, IsRtpFault, IsPadded}
 use Rattle.rtcp_wire.proofs.FirstFound.{first_of_all, one_further, one_first}
-use Rattle.rtcp_wire.proofs.RtpHeading.{IsSoundRtp, sound_head, head_made}
+use Rattle.rtcp_wire.proofs.RtpHeading.{IsSoundRtp, sound_head}
 
 -- ---- Packets
 
@@ -115,21 +114,6 @@ is_padding octets room version free extended found = record {
       (λ wrong. omega (arith, extended wrong.0, wrong.1));
 }
 
--- ---- Always one
-
--- whether a payload type is free
-reserved_or_not : (n : ℕ) → IsReserved n ⊎ (IsReserved n → ⊥)
-reserved_or_not n =
-    elim (cases_lt n 72) [
-      | inl low ↦ inr (λ r. omega (arith, r.0))
-      | inr least ↦ elim (cases_lt 76 n) [ inl high ↦ inr (λ r. omega (arith, r.1)) | inr most ↦ inl (least, most) ]
-    ]
-
--- whether there is room for an extension
-extension_or_not : (extended : Bool) (n size : ℕ) → ((extended ≡ true) × (n < size)) ⊎ (extended ≡ true → size ≤ n)
-extension_or_not false n size = inr (λ e. absurd cc)
-extension_or_not true n size = elim (cases_lt n size) [ inl few ↦ inl (refl, few) | inr room ↦ inr (λ e. room) ]
-
 -- why octets end with no padding
 pub not_padded : (octets : List ℕ) → (IsPadded octets → ⊥) →
     (octets ≡ []) ⊎ (last_of octets ≡ 0) ⊎ (length octets < last_of octets)
@@ -139,66 +123,5 @@ not_padded octets bad =
       | inr some ↦ elim (cases_lt (length octets) (last_of octets)) [
         | inl more ↦ inr (inr more)
         | inr fits ↦ absurd (bad (some, fits))
-      ]
-    ]
-
--- whether octets end with padding
-padding_or_not : (octets : List ℕ) → IsPadded octets ⊎ (IsPadded octets → ⊥)
-padding_or_not octets =
-    elim (cases_eq (last_of octets) 0) [
-      | inl zero ↦ inr (λ good. good.0 zero)
-      | inr some ↦ elim (cases_lt (length octets) (last_of octets))
-          [ inl more ↦ inr (λ good. omega (arith, good.1, more)) | inr fits ↦ inl (some, fits) ]
-    ]
-
--- whether there is no padding, or one that is counted right
-padding_is_good : (padded : Bool) (octets : List ℕ) →
-    ((padded ≡ true) × (IsPadded octets → ⊥)) ⊎ (padded ≡ true → IsPadded octets)
-padding_is_good false octets = inr (λ e. absurd cc)
-padding_is_good true octets = elim (padding_or_not octets) [ inl good ↦ inr (λ e. good) | inr bad ↦ inl (refl, bad) ]
-
--- The octets are a packet or have a first fault.
-abbrev IsDecided : List ℕ → Type 0
-IsDecided octets = ((head : RtpValue) × IsRtpHead octets head) ⊎ ((fault : RtpFault) × IsRtpFault octets fault)
-
--- the tests of the extension and the padding
-from_extension : (octets : List ℕ) → lists_size octets ≤ length octets → rtp_version_of octets ≡ 2 →
-    (IsReserved (payload_type_of octets) → ⊥) → IsDecided octets
-from_extension octets room version free =
-    elim (extension_or_not (has_extension octets) (length (after_csrcs octets)) (extension_size (after_csrcs octets))) [
-      | inl few ↦ inr (Extension, is_extension octets room version free few)
-      | inr extended ↦ elim (padding_is_good (has_padding octets) (after_extension octets)) [
-        | inl bad ↦ inr (
-          Padding,
-          is_padding octets room version free extended
-              (bad.0, not_padded (after_extension octets) bad.1),
-        )
-        | inr padded ↦ inl (
-          head_in octets,
-          head_made octets (head_in octets)
-              (record {
-                room = room;
-                version = version;
-                not_reserved = free;
-                extension = extended;
-                padding = padded;
-                says = refl;
-              }),
-        )
-      ]
-    ]
-
--- Each list of octets is a packet or has a first fault.
-pub always_one : (octets : List ℕ) →
-    ((head : RtpValue) × IsRtpHead octets head) ⊎ ((fault : RtpFault) × IsRtpFault octets fault)
-always_one octets =
-    elim (cases_lt (length octets) (lists_size octets)) [
-      | inl few ↦ inr (Short, is_short octets few)
-      | inr room ↦ elim (cases_eq (rtp_version_of octets) 2) [
-        | inr wrong ↦ inr (Version, is_version octets room wrong)
-        | inl version ↦ elim (reserved_or_not (payload_type_of octets)) [
-          | inl reserved ↦ inr (PayloadType, is_payload_type octets room version reserved)
-          | inr free ↦ from_extension octets room version free
-        ]
       ]
     ]

@@ -12,7 +12,7 @@ use Rattle.rtcp_wire.specs.Facts.{facts_of_chunk, facts_of_packet, facts_of}
 use Rattle.rtcp_wire.specs.Sole.{is_presence_of, is_name, clock_told, IsSole}
 use Rattle.rtcp_wire.specs.Summaries.{gives_name, keeps_to, names, all_keep_to, clock_of, sender_of, SumsUp}
 use Rattle.rtcp_wire.specs.Values.{SenderValue, ReportBlock, ChunkValue, RtcpPacket, sr, rr, sdes, bye, app, other}
-use Rattle.rtcp_wire.specs.Readings.{packets_in}
+use Rattle.rtcp_wire.specs.Walks.{packets_in}
 use Rattle.rtcp_wire.proofs.Reporters.{IsReportOf, begins_with_report, some_packet}
 
 -- ---- Truth values

@@ -6,7 +6,8 @@ use Rattle.std.proofs.lemmas.List.{take-append-drop, length-take-le}
 use Rattle.byteorder.specs.Endian.{big_number}
 use Rattle.rtcp_wire.specs.Values.{RtcpPacket}
 use Rattle.rtcp_wire.specs.Grammar.{IsBody, IsSpelling, IsAccepted}
-use Rattle.rtcp_wire.specs.Readings.{version_of, is_padded, count_of, type_of, size_of, padding_of, body_of}
+use Rattle.rtcp_wire.specs.Readings.{size_of}
+use Rattle.rtcp_wire.specs.Headers.{version_of, is_padded, count_of, type_of, padding_of, body_of}
 use Rattle.rtcp_wire.proofs.Joining.{IsNeverEmpty, same_whole}
 use Rattle.rtcp_wire.proofs.Prefixes.{same_prefixes}
 use Rattle.rtcp_wire.proofs.Bodies.{same_body}

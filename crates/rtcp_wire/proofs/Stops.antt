@@ -5,7 +5,8 @@ use Rattle.rtcp_wire.specs.declared.fault.FaultReason.{FaultReason}
 use Rattle.rtcp_wire.specs.declared.fault.FaultReason.TheVariants.{Short, Version, FirstType, FirstPadding, Length, Padding, Body, Item, Reason, TooLong}
 use Rattle.rtcp_wire.specs.Values.{RtcpPacket}
 use Rattle.rtcp_wire.specs.Grammar.{IsPadding, IsBody, IsSpelling, MayBegin}
-use Rattle.rtcp_wire.specs.Readings.{is_padded, count_of, type_of, size_of, padding_of, body_of}
+use Rattle.rtcp_wire.specs.Readings.{size_of}
+use Rattle.rtcp_wire.specs.Headers.{is_padded, count_of, type_of, padding_of, body_of}
 use Rattle.rtcp_wire.specs.Faults.{FindsInBody, Finds, number_of, IsFirstFound, MayStand}
 use Rattle.rtcp_wire.proofs.BodyFaults.{no_body_fault}
 use Rattle.rtcp_wire.proofs.FirstFound.{one_first}

@@ -12,7 +12,7 @@ use Rattle.rtcp_wire.specs.Parts.{TakesPrefix}
 use Rattle.rtcp_wire.specs.Summaries.{gives_name, names, keeps_to, all_keep_to, Adds, AddsChunk, AddsPacket, SumsUp}
 use Rattle.rtcp_wire.specs.Validity.{PassesItems, IsSomeChunk}
 use Rattle.rtcp_wire.specs.Values.{ItemValue, ChunkValue, RtcpPacket, sdes}
-use Rattle.rtcp_wire.specs.Readings.{items_after, chunk_in, chunk_size, chunks_in, packet_in, packets_in}
+use Rattle.rtcp_wire.specs.Walks.{items_after, chunk_in, chunk_size, chunks_in, packet_in, packets_in}
 use Rattle.rtcp_wire.proofs.PacketOrFault.{TakesPacket}
 use Rattle.rtcp_wire.proofs.Prefixes.{length_parts}
 use Rattle.rtcp_wire.proofs.ReadingWalks.{first_item, after_chunk, packet_read, first_packet}

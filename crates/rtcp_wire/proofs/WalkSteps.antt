@@ -2,7 +2,8 @@
 use Rattle.std.proofs.Common.{◌≡◌, ℕ, suc, ◌*◌, ◌/◌, ◌≤◌, List, [], ◌∷◌, length, take, drop, refl, sym, ap, ◌∙◌, append-nil, arith}
 use Rattle.std.proofs.lemmas.List.{take-append-drop, length-drop, length-take-le}
 use Rattle.byteorder.specs.Endian.{big_number}
-use Rattle.rtcp_wire.specs.Readings.{block_in, values_in, blocks_in, ids_in}
+use Rattle.rtcp_wire.specs.Readings.{block_in, values_in}
+use Rattle.rtcp_wire.specs.Walks.{blocks_in, ids_in}
 use Rattle.rtcp_wire.specs.RtpHeads.{csrcs_in}
 use Rattle.rtcp_wire.specs.Views.{block_values, id_values}
 use Rattle.rtcp_wire.proofs.Fixed.{fixed_from, big_number-take}

@@ -1,15 +1,11 @@
 -- Packets that are passed one after the other, to the datagram's end or to its first fault: a lemma for each step of
--- the
--- tests, and a walk over any datagram by these steps.
-use Rattle.std.proofs.Common.{◌≡◌, ◌≢◌, ℕ, zero, suc, ◌-◌, ◌<◌, ◌≤◌, ◌⊎◌, ◌==◌, true, List, [], ◌∷◌, ◌++◌, length, drop, refl, sym, ap, subst, ◌∙◌, append_assoc, append-nil, arith, inl, inr}
-use Rattle.std.proofs.lemmas.Bool.{cases_lt, cases_eq, eq-eqb}
+-- the tests.
+use Rattle.std.proofs.Common.{◌≡◌, ◌≢◌, ℕ, ◌-◌, ◌≤◌, ◌⊎◌, ◌==◌, true, List, [], ◌∷◌, ◌++◌, length, refl, sym, ap, subst, ◌∙◌, append_assoc, append-nil, arith, inl, inr}
+use Rattle.std.proofs.lemmas.Bool.{eq-eqb}
 use Rattle.std.proofs.lemmas.List.{nil_from_length}
 use Rattle.rtcp_wire.specs.declared.fault.FaultReason.{FaultReason}
-use Rattle.rtcp_wire.specs.declared.fault.FaultReason.TheVariants.{TooLong}
-use Rattle.rtcp_wire.specs.declared.fault.WireFault.{WireFault}
 use Rattle.rtcp_wire.specs.Values.{RtcpPacket}
 use Rattle.rtcp_wire.specs.Grammar.{IsSpelling, MayBegin}
-use Rattle.rtcp_wire.specs.Readings.{size_of}
 use Rattle.rtcp_wire.specs.Faults.{IsFirstFound, IsFirstFault}
 use Rattle.rtcp_wire.specs.Validity.{IsSomeDatagram}
 use Rattle.rtcp_wire.proofs.Joining.{Joins-push}
@@ -17,7 +13,7 @@ use Rattle.rtcp_wire.proofs.Prefixes.{cons_not_nil, length_parts}
 use Rattle.rtcp_wire.proofs.Spellings.{same_header, spelling_length}
 use Rattle.rtcp_wire.proofs.Stops.{finds_no_spelling, begins_on}
 use Rattle.rtcp_wire.proofs.Refusals.{IsBefore, packets_before}
-use Rattle.rtcp_wire.proofs.PacketOrFault.{TakesPacket, packet_from}
+use Rattle.rtcp_wire.proofs.PacketOrFault.{TakesPacket}
 
 -- Packets were passed up to what is left, and something is left to read.
 pub record HasPassed (datagram left : List ℕ) : Type 0 where
@@ -117,39 +113,3 @@ module _ (datagram old : List ℕ) (place : ℕ) (h : HasPassed datagram old)
         let whole : datagram ≡ longer = parts_of ∙ ap (λ (t : List ℕ). longer ++ t) (nil_from_length new none)
         ∙ append-nil longer in
         subst IsSomeDatagram (sym whole) accepted
-
--- the two outcomes
-abbrev IsDecided : List ℕ → Type 0
-IsDecided datagram = IsSomeDatagram datagram ⊎ ((fault : WireFault) × IsFirstFault datagram fault)
-
--- packet after packet, to the end or to the first fault
-walk : (bound : ℕ) (datagram left : List ℕ) → length left < bound → HasPassed datagram left → IsDecided datagram
-walk zero datagram left below h = absurd (omega arith)
-walk (suc n) datagram left below h =
-    let place : ℕ = length datagram - length left in
-    let new : List ℕ = drop (size_of left) left in
-    elim (packet_from (place == 0) left) [
-      | inr fault ↦ inr (
-        record { reason = fault.0; place = place },
-        stops_next datagram left place h refl fault.0 fault.1,
-      )
-      | inl taken ↦ elim (cases_eq (length new) 0) [
-        | inl none ↦ inl (passed_all datagram left place h refl new taken none)
-        | inr some ↦ walk n datagram new
-            (omega (
-              arith,
-              below,
-              length_parts left taken.0 new taken.1,
-              spelling_length taken.2.0.0 taken.0 taken.2.0.1,
-            ))
-            (passed_more datagram left place h refl new taken some)
-      ]
-    ]
-
--- Each datagram is read, or has a first fault.
-pub always_one : (datagram : List ℕ) → IsDecided datagram
-always_one datagram =
-    elim (cases_lt 65535 (length datagram)) [
-      | inl long ↦ inr (record { reason = TooLong; place = 0 }, inl (long, refl, refl))
-      | inr short ↦ walk (suc (length datagram)) datagram datagram (omega arith) (none_passed datagram short)
-    ]

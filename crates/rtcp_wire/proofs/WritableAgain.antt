@@ -6,7 +6,8 @@ use Rattle.std.proofs.lemmas.List.Elements.{All-drop, All-take}
 use Rattle.byteorder.specs.Endian.{big_number}
 use Rattle.rtcp_wire.specs.Values.{RtcpPacket, sr, rr, sdes, bye, app, other}
 use Rattle.rtcp_wire.specs.Grammar.{AreOctets, Joins, IsPadding, IsId, IsChunk, IsBody, IsSpelling, MayBegin, IsAccepted}
-use Rattle.rtcp_wire.specs.Readings.{type_of, size_of, padding_of, body_of, is_padded}
+use Rattle.rtcp_wire.specs.Readings.{size_of}
+use Rattle.rtcp_wire.specs.Headers.{type_of, padding_of, body_of, is_padded}
 use Rattle.rtcp_wire.specs.Writing.{written_word, written_chunk, written_reason, written_body, written, written_all, IsWritableChunk, HasWritableParts, IsWritable, IsChunkInRange, IsInRange, BeginsWithReport}
 use Rattle.rtcp_wire.proofs.Appending.{same_size}
 use Rattle.rtcp_wire.proofs.Fixed.{fixed_length}

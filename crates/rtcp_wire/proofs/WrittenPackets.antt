@@ -7,7 +7,8 @@ use Rattle.std.proofs.lemmas.List.Concat.{flat_map-append}
 use Rattle.byteorder.specs.Numbers.{big_number-reads_back}
 use Rattle.rtcp_wire.specs.Values.{ReportBlock, RtcpPacket, sr, rr, sdes, bye, app, other}
 use Rattle.rtcp_wire.specs.Grammar.{IsBlock, IsId, IsChunk, IsReportEnd, IsBody, IsSpelling, MayBegin, IsAccepted}
-use Rattle.rtcp_wire.specs.Readings.{version_of, is_padded, count_of, type_of, size_of, padding_of, body_of}
+use Rattle.rtcp_wire.specs.Readings.{size_of}
+use Rattle.rtcp_wire.specs.Headers.{version_of, is_padded, count_of, type_of, padding_of, body_of}
 use Rattle.rtcp_wire.specs.Writing.{written_word, written_block, written_sender, written_chunk, written_reason, written_header, written_body, written_count, written_type, written, written_all, IsWritableBlock, IsWritableChunk, IsWords, HasWritableParts, IsWritable, IsBlockInRange, IsChunkInRange, IsInRange, BeginsWithReport, ReadsBack}
 use Rattle.rtcp_wire.proofs.Written.{joins_written, both_all, words_joined, id_written, sender_written, block_written, chunk_words, chunk_written, reason_words, reason_written}
 

@@ -27,19 +27,15 @@ is_media _ = false
 
 -- ---- The facts of packets
 
--- a CNAME, an item of type 1 (6.5.1), however long its text
-abbrev pub is_cname : ItemValue → Bool
-is_cname item = item.kind == 1
-
--- A chunk's source was heard, and gave its name if one of the chunk's items is a CNAME: one fact, however
--- many CNAMEs there are.
+-- A chunk's source was heard, and gave its name if one of the chunk's items is a CNAME, an item of type 1 (6.5.1),
+-- however long its text: one fact, however many CNAMEs there are.
 abbrev pub facts_of_chunk : ChunkValue → List Fact
-facts_of_chunk chunk = Heard chunk.id ∷ (if list_any is_cname chunk.items then Named chunk.id ∷ [] else [])
+facts_of_chunk chunk =
+    Heard chunk.id ∷ (if list_any (λ item. item.kind == 1) chunk.items then Named chunk.id ∷ [] else [])
 
 -- what one packet says
 abbrev pub facts_of_packet : RtcpPacket → List Fact
-facts_of_packet (sr sender blocks extension) =
-    Heard sender.ssrc ∷ Told sender.ssrc sender.ntp sender.rtp ∷ []
+facts_of_packet (sr sender blocks extension) = Heard sender.ssrc ∷ Told sender.ssrc sender.ntp sender.rtp ∷ []
 facts_of_packet (rr ssrc blocks extension) = Heard ssrc ∷ []
 facts_of_packet (sdes chunks) = flat_map facts_of_chunk chunks
 facts_of_packet (bye ids reason) = map Gone ids
@@ -49,3 +45,9 @@ facts_of_packet (other kind count body) = []
 -- what a compound says, packet after packet
 abbrev pub facts_of : List RtcpPacket → List Fact
 facts_of packets = flat_map facts_of_packet packets
+
+-- ---- For the contracts on chunks
+
+-- whether an item is a CNAME
+abbrev pub is_cname : ItemValue → Bool
+is_cname item = item.kind == 1

@@ -7,7 +7,8 @@ use Rattle.rtcp_wire.specs.declared.fault.FaultReason.TheVariants.{Short, Versio
 use Rattle.rtcp_wire.specs.declared.fault.WireFault.{WireFault}
 use Rattle.rtcp_wire.specs.Values.{ItemValue, ChunkValue, RtcpPacket}
 use Rattle.rtcp_wire.specs.Grammar.{Joins, IsPadding, IsItem, IsChunk, IsSpelling, MayBegin, IsAccepted}
-use Rattle.rtcp_wire.specs.Readings.{version_of, is_padded, count_of, type_of, size_of, padding_of, body_of, least_size}
+use Rattle.rtcp_wire.specs.Readings.{size_of}
+use Rattle.rtcp_wire.specs.Headers.{version_of, is_padded, count_of, type_of, padding_of, body_of}
 
 -- A chunk that is counted is missing: fewer than four octets are left for its identifier. Or octets are left
 -- after the last chunk.
@@ -44,6 +45,16 @@ pub record EndsInsideChunk (count : ℕ) (body : List ℕ) : Type 0 where
 abbrev pub IsNoReason : List ℕ → Type 0
 IsNoReason [] = ⊥
 IsNoReason (size ∷ text) = (length text < size) ⊎ (size + 4 ≤ length text)
+
+-- The fewest octets that a body of this type and count can have (6.4.1, 6.4.2, 6.6, 6.7). A source
+-- description has no such bound: its chunks are of any length.
+abbrev pub least_size : ℕ → ℕ → ℕ
+least_size kind count =
+    if kind == 200 then 24 + 24 * count
+    else if kind == 201 then 4 + 24 * count
+    else if kind == 203 then 4 * count
+    else if kind == 204 then 8
+    else 0
 
 -- The test of a reason at a packet's body, under its type and count.
 abbrev pub FindsInBody : FaultReason → ℕ → ℕ → List ℕ → Type 0

@@ -2,10 +2,11 @@
 -- Octets are a list of numbers, the first octet first. An encoding is called a spelling here: a packet has
 -- several, since some octets are free. Fields of fixed size are computed; what has parts is said by how they
 -- are joined.
-use Rattle.std.specs.Prelude.{◌≡◌, ◌≢◌, ℕ, ◌+◌, ◌-◌, ◌*◌, ◌/◌, ◌%◌, ◌<◌, ◌≤◌, ◌⊎◌, ◌==◌, Bool, true, false, if◌then◌else◌, List, [], ◌∷◌, ◌++◌, Option, Some, None, All, length, take, drop, slice_index}
-use Rattle.byteorder.specs.Endian.{big_number, twos_complement}
+use Rattle.std.specs.Prelude.{◌≡◌, ◌≢◌, ℕ, ◌-◌, ◌%◌, ◌<◌, ◌≤◌, ◌⊎◌, true, false, List, [], ◌∷◌, ◌++◌, Option, Some, None, All, length}
+use Rattle.byteorder.specs.Endian.{big_number}
 use Rattle.rtcp_wire.specs.Values.{SenderValue, ReportBlock, ItemValue, ChunkValue, RtcpPacket, sr, rr, sdes, bye, app, other}
-use Rattle.rtcp_wire.specs.Readings.{version_of, is_padded, count_of, type_of, size_of, padding_of, body_of, block_in, sender_in}
+use Rattle.rtcp_wire.specs.Readings.{size_of, block_in, sender_in}
+use Rattle.rtcp_wire.specs.Headers.{version_of, is_padded, count_of, type_of, padding_of, body_of}
 
 -- The numbers are octets, as those of a datagram in memory always are.
 abbrev pub AreOctets : List ℕ → Type 0

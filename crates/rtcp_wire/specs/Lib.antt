@@ -1,5 +1,6 @@
 pub mod Values
 pub mod Readings
+pub mod Headers
 pub mod Grammar
 pub mod Faults
 pub mod Views

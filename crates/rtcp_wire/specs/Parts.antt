@@ -2,7 +2,8 @@
 use Rattle.std.specs.Prelude.{◌≡◌, ℕ, ◌≤◌, Bool, true, List, ◌++◌, length}
 use Rattle.rtcp_wire.specs.Values.{ItemValue}
 use Rattle.rtcp_wire.specs.Grammar.{Joins, IsItem, IsPadding}
-use Rattle.rtcp_wire.specs.Readings.{version_of, is_padded, size_of, padding_of, body_of}
+use Rattle.rtcp_wire.specs.Readings.{size_of}
+use Rattle.rtcp_wire.specs.Headers.{version_of, is_padded, padding_of, body_of}
 use Rattle.rtcp_wire.specs.Faults.{IsCut, MayStand}
 
 -- A part was taken from the start of the octets, and the rest is left.

@@ -7,7 +7,7 @@ use Rattle.rtcp_wire.specs.declared.sr.SenderReport.{SenderReport}
 use Rattle.rtcp_wire.specs.declared.packet.PacketView.{PacketView}
 use Rattle.rtcp_wire.specs.declared.packet.PacketView.TheVariants.{Sr, Rr, Sdes, Bye, App, Other}
 use Rattle.rtcp_wire.specs.Values.{SenderValue, ReportBlock, RtcpPacket, sr, rr, sdes, bye, app, other}
-use Rattle.rtcp_wire.specs.Readings.{blocks_in, ids_in}
+use Rattle.rtcp_wire.specs.Walks.{blocks_in, ids_in}
 
 abbrev pub block_value : Block → ReportBlock
 block_value b = record {

@@ -13,24 +13,17 @@ use Rattle.rtcp_wire.specs.Grammar.{IsOtherType, IsAccepted}
 abbrev pub fill_after : ℕ → List ℕ
 fill_after size = replicate ((4 - size % 4) % 4) 0
 
--- an identifier, or another number of a word
-abbrev pub written_word : ℕ → List ℕ
-written_word number = big_bytes 4 number
-
 -- A block (6.4.1). The packets lost are a two's complement of 24 bits.
 abbrev pub written_block : ReportBlock → List ℕ
 written_block block =
-    written_word block.ssrc
-    ++ (block.fraction ∷ big_bytes 3 (low_bytes w64 3 block.lost)
-    ++ (written_word block.highest
-    ++ (written_word block.jitter ++ (written_word block.lsr ++ written_word block.dlsr))))
+    big_bytes 4 block.ssrc ++ (block.fraction ∷ big_bytes 3 (low_bytes w64 3 block.lost)
+    ++ flat_map (big_bytes 4) (block.highest ∷ block.jitter ∷ block.lsr ∷ block.dlsr ∷ []))
 
 -- what a sender report says of its sender (6.4.1)
 abbrev pub written_sender : SenderValue → List ℕ
 written_sender sender =
-    written_word sender.ssrc
-    ++ (big_bytes 8 sender.ntp
-    ++ (written_word sender.rtp ++ (written_word sender.packets ++ written_word sender.octets)))
+    big_bytes 4 sender.ssrc
+    ++ (big_bytes 8 sender.ntp ++ flat_map (big_bytes 4) (sender.rtp ∷ sender.packets ∷ sender.octets ∷ []))
 
 -- An item (6.5): its type, the length of its text, and the text.
 abbrev pub written_item : ItemValue → List ℕ
@@ -40,7 +33,7 @@ written_item item = item.kind ∷ length item.text ∷ item.text
 abbrev pub written_chunk : ChunkValue → List ℕ
 written_chunk chunk =
     let items = flat_map written_item chunk.items in
-    written_word chunk.id ++ (items ++ 0 ∷ fill_after (length items + 1))
+    big_bytes 4 chunk.id ++ (items ++ 0 ∷ fill_after (length items + 1))
 
 -- A reason (6.6): the length of its text, the text, and zeros that fill the word.
 abbrev pub written_reason : Option (List ℕ) → List ℕ
@@ -49,47 +42,48 @@ written_reason (Some text) = length text ∷ (text ++ fill_after (length text + 
 
 -- ---- Packets
 
--- what follows the header's word
-abbrev pub written_body : RtcpPacket → List ℕ
-written_body (sr sender blocks extension) =
-    written_sender sender ++ (flat_map written_block blocks ++ extension)
-written_body (rr ssrc blocks extension) = written_word ssrc ++ (flat_map written_block blocks ++ extension)
-written_body (sdes chunks) = flat_map written_chunk chunks
-written_body (bye ids reason) = flat_map written_word ids ++ written_reason reason
-written_body (app subtype ssrc name content) = written_word ssrc ++ (name ++ content)
-written_body (other kind count body) = body
+-- What the header says of a packet, a count or a subtype (6.4 to 6.7) and the type, and what follows the header's word.
+abbrev pub written_parts : RtcpPacket → ℕ × ℕ × List ℕ
+written_parts (sr sender blocks extension) =
+    (length blocks, 200, written_sender sender ++ (flat_map written_block blocks ++ extension))
+written_parts (rr ssrc blocks extension) =
+    (length blocks, 201, big_bytes 4 ssrc ++ (flat_map written_block blocks ++ extension))
+written_parts (sdes chunks) = (length chunks, 202, flat_map written_chunk chunks)
+written_parts (bye ids reason) = (length ids, 203, flat_map (big_bytes 4) ids ++ written_reason reason)
+written_parts (app subtype ssrc name content) = (subtype, 204, big_bytes 4 ssrc ++ (name ++ content))
+written_parts (other kind count body) = (count, kind, body)
 
--- what the five bits of the header say: a count, or a subtype
-abbrev pub written_count : RtcpPacket → ℕ
-written_count (sr sender blocks extension) = length blocks
-written_count (rr ssrc blocks extension) = length blocks
-written_count (sdes chunks) = length chunks
-written_count (bye ids reason) = length ids
-written_count (app subtype ssrc name content) = subtype
-written_count (other kind count body) = count
-
-abbrev pub written_type : RtcpPacket → ℕ
-written_type (sr sender blocks extension) = 200
-written_type (rr ssrc blocks extension) = 201
-written_type (sdes chunks) = 202
-written_type (bye ids reason) = 203
-written_type (app subtype ssrc name content) = 204
-written_type (other kind count body) = kind
-
--- The header's word (6.4.1): version 2, no padding, the count; the type; the length in words less one, which
--- is that of the body.
-abbrev pub written_header : ℕ → ℕ → ℕ → List ℕ
-written_header count kind size = (128 + count) ∷ kind ∷ big_bytes 2 (size / 4)
-
--- the packet's octets
+-- The packet's octets. The header's word (6.4.1) is version 2, no padding, and the count; the type; and the length in
+-- words less one, which is that of the body.
 abbrev pub written : RtcpPacket → List ℕ
 written packet =
-    written_header (written_count packet) (written_type packet) (length (written_body packet))
-    ++ written_body packet
+    let parts : ℕ × ℕ × List ℕ = written_parts packet in
+    (128 + parts.0) ∷ parts.1 ∷ (big_bytes 2 (length parts.2 / 4) ++ parts.2)
 
 -- the octets of one packet after the other
 abbrev pub written_all : List RtcpPacket → List ℕ
 written_all packets = flat_map written packets
+
+-- ---- Parts of what is written, for the contracts between the writers
+
+-- an identifier, or another number of a word
+abbrev pub written_word : ℕ → List ℕ
+written_word number = big_bytes 4 number
+
+-- the header's word, over a body of this size
+abbrev pub written_header : (count kind size : ℕ) → List ℕ
+written_header count kind size = (128 + count) ∷ kind ∷ big_bytes 2 (size / 4)
+
+-- what the five bits of the header say: a count, or a subtype
+abbrev pub written_count : RtcpPacket → ℕ
+written_count packet = (written_parts packet).0
+
+abbrev pub written_type : RtcpPacket → ℕ
+written_type packet = (written_parts packet).1
+
+-- what follows the header's word
+abbrev pub written_body : RtcpPacket → List ℕ
+written_body packet = (written_parts packet).2
 
 -- ---- What can be written
 

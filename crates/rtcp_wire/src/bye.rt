@@ -3,7 +3,7 @@
 ghost use Rattle.std.specs.Prelude.{◌≡◌, ◌≤◌, ◌*◌, length, take, drop, option_copied};
 ghost use Rattle.rtcp_wire.specs.Validity.{IsSomeReason};
 ghost use Rattle.rtcp_wire.specs.Views.{goodbye_ids};
-ghost use Rattle.rtcp_wire.specs.Readings.{ids_in, reason_in};
+ghost use Rattle.rtcp_wire.specs.Walks.{ids_in, reason_in};
 
 use crate::ids::Ids;
 use crate::layout::ID_SIZE;

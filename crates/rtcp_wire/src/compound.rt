@@ -8,7 +8,7 @@ ghost use Rattle.rtcp_wire.specs.Faults.{IsFirstFault};
 ghost use Rattle.rtcp_wire.specs.Facts.{facts_of};
 ghost use Rattle.rtcp_wire.specs.Sole.{is_name, IsSole};
 ghost use Rattle.rtcp_wire.specs.Summaries.{clock_of};
-ghost use Rattle.rtcp_wire.specs.Readings.{packets_in};
+ghost use Rattle.rtcp_wire.specs.Walks.{packets_in};
 ghost use Rattle.rtcp_wire.specs.About.{blocks_about};
 ghost use Rattle.rtcp_wire.specs.declared.fault.WireFault.{WireFault as Fault};
 ghost use Rattle.rtcp_wire.specs.declared.sole.SoleSource.{SoleSource as Source};

@@ -1,7 +1,8 @@
 //! The word that begins each packet (RFC 3550, 6.4.1).
 
 ghost use Rattle.std.specs.Prelude.{◌≡◌, ◌≤◌, length, MatchResult, IfOk, false};
-ghost use Rattle.rtcp_wire.specs.Readings.{version_of, is_padded, count_of, type_of, size_of, body_of};
+ghost use Rattle.rtcp_wire.specs.Readings.{size_of};
+ghost use Rattle.rtcp_wire.specs.Headers.{version_of, is_padded, count_of, type_of, body_of};
 ghost use Rattle.rtcp_wire.specs.Validity.{IsSomePacket};
 ghost use Rattle.rtcp_wire.specs.Parts.{IsWhole, IsUnpadded};
 ghost use Rattle.rtcp_wire.specs.Faults.{Finds, IsFirstFound};

@@ -8,7 +8,8 @@ ghost use Rattle.rtcp_wire.specs.Contents.{all_blocks};
 ghost use Rattle.rtcp_wire.specs.Grammar.{IsSpelling, IsAccepted};
 ghost use Rattle.rtcp_wire.specs.Faults.{IsFirstFault};
 ghost use Rattle.rtcp_wire.specs.Facts.{is_media, facts_of};
-ghost use Rattle.rtcp_wire.specs.Readings.{rtcp_in, packets_in};
+ghost use Rattle.rtcp_wire.specs.Readings.{rtcp_in};
+ghost use Rattle.rtcp_wire.specs.Walks.{packets_in};
 ghost use Rattle.rtcp_wire.specs.Values.{RtcpPacket};
 ghost use Rattle.rtcp_wire.specs.declared.fault.WireFault.{WireFault};
 

@@ -3,7 +3,7 @@
 ghost use Rattle.std.specs.Prelude.{◌≡◌};
 ghost use Rattle.rtcp_wire.specs.Validity.{IsSomeBody};
 ghost use Rattle.rtcp_wire.specs.Views.{packet_value};
-ghost use Rattle.rtcp_wire.specs.Readings.{body_says};
+ghost use Rattle.rtcp_wire.specs.Walks.{body_says};
 
 use crate::app::{Application, application_from};
 use crate::bye::{Goodbye, goodbye_from};

@@ -3,7 +3,7 @@
 ghost use Rattle.std.specs.Prelude.{◌≡◌, ◌≤◌, ◌+◌, ◌*◌, length, take, drop};
 ghost use Rattle.byteorder.specs.Endian.{big_number};
 ghost use Rattle.rtcp_wire.specs.Views.{receiver_blocks};
-ghost use Rattle.rtcp_wire.specs.Readings.{blocks_in};
+ghost use Rattle.rtcp_wire.specs.Walks.{blocks_in};
 
 use crate::block::{BLOCK_SIZE, Blocks};
 use crate::reader::Reader;

@@ -1,7 +1,8 @@
 //! Sender reports (RFC 3550, 6.4.1).
 
 ghost use Rattle.std.specs.Prelude.{◌≡◌, ◌≤◌, ◌+◌, ◌*◌, length, take, drop};
-ghost use Rattle.rtcp_wire.specs.Readings.{sender_in, blocks_in};
+ghost use Rattle.rtcp_wire.specs.Readings.{sender_in};
+ghost use Rattle.rtcp_wire.specs.Walks.{blocks_in};
 ghost use Rattle.rtcp_wire.specs.Views.{sender_value, sender_blocks};
 
 use crate::block::{BLOCK_SIZE, Blocks};

@@ -7,7 +7,7 @@ ghost use Rattle.rtcp_wire.specs.Faults.{FindsInBody, IsNoReason, IsFirstFound, 
 ghost use Rattle.rtcp_wire.specs.Parts.{TakesPrefix};
 ghost use Rattle.rtcp_wire.specs.Summaries.{AddsPacket, IsNone, SumsUp, sender_of};
 ghost use Rattle.rtcp_wire.specs.Validity.{IsSomeBody, IsSomePacket, IsSomeDatagram};
-ghost use Rattle.rtcp_wire.specs.Readings.{body_says, packet_in, packets_in};
+ghost use Rattle.rtcp_wire.specs.Walks.{body_says, packet_in, packets_in};
 
 mod chunks;
 mod summary;

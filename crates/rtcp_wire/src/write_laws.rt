@@ -4,7 +4,7 @@
 ghost use Rattle.std.specs.Prelude.{◌≡◌, ◌+◌, ◌*◌, ◌≤◌, ◌++◌, ℕ, false, List, [], All, length, sum_by};
 ghost use Rattle.rtcp_wire.specs.Contents.{all_items, all_goodbyes, all_blocks};
 ghost use Rattle.rtcp_wire.specs.Grammar.{AreOctets, IsSpelling, IsAccepted};
-ghost use Rattle.rtcp_wire.specs.Readings.{is_padded};
+ghost use Rattle.rtcp_wire.specs.Headers.{is_padded};
 ghost use Rattle.rtcp_wire.specs.Values.{RtcpPacket, ReportBlock, SenderValue, rr, sr};
 ghost use Rattle.rtcp_wire.specs.Writing.{written, written_all, IsWritable, IsInRange, BeginsWithReport, IsWritableBlock, IsWritableItem, IsWritableReason};
 

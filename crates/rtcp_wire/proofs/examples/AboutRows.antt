@@ -1,7 +1,7 @@
 -- Worked examples: the blocks that name a source, of packets that are written out and of octets.
 use Rattle.std.proofs.Common.{◌≡◌, ℕ, pos, negsuc, List, [], ◌∷◌, ◌++◌, None}
 use Rattle.rtcp_wire.specs.Values.{SenderValue, ReportBlock, sr, rr, sdes, bye, app, other}
-use Rattle.rtcp_wire.specs.Readings.{packets_in}
+use Rattle.rtcp_wire.specs.Walks.{packets_in}
 use Rattle.rtcp_wire.specs.About.{blocks_about}
 
 -- ---- What the packets have

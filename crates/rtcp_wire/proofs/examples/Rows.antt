@@ -5,7 +5,8 @@ use Rattle.rtcp_wire.specs.declared.fault.FaultReason.{FaultReason}
 use Rattle.rtcp_wire.specs.declared.fault.FaultReason.TheVariants.{Short, FirstPadding, Length, Body, Item}
 use Rattle.rtcp_wire.specs.Values.{ItemValue, ChunkValue, RtcpPacket, rr, sdes, bye}
 use Rattle.rtcp_wire.specs.Grammar.{IsReasonPart, IsGoodbye, IsBody, IsSpelling, MayBegin, IsAccepted}
-use Rattle.rtcp_wire.specs.Readings.{version_of, is_padded, count_of, type_of, size_of, body_of}
+use Rattle.rtcp_wire.specs.Readings.{size_of}
+use Rattle.rtcp_wire.specs.Headers.{version_of, is_padded, count_of, type_of, body_of}
 use Rattle.rtcp_wire.specs.Faults.{EndsInsideChunk, FindsInBody, IsFirstFound, IsFirstFault}
 use Rattle.rtcp_wire.specs.Parts.{IsWhole}
 use Rattle.rtcp_wire.proofs.Joining.{Joins-one}

@@ -1,7 +1,7 @@
 -- Worked examples: what a walk reads, computed octet by octet.
 use Rattle.std.proofs.Common.{◌≡◌, ℕ, pos, List, [], ◌∷◌, ◌++◌, Some, None}
 use Rattle.rtcp_wire.specs.Values.{ItemValue, rr, sdes, bye, app, other}
-use Rattle.rtcp_wire.specs.Readings.{packets_in}
+use Rattle.rtcp_wire.specs.Walks.{packets_in}
 
 -- 80c90001 00000007: an empty receiver report
 abbrev report : List ℕ

@@ -4,7 +4,7 @@ ghost use Rattle.std.specs.Prelude.{◌≡◌};
 ghost use Rattle.std.specs.Iterator.{YieldsFirstBy, item_count};
 ghost use Rattle.rtcp_wire.specs.Grammar.{Joins, IsSpelling};
 ghost use Rattle.rtcp_wire.specs.Views.{packet_value};
-ghost use Rattle.rtcp_wire.specs.Readings.{packets_in};
+ghost use Rattle.rtcp_wire.specs.Walks.{packets_in};
 
 use crate::header::{accepted_body, header_at};
 use crate::packet::{PacketView, packet_from};

@@ -5,7 +5,7 @@ ghost use Rattle.std.specs.Iterator.{YieldsFirst, item_count};
 ghost use Rattle.std.specs.List.{list_any};
 ghost use Rattle.rtcp_wire.specs.Facts.{is_cname};
 ghost use Rattle.rtcp_wire.specs.Validity.{HasItems, HasChunks};
-ghost use Rattle.rtcp_wire.specs.Readings.{items_after, chunk_size, chunks_in};
+ghost use Rattle.rtcp_wire.specs.Walks.{items_after, chunk_size, chunks_in};
 
 use super::CNAME;
 use super::items::{Items, octets_of_items};

@@ -3,7 +3,7 @@
 ghost use Rattle.std.specs.Prelude.{◌≡◌, ◌≢◌, ◌≤◌, length, take, drop, slice_index};
 ghost use Rattle.std.specs.Iterator.{YieldsFirstBy, item_count};
 ghost use Rattle.rtcp_wire.specs.Validity.{HasItems};
-ghost use Rattle.rtcp_wire.specs.Readings.{items_after, items_size};
+ghost use Rattle.rtcp_wire.specs.Walks.{items_after, items_size};
 ghost use Rattle.rtcp_wire.specs.WriterViews.{item_ref_of};
 
 use crate::writer::ItemRef;

@@ -6,7 +6,7 @@ ghost use Rattle.rtcp_wire.specs.Parts.{TakesPrefix, EndsInItems, EndsInChunk};
 ghost use Rattle.rtcp_wire.specs.Summaries.{sender_of, AddsChunk, AddsPacket};
 ghost use Rattle.rtcp_wire.specs.Validity.{PassesItems, IsSomeChunk, IsSomeBody};
 ghost use Rattle.rtcp_wire.specs.Values.{sdes};
-ghost use Rattle.rtcp_wire.specs.Readings.{chunk_in, chunks_in};
+ghost use Rattle.rtcp_wire.specs.Walks.{chunk_in, chunks_in};
 
 use super::is_of_first;
 use super::summary::Summary;

@@ -1,5 +1,6 @@
 use Rattle.std.proofs.Common.{◌≤◌, length, sym, subst, arith}
-use Rattle.rtcp_wire.specs.Readings.{least_size, body_says}
+use Rattle.rtcp_wire.specs.Walks.{body_says}
+use Rattle.rtcp_wire.specs.Faults.{least_size}
 use Rattle.rtcp_wire.specs.Summaries.{sender_of, AddsPacket}
 use Rattle.rtcp_wire.proofs.BodyOrFault.{plain_body, other_body}
 use Rattle.rtcp_wire.proofs.validity.check_body.Goals as goal

@@ -1,6 +1,6 @@
 use Rattle.std.proofs.Common.{◌-◌, ◌==◌, length}
 use Rattle.rtcp_wire.specs.Summaries.{sender_of}
-use Rattle.rtcp_wire.specs.Readings.{packets_in}
+use Rattle.rtcp_wire.specs.Walks.{packets_in}
 use Rattle.rtcp_wire.proofs.Summing.{LeavesPackets}
 use Rattle.rtcp_wire.proofs.Walking.{HasPassed}
 use Rattle.rtcp_wire.proofs.validity.check_packets.Given as goal

@@ -1,5 +1,6 @@
 use Rattle.std.proofs.Common.{◌∙◌, ap, take, drop, subst}
-use Rattle.rtcp_wire.specs.Readings.{size_of, type_of, count_of}
+use Rattle.rtcp_wire.specs.Readings.{size_of}
+use Rattle.rtcp_wire.specs.Headers.{type_of, count_of}
 use Rattle.rtcp_wire.specs.Parts.{IsWhole, IsUnpadded}
 use Rattle.rtcp_wire.specs.Summaries.{sender_of, AddsPacket}
 use Rattle.rtcp_wire.proofs.PacketOrFault.{HasBody, packet_passed, packet_summed}

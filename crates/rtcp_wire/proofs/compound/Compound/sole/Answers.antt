@@ -1,6 +1,6 @@
 use Rattle.rtcp_wire.proofs.Reporters.{accepted_length}
 use Rattle.rtcp_wire.proofs.SoleSources.{sole_now, not_sole}
-use Rattle.rtcp_wire.specs.Readings.{packets_in}
+use Rattle.rtcp_wire.specs.Walks.{packets_in}
 use Rattle.rtcp_wire.proofs.compound.Compound.sole.Goals as goal
 
 pub returns-then-not-self-clause-several : goal.returns-then-not-self-clause-several

@@ -1,6 +1,6 @@
 use Rattle.std.proofs.Common.{◌≡◌, ◌+◌, length}
 use Rattle.rtcp_wire.specs.Validity.{HasItems}
-use Rattle.rtcp_wire.specs.Readings.{items_after, items_size}
+use Rattle.rtcp_wire.specs.Walks.{items_after, items_size}
 use Rattle.rtcp_wire.proofs.sdes.items.octets_of_items.Given as goal
 
 -- what was passed and the items that are left make up all items

@@ -1,6 +1,6 @@
 use Rattle.std.proofs.Common.{◌-◌}
 use Rattle.rtcp_wire.specs.Summaries.{sender_of}
-use Rattle.rtcp_wire.specs.Readings.{chunks_in}
+use Rattle.rtcp_wire.specs.Walks.{chunks_in}
 use Rattle.rtcp_wire.proofs.Passing.{HasTakenChunks}
 use Rattle.rtcp_wire.proofs.Summing.{LeavesChunks}
 use Rattle.rtcp_wire.proofs.validity.chunks.check_chunks.Given as goal

@@ -1,6 +1,8 @@
 use Rattle.std.proofs.Common.{◌≡◌, ◌≢◌, ◌<◌, ◌==◌, Bool, false, ℕ, List, [], ◌∷◌, length, take, drop, sym, ap, ◌∙◌, arith}
 use Rattle.rtcp_wire.specs.Values.{RtcpPacket}
-use Rattle.rtcp_wire.specs.Readings.{type_of, count_of, size_of, body_of, body_says, packet_in, packets_in}
+use Rattle.rtcp_wire.specs.Readings.{size_of}
+use Rattle.rtcp_wire.specs.Headers.{type_of, count_of, body_of}
+use Rattle.rtcp_wire.specs.Walks.{body_says, packet_in, packets_in}
 use Rattle.rtcp_wire.specs.Views.{packet_value}
 use Rattle.rtcp_wire.proofs.PacketSteps.{PacketStep, packet_step, own_body}
 use Rattle.rtcp_wire.proofs.Prefixes.{cons_not_nil}

@@ -1,5 +1,5 @@
 use Rattle.std.proofs.Common.{◌<◌, ◌-◌, length, sym, ap, ◌∙◌, arith}
-use Rattle.rtcp_wire.specs.Readings.{chunks_in}
+use Rattle.rtcp_wire.specs.Walks.{chunks_in}
 use Rattle.rtcp_wire.proofs.ChunkSteps.{chunk_step, chunks_step}
 use Rattle.rtcp_wire.proofs.sdes.chunks.ChunksIterator.next.Goals as goal
 

@@ -1,5 +1,5 @@
 use Rattle.std.proofs.Common.{◌<◌, length, ap, arith}
-use Rattle.rtcp_wire.specs.Readings.{items_after}
+use Rattle.rtcp_wire.specs.Walks.{items_after}
 use Rattle.rtcp_wire.proofs.ItemSteps.{item_step}
 use Rattle.rtcp_wire.proofs.sdes.items.ItemsIterator.next.Goals as goal
 
