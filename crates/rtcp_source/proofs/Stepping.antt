@@ -1,5 +1,5 @@
 -- The numbers that are kept of a source follow what it is given.
-use Rattle.std.proofs.Common.{◌≡◌, ℕ, suc, ◌+◌, List, [], ◌∷◌, length, Option, option_map, arith, refl, ap₂}
+use Rattle.std.proofs.Common.{◌≡◌, ℕ, suc, ◌+◌, max, List, [], ◌∷◌, length, Option, option_map, arith, refl, ap₂}
 use Rattle.rtcp_source.specs.Packets.{Given, packet_came, block_made, CountedPacket, PacketRun, run_of}
 use Rattle.rtcp_source.specs.Takings.{transit_of}
 use Rattle.rtcp_source.specs.LastBlocks.{LastBlockValue, last_block, said_of}
@@ -27,6 +27,9 @@ summarised packets kept run =
 one_more : (n : ℕ) → suc n ≡ n + 1
 one_more n = omega arith
 
+alone : (n : ℕ) → max n 0 ≡ n
+alone n = omega arith
+
 -- One packet more moves the summary as it moves the numbers.
 pub packet_moves : (seq timestamp arrival octets rate : ℕ) (given : List Given)
     → summary_of (packet_came seq timestamp arrival octets rate ∷ given)
@@ -39,8 +42,8 @@ packet_moves seq timestamp arrival octets rate given =
     rw (same_taken run.counted run.reported run.stray seq)
     (by_taking (λ before taken _ after. summarised (packets + 1) kept after
     ≡ source_with taken seq transit octets rate (summarised packets kept before)) seq transit octets rate
-    (λ p earlier _ _. rw (one_more (length (p ∷ earlier))) refl) (λ _. refl) (λ _. refl) (λ _. refl) (λ _. refl)
-    run.counted run.reported run.stray)
+    (λ p earlier _ _. rw (one_more (length (p ∷ earlier))) refl) (λ _. rw (alone (seq + 65536)) refl)
+    (λ _. rw (alone (seq + 65536)) refl) (λ _. refl) (λ _. refl) run.counted run.reported run.stray)
 
 same_numbers : (counted before : List CountedPacket) →
     numbers_of counted counted ≡ run_reported (numbers_of counted before)

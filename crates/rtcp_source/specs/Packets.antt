@@ -48,8 +48,7 @@ ordinal_near greatest seq =
 
 abbrev pub greatest_ordinal : List CountedPacket → ℕ
 greatest_ordinal [] = 0
-greatest_ordinal (p ∷ []) = p.ordinal
-greatest_ordinal (p ∷ q ∷ earlier) = max p.ordinal (greatest_ordinal (q ∷ earlier))
+greatest_ordinal (p ∷ earlier) = max p.ordinal (greatest_ordinal earlier)
 
 abbrev pub first_ordinal : List CountedPacket → ℕ
 first_ordinal [] = 0

@@ -1,6 +1,6 @@
 -- The deterministic interval (RFC 3550, 6.3.1), in microseconds. The average is in 1/256 octet, and the
 -- bandwidth in octets a second.
-use Rattle.std.specs.Prelude.{ℕ, ◌+◌, ◌-◌, ◌*◌, ◌≤◌, Bool, nat_le, max, if◌then◌else◌}
+use Rattle.std.specs.Prelude.{ℕ, ◌+◌, ◌-◌, ◌*◌, ◌≤◌, Bool, nat_lt, nat_le, max, if◌then◌else◌}
 use Rattle.std.specs.Int.{div_ceil}
 use Rattle.rtcp_timer.specs.declared.load.Load.{Load}
 
@@ -12,17 +12,15 @@ interval_for count bandwidth load = div_ceil (1000000 * count * load.avg) (256 *
 abbrev pub minimum_of : (initial : Bool) → ℕ
 minimum_of initial = if initial then 2500000 else 5000000
 
--- Where senders are no more of the members than their part is of the bandwidth, they share that part and the others
--- the other one. Else all members share all of it.
+-- Where senders are more of the members than their part is of the bandwidth, all members share all of it. Elsewhere
+-- senders share that part, and the others the other one.
 abbrev pub interval_of : Load → ℕ
 interval_of load =
     let bandwidth : ℕ = load.sender_bw + load.receiver_bw in
     max (minimum_of load.initial)
-    (if nat_le (load.senders * bandwidth) (load.members * load.sender_bw)
-    then (if load.we_sent
-    then interval_for load.senders load.sender_bw load
+    (if nat_lt (load.members * load.sender_bw) (load.senders * bandwidth) then interval_for load.members bandwidth load
+    else if load.we_sent then interval_for load.senders load.sender_bw load
     else interval_for (load.members - load.senders) load.receiver_bw load)
-    else interval_for load.members bandwidth load)
 
 -- ---- Who shares
 
