@@ -4,7 +4,7 @@ ghost use Rattle.std.specs.Prelude.{◌≡◌, [], ◌∷◌, ◌+◌, ◌≤◌
 ghost use Rattle.rtcp_wire.specs.Values.{ReportBlock};
 ghost use Rattle.std.specs.Int.{cast_signed, w32};
 ghost use Rattle.rtcp_source.specs.declared.taken.Taken.TheVariants.{Counted};
-ghost use Rattle.rtcp_source.specs.Packets.{Given, CountedPacket, PacketRun, packet_came, report_came, block_made, packet_at, greatest_ordinal, is_near, ordinal_near, is_counted_in, run_of, has_news_since};
+ghost use Rattle.rtcp_source.specs.Packets.{Given, CountedPacket, packet_came, report_came, block_made, packet_at, greatest_ordinal, is_near, ordinal_near, is_counted_in, run_of, has_news_since};
 ghost use Rattle.rtcp_source.specs.Takings.{HasCounted, with_counted, taken_in, is_counted, transit_of, counted_since_block};
 ghost use Rattle.rtcp_source.specs.Integers.{IsIntegerNear, HasIntegerNear, HasOrdinalNear, IsOrdinalOfInteger, ordinal_of, greatest_integer};
 ghost use Rattle.rtcp_source.specs.LastBlocks.{last_block};
@@ -16,20 +16,16 @@ ghost use Rattle.rtcp_source.specs.ReportBlocks.{transit_distance, jitter_of, bl
 ghost use Rattle.rtcp_source.specs.Fields.{last_report_of, lsr_of, dlsr_of};
 
 /// What is kept of a source gives the same results as the list of all that it was given: what a packet is,
-/// whether there is news, how its packets are received, and the report block.
+/// whether it is counted, whether there is news, how its packets are received, and the report block.
 pub fn summary_suffices()
     ensures taken { (given : List Given) (seq : ℕ) →
         taken_by (summary_of given) seq ≡ taken_in (run_of given) seq }
+    ensures counted { (given : List Given) (seq : ℕ) →
+        is_counted (taken_by (summary_of given) seq) ≡ is_counted_in (run_of given) seq }
     ensures news { (given : List Given) → news_of (summary_of given).run ≡ has_news_since given }
     ensures block { (given : List Given) (ssrc t : ℕ) →
         block_for ssrc t (summary_of given) ≡ block_over ssrc t given }
     ensures reception { (given : List Given) → reception_in (summary_of given) ≡ reception_over given }
-{}
-
-/// A packet is counted exactly where `Taken::is_counted` says so of what it is to a run.
-#[tactic(auto, using(crate::proofs::Takings::same_counted))]
-pub fn taken_are_counted()
-    ensures { (run : PacketRun) (seq : ℕ) → is_counted (taken_in run seq) ≡ is_counted_in run seq }
 {}
 
 /// A source has news exactly where some packet was counted since its last block, or at all if no block was made.
