@@ -3,8 +3,8 @@ use Rattle.std.proofs.Common.{◌≡◌, ℕ, ◌+◌, ◌-◌, ◌%◌, ◌<◌
 use Rattle.std.proofs.lemmas.Bool.{cases_lt}
 use Rattle.std.proofs.lemmas.Bool.Decides.{nat_tests}
 use Rattle.rtcp_source.specs.declared.taken.Taken.TheVariants.{Counted, Restarted, Bad}
-use Rattle.rtcp_source.specs.Packets.{Given, packet_at, packet_came, report_came, block_made, CountedPacket, PacketRun, is_near, ordinal_near, follows, run_with, run_of, greatest_ordinal}
-use Rattle.rtcp_source.specs.Takings.{HasCounted, taken_as, taken_in, with_counted, transit_of}
+use Rattle.rtcp_source.specs.Packets.{Given, packet_came, report_came, block_made, CountedPacket, PacketRun, is_near, ordinal_near, follows, run_with, run_of, greatest_ordinal}
+use Rattle.rtcp_source.specs.Takings.{HasCounted, packet_at, taken_as, taken_in, with_counted, transit_of}
 use Rattle.rtcp_source.specs.Integers.{IsIntegerNear, HasIntegerNear, HasOrdinalNear, IsOrdinalOfInteger, ordinal_of, greatest_integer}
 use Rattle.rtcp_source.proofs.Takings.{run_over, counted_after, by_taking}
 

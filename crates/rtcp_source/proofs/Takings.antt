@@ -2,8 +2,8 @@
 use Rattle.std.proofs.Common.{◌≡◌, ℕ, ◌+◌, Bool, true, false, if◌then◌else◌, ◌||◌, List, [], ◌∷◌, Option, Some, None, refl}
 use Rattle.rtcp_source.specs.declared.taken.Taken.{Taken}
 use Rattle.rtcp_source.specs.declared.taken.Taken.TheVariants.{Probation, Counted, Became, Restarted, Bad}
-use Rattle.rtcp_source.specs.Packets.{CountedPacket, PacketRun, packet_at, is_near, ordinal_near, greatest_ordinal, follows, is_counted_in, run_with}
-use Rattle.rtcp_source.specs.Takings.{taken_in, is_counted, with_counted}
+use Rattle.rtcp_source.specs.Packets.{CountedPacket, PacketRun, is_near, ordinal_near, greatest_ordinal, follows, is_counted_in, run_with}
+use Rattle.rtcp_source.specs.Takings.{taken_in, is_counted, packet_at, with_counted}
 
 abbrev pub run_over : (counted before : List CountedPacket) (stray : Option ℕ) → PacketRun
 run_over counted before stray = record { counted = counted; stray = stray; reported = before }

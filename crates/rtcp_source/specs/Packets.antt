@@ -20,10 +20,6 @@ pub record CountedPacket : Type 0 where
   pub octets : ℕ
   pub rate : ℕ
 
-abbrev pub packet_at : (ordinal transit octets rate : ℕ) → CountedPacket
-packet_at ordinal transit octets rate =
-    record { ordinal = ordinal; transit = transit; octets = octets; rate = rate }
-
 -- The last run of packets: those counted in it, the number of the last stray since it started, and those that had been
 -- counted in it when a block was last made. Before the first run no packet is counted, and each one is a stray.
 pub record PacketRun : Type 0 where
@@ -76,10 +72,10 @@ is_counted_in run seq = is_near_run run.counted seq || follows run.stray seq
 -- whose number is no successor begins anew. A run forgets earlier strays: only those after it can lead to another one.
 abbrev pub run_with : (seq transit octets rate : ℕ) → PacketRun → PacketRun
 run_with seq transit octets rate run =
+    let first : CountedPacket = record { ordinal = seq + 65536; transit = transit; octets = octets; rate = rate } in
     let ordinal : ℕ = ordinal_near (greatest_ordinal run.counted) seq in
-    if is_near_run run.counted seq then record run { counted = packet_at ordinal transit octets rate ∷ run.counted }
-    else if follows run.stray seq
-    then record { counted = packet_at (seq + 65536) transit octets rate ∷ []; stray = None; reported = [] }
+    if is_near_run run.counted seq then record run { counted = record first { ordinal = ordinal } ∷ run.counted }
+    else if follows run.stray seq then record { counted = first ∷ []; stray = None; reported = [] }
     else record run { stray = Some seq }
 
 -- The last run of what was given.

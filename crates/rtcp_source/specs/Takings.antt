@@ -23,6 +23,10 @@ is_counted Probation = false
 is_counted Bad = false
 is_counted _ = true
 
+abbrev pub packet_at : (ordinal transit octets rate : ℕ) → CountedPacket
+packet_at ordinal transit octets rate =
+    record { ordinal = ordinal; transit = transit; octets = octets; rate = rate }
+
 -- Some packet is counted in a run.
 abbrev pub HasCounted : PacketRun → Type 0
 HasCounted run = 1 ≤ length run.counted

@@ -4,8 +4,8 @@ ghost use Rattle.std.specs.Prelude.{◌≡◌, [], ◌∷◌, ◌+◌, ◌≤◌
 ghost use Rattle.rtcp_wire.specs.Values.{ReportBlock};
 ghost use Rattle.std.specs.Int.{cast_signed, w32};
 ghost use Rattle.rtcp_source.specs.declared.taken.Taken.TheVariants.{Counted};
-ghost use Rattle.rtcp_source.specs.Packets.{Given, CountedPacket, packet_came, report_came, block_made, packet_at, greatest_ordinal, is_near, ordinal_near, is_counted_in, run_of, has_news_since};
-ghost use Rattle.rtcp_source.specs.Takings.{HasCounted, with_counted, taken_in, is_counted, transit_of, counted_since_block};
+ghost use Rattle.rtcp_source.specs.Packets.{Given, CountedPacket, packet_came, report_came, block_made, greatest_ordinal, is_near, ordinal_near, is_counted_in, run_of, has_news_since};
+ghost use Rattle.rtcp_source.specs.Takings.{HasCounted, packet_at, with_counted, taken_in, is_counted, transit_of, counted_since_block};
 ghost use Rattle.rtcp_source.specs.Integers.{IsIntegerNear, HasIntegerNear, HasOrdinalNear, IsOrdinalOfInteger, ordinal_of, greatest_integer};
 ghost use Rattle.rtcp_source.specs.LastBlocks.{last_block};
 ghost use Rattle.rtcp_source.specs.Blocks.{block_for, news_of};

@@ -24,8 +24,7 @@ pub record Timing : Type 0 where
 -- transmission is put off until it will have. A count of fewer members is reverse reconsideration (6.3.4): the
 -- distances to the last and the next transmission shrink as the members do, but an overdue next transmission stays.
 abbrev pub after : Happening → Timing → Timing
-after (transmitted moment interval members) timing =
-    record { last = moment; next = moment + interval; known = members }
+after (transmitted moment interval members) timing = record { last = moment; next = moment + interval; known = members }
 after (tried moment interval members) timing =
     let passed : ℕ = timing.last + interval in
     record { last = timing.last; next = if nat_le passed moment then timing.next else passed; known = members }
