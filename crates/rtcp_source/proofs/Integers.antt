@@ -2,9 +2,11 @@
 use Rattle.std.proofs.Common.{◌≡◌, ℕ, ◌+◌, ◌-◌, ◌%◌, ◌<◌, ◌≤◌, ◌↔◌, ℤ, pos, negsuc, ◌-ℤ◌, true, false, if◌then◌else◌, List, [], ◌∷◌, Option, Some, inl, inr, arith, rules, refl, sym, ap, subst, ◌∙◌}
 use Rattle.std.proofs.lemmas.Bool.{cases_lt}
 use Rattle.std.proofs.lemmas.Bool.Decides.{nat_tests}
-use Rattle.rtcp_source.specs.declared.taken.Taken.TheVariants.{Probation, Counted, Became, Restarted, Bad}
-use Rattle.rtcp_source.specs.Packets.{Given, packet_at, with_counted, packet_came, report_came, block_made, CountedPacket, PacketRun, HasCounted, is_near, ordinal_near, follows, newest, taken_as, taken_in, run_with, run_of, transit_of, greatest_ordinal}
+use Rattle.rtcp_source.specs.declared.taken.Taken.TheVariants.{Counted, Restarted, Bad}
+use Rattle.rtcp_source.specs.Packets.{Given, packet_came, report_came, block_made, CountedPacket, PacketRun, is_near, ordinal_near, follows, run_with, run_of, greatest_ordinal}
+use Rattle.rtcp_source.specs.Takings.{HasCounted, packet_at, taken_as, taken_in, with_counted, transit_of}
 use Rattle.rtcp_source.specs.Integers.{IsIntegerNear, HasIntegerNear, HasOrdinalNear, IsOrdinalOfInteger, ordinal_of, greatest_integer}
+use Rattle.rtcp_source.proofs.Takings.{run_over, counted_after, by_taking}
 
 -- ---- Integers near a greatest one that is not negative
 
@@ -62,38 +64,13 @@ same_integer greatest seq a b first second = search rules
 abbrev IsHigh : PacketRun → Type 0
 IsHigh run = HasCounted run → 65536 ≤ greatest_ordinal run.counted
 
-abbrev run_in : (counted before : List CountedPacket) (strays : List ℕ) → PacketRun
-run_in counted before strays = record { counted = counted; strays = strays; reported = before }
-
-high_next : (seq transit octets rate : ℕ) (counted before : List CountedPacket) (strays : List ℕ)
-    → let run : PacketRun = run_in counted before strays in
-    IsHigh run → IsHigh (run_with (taken_in run seq) seq transit octets rate run)
-high_next seq transit octets rate [] before strays high =
-    elim (follows (newest strays) seq) as (λ b. IsHigh
-    (run_with (if b then Became else Probation) seq transit octets rate (run_in [] before strays))) [
-      | true ↦ λ some. omega arith
-      | false ↦ high
-    ]
-high_next seq transit octets rate (p ∷ earlier) before strays high =
-    let run : PacketRun = run_in (p ∷ earlier) before strays in
-    let low : 65536 ≤ greatest_ordinal (p ∷ earlier) = high (omega arith) in
-    elim (is_near (greatest_ordinal (p ∷ earlier)) seq) as (λ near. IsHigh
-    (run_with (if near then Counted else (if follows (newest strays) seq then Restarted else Bad)) seq transit
-    octets rate run)) [
-      | true ↦ λ some. omega (arith, low)
-      | false ↦ elim (follows (newest strays) seq) as (λ b. IsHigh
-          (run_with (if b then Restarted else Bad) seq transit octets rate run)) [
-            | true ↦ λ some. omega arith
-            | false ↦ high
-          ]
-    ]
-
 pub greatest_high : (given : List Given) → HasCounted (run_of given) → 65536 ≤ greatest_ordinal (run_of given).counted
 greatest_high [] = λ some. omega (arith, some)
 greatest_high (packet_came seq timestamp arrival octets rate ∷ given) =
-    let run : PacketRun = run_of given in high_next seq (transit_of timestamp arrival) octets rate run.counted
-    run.reported
-    run.strays (greatest_high given)
+    let run : PacketRun = run_of given in
+    by_taking (λ old _ _ new. IsHigh old → IsHigh new) seq (transit_of timestamp arrival) octets rate
+    (λ p earlier _ _ high some. let low = high (omega arith) in omega (arith, low)) (λ _ _ some. omega arith)
+    (λ _ _ some. omega arith) (λ _ high. high) (λ _ high. high) run.counted run.reported run.stray (greatest_high given)
 greatest_high (report_came ntp rtp moment ∷ given) = greatest_high given
 greatest_high (block_made ∷ given) = greatest_high given
 
@@ -131,24 +108,31 @@ counted_at seq stray small greatest =
       (λ integer. near.1 (has_ordinal greatest seq integer.0 small integer.1).0),
     )
 
-counted_in_run : (seq : ℕ) (counted before : List CountedPacket) (strays : List ℕ) → seq < 65536 →
-    HasCounted (run_in counted before strays) → 65536 ≤ greatest_ordinal counted
-    → (taken_in (run_in counted before strays) seq ≡ Counted) ↔ HasIntegerNear
-    (greatest_integer (run_in counted before strays)) seq
-counted_in_run seq [] before strays small some high = absurd (omega (arith, high))
-counted_in_run seq (p ∷ earlier) before strays small some high =
-    by_integer (λ ordinal integer. (taken_as (Some ordinal) (newest strays) seq ≡ Counted) ↔ HasIntegerNear integer seq)
-    (counted_at seq (newest strays) small) (greatest_ordinal (p ∷ earlier)) high
+counted_in_run : (seq : ℕ) (counted before : List CountedPacket) (stray : Option ℕ) → seq < 65536 →
+    HasCounted (run_over counted before stray) → 65536 ≤ greatest_ordinal counted
+    → (taken_in (run_over counted before stray) seq ≡ Counted) ↔ HasIntegerNear
+    (greatest_integer (run_over counted before stray)) seq
+counted_in_run seq [] before stray small some high = absurd (omega (arith, high))
+counted_in_run seq (p ∷ earlier) before stray small some high =
+    by_integer (λ ordinal integer. (taken_as (Some ordinal) stray seq ≡ Counted) ↔ HasIntegerNear integer seq)
+    (counted_at seq stray small) (greatest_ordinal (p ∷ earlier)) high
 
 pub counted_exactly : (given : List Given) (seq : ℕ) → seq < 65536 → HasCounted (run_of given) →
     (taken_in (run_of given) seq ≡ Counted) ↔ HasIntegerNear (greatest_integer (run_of given)) seq
 counted_exactly given seq small some =
-    let run : PacketRun = run_of given in counted_in_run seq run.counted run.reported run.strays small some
+    let run : PacketRun = run_of given in counted_in_run seq run.counted run.reported run.stray small some
     (greatest_high given some)
 
 ordinal_at : (seq : ℕ) (integer : ℤ) → seq < 65536 → (greatest : ℕ) → IsIntegerNear (pos greatest) seq integer →
     ordinal_near (greatest + 65536) seq ≡ ordinal_of integer
 ordinal_at seq integer small greatest near = (has_ordinal greatest seq integer small near).1
+
+entering : (seq transit octets rate : ℕ) (run : PacketRun) → taken_in run seq ≡ Counted →
+    run_with seq transit octets rate run ≡ counted_after seq transit octets rate run
+entering seq transit octets rate run =
+    by_taking (λ old taken _ new. taken ≡ Counted → new ≡ counted_after seq transit octets rate old) seq transit
+    octets rate (λ _ _ _ _ _. refl) (λ _ no. absurd cc) (λ _ no. absurd cc) (λ _ no. absurd cc) (λ _ no. absurd cc)
+    run.counted run.reported run.stray
 
 pub enters_run : (given : List Given) (seq timestamp arrival octets rate : ℕ) (integer : ℤ) → seq < 65536 →
     HasCounted (run_of given) → IsIntegerNear (greatest_integer (run_of given)) seq integer
@@ -160,5 +144,5 @@ enters_run given seq timestamp arrival octets rate integer small some near =
     let ordinal : ordinal_near (greatest_ordinal run.counted) seq ≡ ordinal_of integer =
     by_integer (λ ordinal greatest. IsIntegerNear greatest seq integer → ordinal_near ordinal seq ≡ ordinal_of integer)
     (ordinal_at seq integer small) (greatest_ordinal run.counted) (greatest_high given some) near in
-    ap (λ taken. run_with taken seq (transit_of timestamp arrival) octets rate run) counted
+    entering seq (transit_of timestamp arrival) octets rate run counted
     ∙ ap (λ (ordinal : ℕ). with_counted (packet_at ordinal (transit_of timestamp arrival) octets rate) run) ordinal

@@ -1,4 +1,5 @@
 pub mod LawLemmas
+mod Takings
 mod Stepping
 mod Summing
 mod Integers

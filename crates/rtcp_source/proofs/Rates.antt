@@ -1,11 +1,12 @@
 -- The jitter is that of the newest packets of one rate.
-use Rattle.std.proofs.Common.{◌≡◌, ◌==◌, ℕ, Bool, true, false, if◌then◌else◌, List, [], ◌∷◌, All, refl, sym, ap, ◌∙◌}
+use Rattle.std.proofs.Common.{◌≡◌, ◌==◌, ℕ, Bool, true, false, if◌then◌else◌, List, [], ◌∷◌, refl, sym, ap, ◌∙◌}
 use Rattle.std.proofs.lemmas.Bool.{eq-eqb}
-use Rattle.rtcp_source.specs.declared.taken.Taken.{Taken}
-use Rattle.rtcp_source.specs.declared.taken.Taken.TheVariants.{Probation, Counted, Became, Restarted, Bad}
-use Rattle.rtcp_source.specs.Packets.{Given, packet_came, report_came, block_made, CountedPacket, PacketRun, run_of, run_with, taken_in, transit_of}
+use Rattle.rtcp_source.specs.Packets.{Given, packet_came, report_came, block_made, CountedPacket, PacketRun, run_of}
+use Rattle.rtcp_source.specs.Takings.{transit_of}
 use Rattle.rtcp_source.specs.Summary.{HasOneRate, interarrival_jitter, since_change}
-use Rattle.rtcp_source.specs.Fields.{jitter_of, jitter_on, jitter_with, transit_distance}
+use Rattle.rtcp_source.specs.ReportBlocks.{jitter_of, transit_distance}
+use Rattle.rtcp_source.specs.Fields.{jitter_on, jitter_with}
+use Rattle.rtcp_source.proofs.Takings.{by_taking}
 
 -- a packet more before those of one rate
 one_before : (p q : CountedPacket) (earlier : List CountedPacket)
@@ -39,19 +40,13 @@ abbrev AllHave : (rate : ℕ) → List CountedPacket → Type 0
 AllHave rate [] = Unit {0}
 AllHave rate (p ∷ earlier) = (p.rate ≡ rate) × AllHave rate earlier
 
-all_have : (rate : ℕ) (taken : Taken) (seq transit octets other : ℕ) (run : PacketRun) → other ≡ rate →
-    AllHave rate run.counted → AllHave rate (run_with taken seq transit octets other run).counted
-all_have rate Counted seq transit octets other run same have = (same, have)
-all_have rate Became seq transit octets other run same have = (same, tt)
-all_have rate Restarted seq transit octets other run same have = (same, tt)
-all_have rate Probation seq transit octets other run same have = have
-all_have rate Bad seq transit octets other run same have = have
-
 counted_have : (rate : ℕ) (given : List Given) → HasOneRate rate given → AllHave rate (run_of given).counted
 counted_have rate [] has = tt
 counted_have rate (packet_came seq timestamp arrival octets other ∷ given) has =
-    all_have rate (taken_in (run_of given) seq) seq (transit_of timestamp arrival) octets other (run_of given) has.0
-    (counted_have rate given has.1)
+    let run : PacketRun = run_of given in
+    by_taking (λ old _ _ new. AllHave rate old.counted → AllHave rate new.counted) seq (transit_of timestamp arrival)
+    octets other (λ _ _ _ _ have. (has.0, have)) (λ _ _. (has.0, tt)) (λ _ _. (has.0, tt)) (λ _ have. have)
+    (λ _ have. have) run.counted run.reported run.stray (counted_have rate given has.1)
 counted_have rate (report_came ntp rtp moment ∷ given) has = counted_have rate given has
 counted_have rate (block_made ∷ given) has = counted_have rate given has
 

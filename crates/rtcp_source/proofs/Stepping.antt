@@ -1,12 +1,13 @@
 -- The numbers that are kept of a source follow what it is given.
-use Rattle.std.proofs.Common.{◌≡◌, ℕ, suc, ◌+◌, true, false, if◌then◌else◌, List, [], ◌∷◌, length, Option, option_map, arith, refl, ap₂}
-use Rattle.rtcp_source.specs.declared.taken.Taken.{Taken}
-use Rattle.rtcp_source.specs.declared.taken.Taken.TheVariants.{Probation, Counted, Became, Restarted, Bad}
-use Rattle.rtcp_source.specs.Packets.{Given, packet_came, block_made, CountedPacket, PacketRun, is_near, follows, newest, taken_in, run_with, transit_of, run_of, greatest_ordinal}
+use Rattle.std.proofs.Common.{◌≡◌, ℕ, suc, ◌+◌, max, List, [], ◌∷◌, length, Option, option_map, arith, refl, ap₂}
+use Rattle.rtcp_source.specs.Packets.{Given, packet_came, block_made, CountedPacket, PacketRun, run_of}
+use Rattle.rtcp_source.specs.Takings.{transit_of}
 use Rattle.rtcp_source.specs.LastBlocks.{LastBlockValue, last_block, said_of}
 use Rattle.rtcp_source.specs.Summary.{SourceValue, numbers_of, packet_count, summary_of, StandsAt}
 use Rattle.rtcp_source.specs.Fields.{LastReportValue, last_report_of}
-use Rattle.rtcp_source.specs.Steps.{taken_by, source_with, after_packet, run_reported, said_in, after_block_made}
+use Rattle.rtcp_source.specs.Steps.{source_with, after_packet, run_reported, said_in, after_block_made}
+use Rattle.rtcp_source.proofs.Takings.{by_taking}
+use Rattle.rtcp_source.proofs.Summing.{same_taken}
 
 -- what is kept that no packet changes: the last sender report, and what the last block said
 abbrev Kept : Type 0
@@ -18,56 +19,16 @@ summarised packets kept run =
     record {
       packets = packets;
       run = numbers_of run.counted run.reported;
-      stray = newest run.strays;
+      stray = run.stray;
       last_report = kept.0;
       last_block = kept.1;
     }
 
-abbrev Moves : (seq transit octets rate packets : ℕ) → Kept → PacketRun → Taken → Type 0
-Moves seq transit octets rate packets kept run taken =
-    summarised (packets + 1) kept (run_with taken seq transit octets rate run)
-    ≡ source_with taken seq transit octets rate (summarised packets kept run)
-
 one_more : (n : ℕ) → suc n ≡ n + 1
 one_more n = omega arith
 
-abbrev run_over : (counted before : List CountedPacket) (strays : List ℕ) → PacketRun
-run_over counted before strays = record { counted = counted; strays = strays; reported = before }
-
-counted_moves : (seq transit octets rate packets : ℕ) (kept : Kept) (p : CountedPacket)
-    (earlier before : List CountedPacket)
-    (strays : List ℕ) → Moves seq transit octets rate packets kept (run_over (p ∷ earlier) before strays) Counted
-counted_moves seq transit octets rate packets kept p earlier before strays =
-    rw (one_more (length (p ∷ earlier))) refl
-
-moves : (seq transit octets rate packets : ℕ) (kept : Kept) (counted before : List CountedPacket) (strays : List ℕ)
-    → let run : PacketRun = run_over counted before strays in
-    Moves seq transit octets rate packets kept run (taken_in run seq)
-moves seq transit octets rate packets kept [] before strays =
-    elim (follows (newest strays) seq)
-    as (λ b. Moves seq transit octets rate packets kept (run_over [] before strays) (if b then Became else Probation)) [
-      | true ↦ refl
-      | false ↦ refl
-    ]
-moves seq transit octets rate packets kept (p ∷ earlier) before strays =
-    let run : PacketRun = run_over (p ∷ earlier) before strays in
-    elim (is_near (greatest_ordinal (p ∷ earlier)) seq)
-    as (λ near. Moves seq transit octets rate packets kept run
-    (if near then Counted else (if follows (newest strays) seq then Restarted else Bad))) [
-      | true ↦ counted_moves seq transit octets rate packets kept p earlier before strays
-      | false ↦ elim (follows (newest strays) seq)
-          as (λ b. Moves seq transit octets rate packets kept run (if b then Restarted else Bad)) [
-            | true ↦ refl
-            | false ↦ refl
-          ]
-    ]
-
--- what is taken by the numbers is what is taken in the run
-same_taking : (seq packets : ℕ) (kept : Kept) (counted before : List CountedPacket) (strays : List ℕ)
-    → let run : PacketRun = run_over counted before strays in
-    taken_by (summarised packets kept run) seq ≡ taken_in run seq
-same_taking seq packets kept [] before strays = refl
-same_taking seq packets kept (p ∷ earlier) before strays = refl
+alone : (n : ℕ) → max n 0 ≡ n
+alone n = omega arith
 
 -- One packet more moves the summary as it moves the numbers.
 pub packet_moves : (seq timestamp arrival octets rate : ℕ) (given : List Given)
@@ -76,8 +37,13 @@ pub packet_moves : (seq timestamp arrival octets rate : ℕ) (given : List Given
 packet_moves seq timestamp arrival octets rate given =
     let run : PacketRun = run_of given in
     let kept : Kept = (last_report_of given, last_block given) in
-    rw (same_taking seq (packet_count given) kept run.counted run.reported run.strays)
-    (moves seq (transit_of timestamp arrival) octets rate (packet_count given) kept run.counted run.reported run.strays)
+    let transit : ℕ = transit_of timestamp arrival in
+    let packets : ℕ = packet_count given in
+    rw (same_taken run.counted run.reported run.stray seq)
+    (by_taking (λ before taken _ after. summarised (packets + 1) kept after
+    ≡ source_with taken seq transit octets rate (summarised packets kept before)) seq transit octets rate
+    (λ p earlier _ _. rw (one_more (length (p ∷ earlier))) refl) (λ _. rw (alone (seq + 65536)) refl)
+    (λ _. rw (alone (seq + 65536)) refl) (λ _. refl) (λ _. refl) run.counted run.reported run.stray)
 
 same_numbers : (counted before : List CountedPacket) →
     numbers_of counted counted ≡ run_reported (numbers_of counted before)
@@ -96,7 +62,7 @@ block_moves given =
     ap₂ (λ numbers said. record {
       packets = packet_count given;
       run = numbers;
-      stray = newest run.strays;
+      stray = run.stray;
       last_report = last_report_of given;
       last_block = said;
     }) (same_numbers run.counted run.reported) (same_said run.counted run.reported)

@@ -1,12 +1,8 @@
 -- The reception report block of a source by what is kept of it (RFC 3550, 6.4.1, A.3), and whether it has news.
-use Rattle.std.specs.Prelude.{ℕ, ℤ, pos, negsuc, ◌-ℤ◌, ◌+◌, ◌-◌, ◌/◌, ◌%◌, ◌^◌, Bool, false, nat_lt, List, [], ◌∷◌, length, Option, Some, None, option_map}
-use Rattle.std.specs.Int.{int_min, int_max}
+use Rattle.std.specs.Prelude.{ℕ, ◌+◌, ◌-◌, ◌/◌, Bool, false, nat_lt, Option, Some, None, option_map}
 use Rattle.rtcp_wire.specs.Values.{ReportBlock}
-use Rattle.rtcp_clock.specs.Moments.{short_seconds}
-use Rattle.rtcp_source.specs.Packets.{Given, CountedPacket, PacketRun, greatest_ordinal, run_of}
-use Rattle.rtcp_source.specs.Fields.{expected_of, fraction_of, fraction_since, highest_of, jitter_of, LastReportValue, last_report_of, lost_of, lsr_of, dlsr_of}
+use Rattle.rtcp_source.specs.Fields.{fraction_of, highest_of, lost_of, lsr_of, dlsr_of}
 use Rattle.rtcp_source.specs.Summary.{RunValue, SourceValue}
-pub use Rattle.rtcp_source.specs.Fields.{middle_bits, block_of_packets, where_counted, block_over}
 
 abbrev pub expected_in : RunValue → ℕ
 expected_in run = run.greatest + 1 - run.first

@@ -1,8 +1,8 @@
 -- What the last report block of a source said: the fraction lost, and the extended highest sequence number
 -- (RFC 3550, 6.4.1, A.3).
-use Rattle.std.specs.Prelude.{ℕ, ◌+◌, ◌-◌, ◌*◌, ◌/◌, ◌%◌, ◌^◌, List, [], ◌∷◌, length, Option, Some, None}
-use Rattle.rtcp_source.specs.Packets.{Given, packet_came, report_came, block_made, CountedPacket, PacketRun, greatest_ordinal, first_ordinal, run_of}
-use Rattle.rtcp_source.specs.Fields.{expected_of, fraction_since, highest_of}
+use Rattle.std.specs.Prelude.{ℕ, List, [], ◌∷◌, Option, Some, None}
+use Rattle.rtcp_source.specs.Packets.{Given, block_made, CountedPacket, PacketRun, greatest_ordinal, run_of}
+use Rattle.rtcp_source.specs.Fields.{fraction_since, highest_of}
 pub use Rattle.rtcp_source.specs.Fields.{fraction_of}
 
 pub record LastBlockValue : Type 0 where

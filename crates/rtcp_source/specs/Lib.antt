@@ -1,5 +1,7 @@
 pub mod Packets
 pub mod Integers
+pub mod Takings
+pub mod ReportBlocks
 pub mod Fields
 pub mod LastBlocks
 pub mod Summary

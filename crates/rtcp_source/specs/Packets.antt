@@ -1,8 +1,6 @@
 -- The packets of one source: which are counted, and with which integers (RFC 3550, appendix A.1).
 -- Lists of what happened are kept newest first.
-use Rattle.std.specs.Prelude.{ℕ, ◌+◌, ◌-◌, ◌%◌, ◌^◌, ◌||◌, ◌==◌, Bool, true, false, nat_lt, if◌then◌else◌, List, [], ◌∷◌, length, max, ◌≤◌, Option, Some, None}
-use Rattle.rtcp_source.specs.declared.taken.Taken.{Taken}
-use Rattle.rtcp_source.specs.declared.taken.Taken.TheVariants.{Probation, Counted, Became, Restarted, Bad}
+use Rattle.std.specs.Prelude.{ℕ, ◌+◌, ◌-◌, ◌%◌, ◌^◌, ◌||◌, ◌==◌, Bool, false, nat_lt, if◌then◌else◌, List, [], ◌∷◌, length, max, Option, Some, None}
 
 -- What a source was given.
 pub data Given : Type 0 where
@@ -14,30 +12,20 @@ pub data Given : Type 0 where
   -- a report block was made of the source (6.4.1)
   block_made : Given
 
--- A counted packet. Its ordinal is 65536 above its integer, which may be negative. Its transit is its arrival
--- less its timestamp, modulo 2^32 (6.4.1, A.8). Its octets are those of its payload. Its rate is that of the clock in
--- which its transit is counted.
+-- A counted packet. Its ordinal is 65536 above its integer, which may be negative. Its transit is its arrival less its
+-- timestamp, modulo 2^32, in units of a clock of its rate (6.4.1, A.8). Its octets are those of its payload.
 pub record CountedPacket : Type 0 where
   pub ordinal : ℕ
   pub transit : ℕ
   pub octets : ℕ
   pub rate : ℕ
 
-abbrev pub packet_at : (ordinal transit octets rate : ℕ) → CountedPacket
-packet_at ordinal transit octets rate =
-    record { ordinal = ordinal; transit = transit; octets = octets; rate = rate }
-
--- The last run of packets: those counted in it, the numbers of the strays since it started, newest first, and
--- the packets that had been counted in it when a block was last made. Before the first run no packet is
--- counted, and each one is a stray.
+-- The last run of packets: those counted in it, the number of the last stray since it started, and those that had been
+-- counted in it when a block was last made. Before the first run no packet is counted, and each one is a stray.
 pub record PacketRun : Type 0 where
   pub counted : List CountedPacket
-  pub strays : List ℕ
+  pub stray : Option ℕ
   pub reported : List CountedPacket
-
--- Some packet is counted in a run.
-abbrev pub HasCounted : PacketRun → Type 0
-HasCounted run = 1 ≤ length run.counted
 
 -- ---- Ordinals
 
@@ -52,13 +40,11 @@ is_near greatest seq = nat_lt (ahead greatest seq) 3000 || nat_lt 65436 (ahead g
 -- That ordinal.
 abbrev pub ordinal_near : (greatest seq : ℕ) → ℕ
 ordinal_near greatest seq =
-    let above : ℕ = greatest + ahead greatest seq in
-    if nat_lt (ahead greatest seq) 3000 then above else above - 65536
+    if nat_lt (ahead greatest seq) 3000 then greatest + ahead greatest seq else greatest + ahead greatest seq - 65536
 
 abbrev pub greatest_ordinal : List CountedPacket → ℕ
 greatest_ordinal [] = 0
-greatest_ordinal (p ∷ []) = p.ordinal
-greatest_ordinal (p ∷ q ∷ earlier) = max p.ordinal (greatest_ordinal (q ∷ earlier))
+greatest_ordinal (p ∷ earlier) = max p.ordinal (greatest_ordinal earlier)
 
 abbrev pub first_ordinal : List CountedPacket → ℕ
 first_ordinal [] = 0
@@ -67,71 +53,40 @@ first_ordinal (p ∷ q ∷ earlier) = first_ordinal (q ∷ earlier)
 
 -- ---- Runs
 
+-- Whether a number is near the greatest ordinal of a run. Before the first run none is.
+abbrev pub is_near_run : (counted : List CountedPacket) (seq : ℕ) → Bool
+is_near_run [] seq = false
+is_near_run counted seq = is_near (greatest_ordinal counted) seq
+
 -- Whether a number is the successor of the last stray's.
-abbrev pub follows : Option ℕ → ℕ → Bool
+abbrev pub follows : (stray : Option ℕ) (seq : ℕ) → Bool
 follows None seq = false
 follows (Some last) seq = seq == (last + 1) % 65536
 
--- What a packet is, by the greatest ordinal of the run, or none before the first run, and by the last stray. A
--- packet near the greatest ordinal is counted. Any other one starts a run if its number is the successor of the
--- last stray's, and is a stray if not. Before the first run this is probation as in A.1: each packet whose
--- number is no successor begins probation anew.
-abbrev pub taken_as : (greatest stray : Option ℕ) (seq : ℕ) → Taken
-taken_as None stray seq = if follows stray seq then Became else Probation
-taken_as (Some greatest) stray seq =
-    if is_near greatest seq then Counted else (if follows stray seq then Restarted else Bad)
+-- Whether a packet of this number is counted: in the run, or as the first of a new one.
+abbrev pub is_counted_in : PacketRun → (seq : ℕ) → Bool
+is_counted_in run seq = is_near_run run.counted seq || follows run.stray seq
 
-abbrev pub greatest_of : List CountedPacket → Option ℕ
-greatest_of [] = None
-greatest_of (p ∷ earlier) = Some (greatest_ordinal (p ∷ earlier))
-
-abbrev pub newest : List ℕ → Option ℕ
-newest [] = None
-newest (x ∷ xs) = Some x
-
--- What a packet of this number is to a run.
-abbrev pub taken_in : PacketRun → (seq : ℕ) → Taken
-taken_in run seq = taken_as (greatest_of run.counted) (newest run.strays) seq
-
--- A run that starts with this packet. It forgets earlier strays, as in A.1: only strays after it can lead to
--- another restart.
-abbrev pub run_started : (seq transit octets rate : ℕ) → PacketRun
-run_started seq transit octets rate =
-    record { counted = packet_at (seq + 65536) transit octets rate ∷ []; strays = []; reported = [] }
-
--- A run with one counted packet more.
-abbrev pub with_counted : CountedPacket → PacketRun → PacketRun
-with_counted packet run = record run { counted = packet ∷ run.counted }
-
--- The run after one packet more.
-abbrev pub run_with : Taken → (seq transit octets rate : ℕ) → PacketRun → PacketRun
-run_with Counted seq transit octets rate run =
-    with_counted (packet_at (ordinal_near (greatest_ordinal run.counted) seq) transit octets rate) run
-run_with Became seq transit octets rate run = run_started seq transit octets rate
-run_with Restarted seq transit octets rate run = run_started seq transit octets rate
-run_with _ seq transit octets rate run = record run { strays = seq ∷ run.strays }
-
--- arrival less timestamp, modulo 2^32
-abbrev pub transit_of : (timestamp arrival : ℕ) → ℕ
-transit_of timestamp arrival = (arrival + 2 ^ 32 - timestamp) % 2 ^ 32
+-- The run after one packet more. One near the greatest ordinal is counted. Any other one starts a run if its number is
+-- the successor of the last stray's, and is a stray if not. Before the first run this is probation, which each packet
+-- whose number is no successor begins anew. A run forgets earlier strays: only those after it can lead to another one.
+abbrev pub run_with : (seq transit octets rate : ℕ) → PacketRun → PacketRun
+run_with seq transit octets rate run =
+    let first : CountedPacket = record { ordinal = seq + 65536; transit = transit; octets = octets; rate = rate } in
+    let ordinal : ℕ = ordinal_near (greatest_ordinal run.counted) seq in
+    if is_near_run run.counted seq then record run { counted = record first { ordinal = ordinal } ∷ run.counted }
+    else if follows run.stray seq then record { counted = first ∷ []; stray = None; reported = [] }
+    else record run { stray = Some seq }
 
 -- The last run of what was given.
 abbrev pub run_of : List Given → PacketRun
-run_of [] = record { counted = []; strays = []; reported = [] }
+run_of [] = record { counted = []; stray = None; reported = [] }
 run_of (packet_came seq timestamp arrival octets rate ∷ given) =
-    let run = run_of given in run_with (taken_in run seq) seq (transit_of timestamp arrival) octets rate run
+    run_with seq ((arrival + 2 ^ 32 - timestamp) % 2 ^ 32) octets rate (run_of given)
 run_of (report_came ntp rtp moment ∷ given) = run_of given
-run_of (block_made ∷ given) = let run = run_of given in record run { reported = run.counted }
+run_of (block_made ∷ given) = let run : PacketRun = run_of given in record run { reported = run.counted }
 
-abbrev pub is_counted : Taken → Bool
-is_counted Probation = false
-is_counted Bad = false
-is_counted _ = true
-
--- A source has news where some packet was counted since its last block, or at all if no block was made.
+-- A source has news where some packet was counted since its last block, or at all if no block was made: more packets
+-- were counted in its last run than when a block was last made of it.
 abbrev pub has_news_since : List Given → Bool
-has_news_since [] = false
-has_news_since (packet_came seq timestamp arrival octets rate ∷ given) =
-    is_counted (taken_in (run_of given) seq) || has_news_since given
-has_news_since (report_came ntp rtp moment ∷ given) = has_news_since given
-has_news_since (block_made ∷ given) = false
+has_news_since given = let run : PacketRun = run_of given in nat_lt (length run.reported) (length run.counted)

@@ -4,7 +4,8 @@ use Rattle.std.specs.Prelude.{ℕ, ℤ, ◌/◌, List, [], ◌∷◌, length, Op
 use Rattle.rtcp_wire.specs.Values.{ReportBlock}
 use Rattle.rtcp_source.specs.Packets.{Given, CountedPacket, greatest_ordinal, run_of}
 use Rattle.rtcp_source.specs.LastBlocks.{LastBlockValue}
-use Rattle.rtcp_source.specs.Fields.{expected_of, lost_of, highest_of, jitter_of}
+use Rattle.rtcp_source.specs.ReportBlocks.{expected_of, jitter_of}
+use Rattle.rtcp_source.specs.Fields.{lost_of, highest_of}
 use Rattle.rtcp_source.specs.Summary.{RunValue, SourceValue, octets_of}
 use Rattle.rtcp_source.specs.Blocks.{expected_in}
 

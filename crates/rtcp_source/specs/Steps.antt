@@ -2,9 +2,11 @@
 use Rattle.std.specs.Prelude.{ℕ, ◌==◌, ◌+◌, ◌-◌, max, Option, Some, None, option_map}
 use Rattle.rtcp_source.specs.declared.taken.Taken.{Taken}
 use Rattle.rtcp_source.specs.declared.taken.Taken.TheVariants.{Probation, Counted, Became, Restarted, Bad}
-use Rattle.rtcp_source.specs.Packets.{ordinal_near, taken_as, transit_of}
+use Rattle.rtcp_source.specs.Packets.{ordinal_near}
+use Rattle.rtcp_source.specs.Takings.{taken_as, transit_of}
 use Rattle.rtcp_source.specs.LastBlocks.{LastBlockValue}
-use Rattle.rtcp_source.specs.Fields.{fraction_of, highest_of, transit_distance, jitter_on}
+use Rattle.rtcp_source.specs.ReportBlocks.{transit_distance}
+use Rattle.rtcp_source.specs.Fields.{fraction_of, highest_of, jitter_on}
 use Rattle.rtcp_source.specs.Summary.{RunValue, SourceValue, with_octets}
 use Rattle.rtcp_source.specs.Blocks.{expected_in}
 

@@ -1,8 +1,9 @@
 -- What is kept of what a source was given: counts, extremes and folds of the lists of its last run.
-use Rattle.std.specs.Prelude.{◌≡◌, ◌==◌, ℕ, ◌+◌, ◌-◌, ◌/◌, ◌%◌, ◌^◌, min, Bool, if◌then◌else◌, List, [], ◌∷◌, length, Option, Some, None}
-use Rattle.rtcp_source.specs.Packets.{Given, packet_came, report_came, block_made, CountedPacket, greatest_ordinal, first_ordinal, newest, run_of}
+use Rattle.std.specs.Prelude.{◌≡◌, ◌==◌, ℕ, ◌+◌, ◌%◌, ◌^◌, if◌then◌else◌, List, [], ◌∷◌, length, Option, Some, None}
+use Rattle.rtcp_source.specs.Packets.{Given, packet_came, report_came, block_made, CountedPacket, greatest_ordinal, first_ordinal, run_of}
 use Rattle.rtcp_source.specs.LastBlocks.{LastBlockValue, last_block}
-use Rattle.rtcp_source.specs.Fields.{expected_of, LastReportValue, jitter_of, jitter_with, last_report_of, transit_distance}
+use Rattle.rtcp_source.specs.ReportBlocks.{expected_of, jitter_of, transit_distance}
+use Rattle.rtcp_source.specs.Fields.{LastReportValue, jitter_with, last_report_of}
 
 -- A run in numbers.
 pub record RunValue : Type 0 where
@@ -92,7 +93,7 @@ summary_of given =
     record {
       packets = packet_count given;
       run = numbers_of run.counted run.reported;
-      stray = newest run.strays;
+      stray = run.stray;
       last_report = last_report_of given;
       last_block = last_block given;
     }

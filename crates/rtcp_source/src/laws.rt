@@ -4,24 +4,34 @@ ghost use Rattle.std.specs.Prelude.{◌≡◌, [], ◌∷◌, ◌+◌, ◌≤◌
 ghost use Rattle.rtcp_wire.specs.Values.{ReportBlock};
 ghost use Rattle.std.specs.Int.{cast_signed, w32};
 ghost use Rattle.rtcp_source.specs.declared.taken.Taken.TheVariants.{Counted};
-ghost use Rattle.rtcp_source.specs.Packets.{Given, CountedPacket, packet_came, report_came, block_made, HasCounted, packet_at, with_counted, greatest_ordinal, is_near, ordinal_near, taken_in, transit_of, run_of, has_news_since};
+ghost use Rattle.rtcp_source.specs.Packets.{Given, CountedPacket, packet_came, report_came, block_made, greatest_ordinal, is_near, ordinal_near, is_counted_in, run_of, has_news_since};
+ghost use Rattle.rtcp_source.specs.Takings.{HasCounted, packet_at, with_counted, taken_in, is_counted, transit_of, counted_since_block};
 ghost use Rattle.rtcp_source.specs.Integers.{IsIntegerNear, HasIntegerNear, HasOrdinalNear, IsOrdinalOfInteger, ordinal_of, greatest_integer};
 ghost use Rattle.rtcp_source.specs.LastBlocks.{last_block};
 ghost use Rattle.rtcp_source.specs.Blocks.{block_for, news_of};
 ghost use Rattle.rtcp_source.specs.Receptions.{reception_in, reception_over, figures_of, figures_in, said_by};
 ghost use Rattle.rtcp_source.specs.Steps.{no_source, taken_by, after_packet, after_report_came, after_block_made};
 ghost use Rattle.rtcp_source.specs.Summary.{summary_of, HasOneRate, interarrival_jitter, since_change};
-ghost use Rattle.rtcp_source.specs.Fields.{transit_distance, jitter_of, last_report_of, lsr_of, dlsr_of, block_over};
+ghost use Rattle.rtcp_source.specs.ReportBlocks.{transit_distance, jitter_of, block_over};
+ghost use Rattle.rtcp_source.specs.Fields.{last_report_of, lsr_of, dlsr_of};
 
 /// What is kept of a source gives the same results as the list of all that it was given: what a packet is,
-/// whether there is news, how its packets are received, and the report block.
+/// whether it is counted, whether there is news, how its packets are received, and the report block.
 pub fn summary_suffices()
     ensures taken { (given : List Given) (seq : ℕ) →
         taken_by (summary_of given) seq ≡ taken_in (run_of given) seq }
+    ensures counted { (given : List Given) (seq : ℕ) →
+        is_counted (taken_by (summary_of given) seq) ≡ is_counted_in (run_of given) seq }
     ensures news { (given : List Given) → news_of (summary_of given).run ≡ has_news_since given }
     ensures block { (given : List Given) (ssrc t : ℕ) →
         block_for ssrc t (summary_of given) ≡ block_over ssrc t given }
     ensures reception { (given : List Given) → reception_in (summary_of given) ≡ reception_over given }
+{}
+
+/// A source has news exactly where some packet was counted since its last block, or at all if no block was made.
+#[tactic(auto, using(crate::proofs::News::news_is_counted))]
+pub fn news_is_that_of_packets()
+    ensures { (given : List Given) → has_news_since given ≡ counted_since_block given }
 {}
 
 /// How a source's packets are received is what its report block would say at any moment, but for the fraction

@@ -3,7 +3,8 @@
 ghost use Rattle.std.specs.Prelude.{◌≡◌, ◌==◌, ◌+◌, ◌≤◌, ◌<◌, ◌^◌, ◌≤ℤ◌, pos, negsuc, Some};
 ghost use Rattle.rtcp_wire.specs.Views.{block_value};
 ghost use Rattle.rtcp_wire.specs.Writing.{IsWritableBlock};
-ghost use Rattle.rtcp_source.specs.Fields.{fraction_of, lost_of, transit_distance, jitter_on};
+ghost use Rattle.rtcp_source.specs.ReportBlocks.{transit_distance};
+ghost use Rattle.rtcp_source.specs.Fields.{fraction_of, lost_of, jitter_on};
 ghost use Rattle.rtcp_source.specs.Blocks.{expected_in, block_of_run};
 ghost use Rattle.rtcp_source.specs.Bounds.{IsRunBounded};
 ghost use Rattle.rtcp_source.specs.Steps.{run_from, run_after, run_reported};

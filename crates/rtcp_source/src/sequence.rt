@@ -3,7 +3,8 @@
 //! never negative.
 
 ghost use Rattle.std.specs.Prelude.{◌≡◌, ◌≤◌, ◌<◌, ◌^◌, max, option_map};
-ghost use Rattle.rtcp_source.specs.Packets.{ahead, is_near, ordinal_near, follows, taken_as};
+ghost use Rattle.rtcp_source.specs.Packets.{ahead, is_near, ordinal_near, follows};
+ghost use Rattle.rtcp_source.specs.Takings.{taken_as};
 
 use crate::taken::Taken;
 

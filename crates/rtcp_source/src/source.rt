@@ -3,9 +3,11 @@
 ghost use Rattle.std.specs.Prelude.{◌≡◌, ◌∷◌, [], ◌<◌, ◌≤◌, ◌^◌, List, Some, IsSome, option_map};
 ghost use Rattle.rtcp_wire.specs.Views.{block_value};
 ghost use Rattle.rtcp_wire.specs.Writing.{IsWritableBlock};
-ghost use Rattle.rtcp_source.specs.Packets.{Given, packet_came, report_came, block_made, taken_in, run_of, has_news_since};
+ghost use Rattle.rtcp_source.specs.Packets.{Given, packet_came, report_came, block_made, run_of, has_news_since};
+ghost use Rattle.rtcp_source.specs.Takings.{taken_in};
 ghost use Rattle.rtcp_source.specs.Summary.{StandsAt, StandsWith};
-ghost use Rattle.rtcp_source.specs.Fields.{last_report_of, middle_bits, block_over};
+ghost use Rattle.rtcp_source.specs.ReportBlocks.{block_over};
+ghost use Rattle.rtcp_source.specs.Fields.{last_report_of, middle_bits};
 ghost use Rattle.rtcp_source.specs.Bounds.{IsRunBounded};
 ghost use Rattle.rtcp_source.specs.Blocks.{block_for, news_of};
 ghost use Rattle.rtcp_source.specs.Receptions.{reception_in, reception_over};

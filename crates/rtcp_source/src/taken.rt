@@ -29,7 +29,7 @@ pub enum Taken {
 }
 
 impl Taken {
-    ghost use Rattle.rtcp_source.specs.Packets.{is_counted};
+    ghost use Rattle.rtcp_source.specs.Takings.{is_counted};
 
     /// Whether the packet was counted.
     pub fn is_counted(self) -> bool

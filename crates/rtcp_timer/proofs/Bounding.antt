@@ -4,18 +4,11 @@ use Rattle.std.proofs.lemmas.Bool.Decides.{nat_tests}
 use Rattle.rtcp_clock.specs.Intervals.{drawn_interval, longest_draw}
 use Rattle.rtcp_clock.proofs.LawLemmas.{draw_within_bounds, longest_never_falls}
 use Rattle.rtcp_timer.specs.Averages.{IsBetween}
-use Rattle.rtcp_timer.specs.Schedules.{Happening, transmitted, tried, recounted, Timing, IsDue, IsInOrder, IsWithin, after, after_departure, schedule_at, newest_moment, newest_transmission, greatest_draw}
+use Rattle.rtcp_timer.specs.Schedules.{Happening, transmitted, tried, recounted, Timing, IsDue, IsInOrder, IsWithin, after, schedule_at, newest_moment, newest_transmission, greatest_draw}
 use Rattle.rtcp_timer.specs.Departures.{last_departure}
 use Rattle.rtcp_timer.proofs.Quotients.{scaled_down_shorter}
 use Rattle.rtcp_timer.proofs.Cases.{by_test}
 use Rattle.rtcp_timer.proofs.Following.{known_follows}
-
--- A departure brings the next transmission nearer if it is still to come.
-next_nearer : (moment members : ℕ) (timing : Timing) → members ≤ timing.known →
-    (after_departure moment members timing).next ≤ timing.next
-next_nearer moment members timing fewer =
-    let shorter = scaled_down_shorter (timing.next - moment) members timing.known fewer in
-    grind (arith, nat_tests, shorter)
 
 -- A departure brings the last transmission nearer, and no further than to its own moment.
 last_after : (moment members : ℕ) (timing : Timing) → timing.last ≤ moment →
@@ -26,10 +19,12 @@ last_after moment members timing in_order =
     (omega arith, omega arith))
     (λ _. (omega arith, in_order))
 
+-- A departure brings the next transmission nearer if it is still to come.
 pub next_after : (timing : Timing) (moment members : ℕ) → (after (recounted moment members) timing).next ≤ timing.next
 next_after timing moment members =
     by_test {X = Timing} (λ new. new.next ≤ timing.next) members timing.known _ _
-    (λ fewer. next_nearer moment members timing (omega arith))
+    (λ fewer. let shorter = scaled_down_shorter (timing.next - moment) members timing.known (omega arith) in
+    grind (arith, nat_tests, shorter))
     (λ _. omega arith)
 
 pub last_between : (events : List Happening) → IsInOrder events →
@@ -121,11 +116,7 @@ last_bounded_after : (moment members known sent departed : ℕ) (timing : Timing
     timing.last ≤ max sent departed →
     (after (recounted moment members) timing).last ≤ max sent (if nat_lt members known then moment else departed)
 last_bounded_after moment members known sent departed timing same bounded =
-    rw (← same) (elim (nat_lt members timing.known) as (λ t.
-    (if t then after_departure moment members timing else timing).last ≤ max sent (if t then moment else departed)) [
-      | true ↦ omega arith
-      | false ↦ bounded
-    ])
+    grind (arith, nat_tests, same, bounded)
 
 pub last_bounded : (events : List Happening) →
     (schedule_at events).last ≤ max (newest_transmission events) (last_departure events)

@@ -1,19 +1,14 @@
 -- A schedule's numbers follow from its draws and departures.
-use Rattle.std.proofs.Common.{◌≡◌, ℕ, ◌+◌, ◌-◌, ◌<◌, ◌≤◌, true, false, nat_lt, nat_le, min, if◌then◌else◌, List, [], ◌∷◌, refl, ap, ◌∙◌, arith}
-use Rattle.std.proofs.lemmas.Bool.{ltb-true, ltb-false}
+use Rattle.std.proofs.Common.{◌≡◌, ℕ, ◌+◌, nat_lt, nat_le, min, if◌then◌else◌, List, [], ◌∷◌, refl, ap, ◌∙◌, arith}
 use Rattle.std.proofs.lemmas.Bool.Decides.{nat_tests}
-use Rattle.rtcp_clock.specs.Intervals.{scaled_down}
-use Rattle.rtcp_timer.specs.Schedules.{Happening, transmitted, tried, recounted, Timing, after, after_departure, schedule_at}
+use Rattle.rtcp_timer.specs.Schedules.{Happening, transmitted, tried, recounted, Timing, after, schedule_at}
 use Rattle.rtcp_timer.specs.Departures.{Departure, members_known, with_count, last_scaled, last_moment, next_scaled, next_moment}
-use Rattle.rtcp_timer.proofs.Cases.{by_test}
 
 -- ---- The members
 
 known_after_count : (moment members : ℕ) (timing : Timing) → (after (recounted moment members) timing).known
     ≡ min members timing.known
-known_after_count moment members timing =
-    by_test {X = Timing} (λ new. new.known ≡ min members timing.known) members timing.known _ _
-    (λ (fewer : members < timing.known). omega arith) (λ (not_fewer : timing.known ≤ members). omega arith)
+known_after_count moment members timing = grind (arith, nat_tests)
 
 pub known_follows : (events : List Happening) → (schedule_at events).known ≡ members_known events
 known_follows [] = refl
@@ -28,14 +23,7 @@ known_follows (recounted moment members ∷ before) =
 last_after_count : (moment members last : ℕ) (earlier : List Departure) (timing : Timing) →
     timing.last ≡ last_scaled earlier last →
     (after (recounted moment members) timing).last ≡ last_scaled (with_count moment members timing.known earlier) last
-last_after_count moment members last earlier timing same =
-    elim (nat_lt members timing.known) as (λ t.
-    (if t then after_departure moment members timing else timing).last ≡
-    last_scaled (if t then record { moment = moment; members = members; members_before = timing.known } ∷ earlier else
-    earlier) last) [
-      | true ↦ ap (λ l. moment - scaled_down (moment - l) members timing.known) same
-      | false ↦ same
-    ]
+last_after_count moment members last earlier timing same = grind (arith, nat_tests, same)
 
 pub last_follows : (events : List Happening) → (schedule_at events).last ≡ last_moment events
 last_follows [] = refl
@@ -50,14 +38,7 @@ last_follows (recounted moment members ∷ before) =
 next_after_count : (moment members next : ℕ) (earlier : List Departure) (timing : Timing) →
     timing.next ≡ next_scaled earlier next →
     (after (recounted moment members) timing).next ≡ next_scaled (with_count moment members timing.known earlier) next
-next_after_count moment members next earlier timing same =
-    elim (nat_lt members timing.known) as (λ t.
-    (if t then after_departure moment members timing else timing).next ≡
-    next_scaled (if t then record { moment = moment; members = members; members_before = timing.known } ∷ earlier else
-    earlier) next) [
-      | true ↦ ap (λ n. if nat_le moment n then moment + scaled_down (n - moment) members timing.known else n) same
-      | false ↦ same
-    ]
+next_after_count moment members next earlier timing same = grind (arith, nat_tests, same)
 
 -- A try leaves the next transmission as it is, or sets it, with no departure since.
 next_after_try : (moment interval last next : ℕ) (earlier : List Departure) (before : ℕ) →
@@ -65,13 +46,7 @@ next_after_try : (moment interval last next : ℕ) (earlier : List Departure) (b
     (if nat_le (last + interval) moment then next else last + interval) ≡
     next_scaled (if nat_lt moment (last + interval) then [] else earlier)
     (if nat_lt moment (last + interval) then last + interval else before)
-next_after_try moment interval last next earlier before same =
-    elim (nat_lt moment (last + interval)) as (λ t. nat_lt moment (last + interval) ≡ t →
-    (if nat_le (last + interval) moment then next else last + interval) ≡
-    next_scaled (if t then [] else earlier) (if t then last + interval else before)) [
-      | true ↦ λ is. let early : moment < last + interval = ltb-true _ _ is in grind (arith, nat_tests)
-      | false ↦ λ is. let due : last + interval ≤ moment = ltb-false _ _ is in grind (arith, nat_tests)
-    ] refl
+next_after_try moment interval last next earlier before same = grind (arith, nat_tests, same)
 
 pub next_follows : (events : List Happening) → (schedule_at events).next ≡ next_moment events
 next_follows [] = refl

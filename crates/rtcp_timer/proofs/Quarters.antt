@@ -7,6 +7,7 @@ use Rattle.rtcp_timer.specs.declared.load.Load.{Load}
 use Rattle.rtcp_timer.specs.Loads.{Sharers, the_senders, the_others, everyone, interval_at_share, minimum_of, interval_of}
 use Rattle.rtcp_timer.specs.Quarters.{interval_at_quarters, quarterly_interval}
 use Rattle.rtcp_timer.proofs.Quotients.{div_ceil_covers, div_ceil_least}
+use Rattle.rtcp_timer.proofs.Sharing.{by_sharers}
 
 -- a quotient whose two numbers are both taken four times
 div_ceil_fourfold : (n d : ℕ) → 0 < d → div_ceil n d ≡ div_ceil (4 * n) (4 * d)
@@ -82,5 +83,6 @@ by_quarters load is some =
     (4 * load.senders) load.members =
     ap (λ (b : ℕ). nat_le (load.senders * (load.sender_bw + b)) (load.members * load.sender_bw)) is
     ∙ same_test load.members load.senders load.sender_bw some in
-    ap (λ (few : Bool). max (minimum_of load.initial) (interval_at_share (chosen few load.we_sent load) load)) test
+    by_sharers load
+    ∙ ap (λ (few : Bool). max (minimum_of load.initial) (interval_at_share (chosen few load.we_sent load) load)) test
     ∙ ap (max (minimum_of load.initial)) (by_cases (nat_le (4 * load.senders) load.members) load.we_sent load is some)

@@ -7,6 +7,7 @@ use Rattle.rtcp_timer.specs.declared.load.Load.{Load}
 use Rattle.rtcp_timer.specs.Loads.{interval_at_share, interval_for, interval_of, minimum_of, sharers_of}
 use Rattle.rtcp_timer.proofs.Quarters.{chosen}
 use Rattle.rtcp_timer.proofs.Quotients.{div_ceil_covers, div_ceil_least}
+use Rattle.rtcp_timer.proofs.Sharing.{by_sharers}
 
 -- fewer for each octet of the bandwidth take no longer
 no_longer : (load : Load) (n b m d : ℕ) → 0 < b → 0 < d → n * d ≤ m * b → interval_for n b load ≤ interval_for m d load
@@ -86,11 +87,11 @@ module _ (load : Load) (some : 1 ≤ load.sender_bw) (some_more : 1 ≤ load.rec
   shared = by_test (nat_le (load.senders * both) (load.members * load.sender_bw)) refl load.we_sent
 
   pub of_a_sender : load.we_sent ≡ true → interval_of load ≡ max (minimum_of load.initial) (min of_senders of_all)
-  of_a_sender is = ap (max (minimum_of load.initial))
+  of_a_sender is = by_sharers load ∙ ap (max (minimum_of load.initial))
       (shared ∙ ap (λ (b : Bool). if b then min of_senders of_all else max of_others of_all) is)
 
   pub of_another : load.we_sent ≡ false → interval_of load ≡ max (minimum_of load.initial) (max of_others of_all)
-  of_another is = ap (max (minimum_of load.initial))
+  of_another is = by_sharers load ∙ ap (max (minimum_of load.initial))
       (shared ∙ ap (λ (b : Bool). if b then min of_senders of_all else max of_others of_all) is)
 
 -- ---- Less bandwidth

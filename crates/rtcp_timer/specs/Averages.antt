@@ -6,14 +6,14 @@ use Rattle.std.specs.Prelude.{ℕ, ◌+◌, ◌*◌, ◌/◌, ◌≤◌, List, [
 abbrev pub with_headers : (size : ℕ) → ℕ
 with_headers size = size + 28
 
--- A new compound weighs 1/16, and the average before it 15/16.
-abbrev pub moved_average : (average size : ℕ) → ℕ
-moved_average average size = (256 * with_headers size + 15 * average) / 16
-
--- the average over a first compound and those since
+-- The average over a first compound and those since: each weighs 1/16, and the average before it 15/16.
 abbrev pub average_of : (first : ℕ) (sizes : List ℕ) → ℕ
 average_of first [] = 256 * with_headers first
-average_of first (size ∷ sizes) = moved_average (average_of first sizes) size
+average_of first (size ∷ sizes) = (256 * with_headers size + 15 * average_of first sizes) / 16
+
+-- the average after one more compound
+abbrev pub moved_average : (average size : ℕ) → ℕ
+moved_average average size = (256 * with_headers size + 15 * average) / 16
 
 -- A number lies between two others, both included.
 abbrev pub IsBetween : (low high number : ℕ) → Type 0

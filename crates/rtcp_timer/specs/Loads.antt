@@ -1,8 +1,28 @@
 -- The deterministic interval (RFC 3550, 6.3.1), in microseconds. The average is in 1/256 octet, and the
 -- bandwidth in octets a second.
-use Rattle.std.specs.Prelude.{ℕ, ◌+◌, ◌-◌, ◌*◌, ◌≤◌, Bool, nat_le, max, if◌then◌else◌}
+use Rattle.std.specs.Prelude.{ℕ, ◌+◌, ◌-◌, ◌*◌, ◌≤◌, Bool, nat_lt, nat_le, max, if◌then◌else◌}
 use Rattle.std.specs.Int.{div_ceil}
 use Rattle.rtcp_timer.specs.declared.load.Load.{Load}
+
+-- the interval in which a bandwidth carries one compound of average size from each of so many
+abbrev pub interval_for : (count bandwidth : ℕ) → Load → ℕ
+interval_for count bandwidth load = div_ceil (1000000 * count * load.avg) (256 * bandwidth)
+
+-- the minimum, which is half as long before the first report (6.2)
+abbrev pub minimum_of : (initial : Bool) → ℕ
+minimum_of initial = if initial then 2500000 else 5000000
+
+-- Where senders are more of the members than their part is of the bandwidth, all members share all of it. Elsewhere
+-- senders share that part, and the others the other one.
+abbrev pub interval_of : Load → ℕ
+interval_of load =
+    let bandwidth : ℕ = load.sender_bw + load.receiver_bw in
+    max (minimum_of load.initial)
+    (if nat_lt (load.members * load.sender_bw) (load.senders * bandwidth) then interval_for load.members bandwidth load
+    else if load.we_sent then interval_for load.senders load.sender_bw load
+    else interval_for (load.members - load.senders) load.receiver_bw load)
+
+-- ---- Who shares
 
 -- those who share a part of the bandwidth with the participant, which is one of them
 pub data Sharers : Type 0 where
@@ -10,8 +30,6 @@ pub data Sharers : Type 0 where
   the_others : Sharers
   everyone : Sharers
 
--- Where senders are no more of the members than their part is of the bandwidth, they share that part and the others
--- the other one.
 abbrev pub sharers_of : Load → Sharers
 sharers_of load =
     if nat_le (load.senders * (load.sender_bw + load.receiver_bw)) (load.members * load.sender_bw)
@@ -30,20 +48,9 @@ bandwidth_of the_senders load = load.sender_bw
 bandwidth_of the_others load = load.receiver_bw
 bandwidth_of everyone load = load.sender_bw + load.receiver_bw
 
--- the interval in which a bandwidth carries one compound of average size from each of so many
-abbrev pub interval_for : (count bandwidth : ℕ) → Load → ℕ
-interval_for count bandwidth load = div_ceil (1000000 * count * load.avg) (256 * bandwidth)
-
--- that of the sharers and their part of the bandwidth
+-- the interval of the sharers and their part of the bandwidth
 abbrev pub interval_at_share : Sharers → Load → ℕ
 interval_at_share sharers load = interval_for (count_of sharers load) (bandwidth_of sharers load) load
-
--- the minimum, which is half as long before the first report (6.2)
-abbrev pub minimum_of : (initial : Bool) → ℕ
-minimum_of initial = if initial then 2500000 else 5000000
-
-abbrev pub interval_of : Load → ℕ
-interval_of load = max (minimum_of load.initial) (interval_at_share (sharers_of load) load)
 
 -- One compound of average size from each of the sharers in each interval uses at most their part of the
 -- bandwidth: the octets of these compounds over the seconds of the interval are at most the octets a second

@@ -1,7 +1,7 @@
 -- When the next report is due (RFC 3550, 6.3.2, 6.3.4 and 6.3.6; appendix A.7). Moments and intervals are
 -- in microseconds, `members` is a number of members, and lists of happenings are newest first.
-use Rattle.std.specs.Prelude.{ℕ, ◌+◌, ◌-◌, ◌≤◌, List, [], ◌∷◌, nat_lt, nat_le, max, if◌then◌else◌}
-use Rattle.rtcp_clock.specs.Intervals.{scaled_down, longest_draw}
+use Rattle.std.specs.Prelude.{ℕ, ◌+◌, ◌-◌, ◌*◌, ◌/◌, ◌≤◌, List, [], ◌∷◌, nat_lt, nat_le, max, if◌then◌else◌}
+use Rattle.rtcp_clock.specs.Intervals.{longest_draw}
 
 -- what happens to a schedule
 pub data Happening : Type 0 where
@@ -13,54 +13,41 @@ pub data Happening : Type 0 where
   -- the members were counted again, as some may have departed (6.3.4)
   recounted : (moment members : ℕ) → Happening
 
--- the three numbers of a schedule
+-- The numbers of a schedule: the moment of the last transmission, as departures have moved it, that of the next one,
+-- and the members at the last draw or departure.
 pub record Timing : Type 0 where
-  -- the moment of the last transmission, as departures have moved it
   pub last : ℕ
-  -- the moment of the next transmission
   pub next : ℕ
-  -- the members at the last draw or departure
   pub known : ℕ
+
+-- A schedule after one more happening. A try is reconsideration (6.3.6): if the interval has not passed yet, the next
+-- transmission is put off until it will have. A count of fewer members is reverse reconsideration (6.3.4): the
+-- distances to the last and the next transmission shrink as the members do, but an overdue next transmission stays.
+abbrev pub after : Happening → Timing → Timing
+after (transmitted moment interval members) timing = record { last = moment; next = moment + interval; known = members }
+after (tried moment interval members) timing =
+    let passed : ℕ = timing.last + interval in
+    record { last = timing.last; next = if nat_le passed moment then timing.next else passed; known = members }
+after (recounted moment members) timing =
+    let next : ℕ = moment + (timing.next - moment) * members / timing.known in
+    if nat_lt members timing.known
+    then record {
+      last = moment - (moment - timing.last) * members / timing.known;
+      next = if nat_le moment timing.next then next else timing.next;
+      known = members;
+    }
+    else timing
+
+-- where a schedule *stands* after some happenings: its numbers, computed from its whole history
+abbrev pub schedule_at : List Happening → Timing
+schedule_at [] = record { last = 0; next = 0; known = 1 }
+schedule_at (newest ∷ before) = after newest (schedule_at before)
 
 -- A transmission is due when the moment of the next one has come and the interval has passed since the last
 -- one (6.3.6).
 pub record IsDue (timing : Timing) (moment interval : ℕ) : Type 0 where
   pub came : timing.next ≤ moment
   pub passed : timing.last + interval ≤ moment
-
--- Reconsideration (6.3.6): if the interval has not passed yet, the next transmission is put off until it will
--- have.
-abbrev pub after_try : (moment interval members : ℕ) → Timing → Timing
-after_try moment interval members timing = record {
-  last = timing.last;
-  next = if nat_le (timing.last + interval) moment then timing.next else timing.last + interval;
-  known = members;
-}
-
--- Reverse reconsideration (6.3.4): the distances to the last and the next transmission shrink as the members
--- do. An overdue next transmission stays.
-abbrev pub after_departure : (moment members : ℕ) → Timing → Timing
-after_departure moment members timing = record {
-  last = moment - scaled_down (moment - timing.last) members timing.known;
-  next =
-      if nat_le moment timing.next
-      then moment + scaled_down (timing.next - moment) members timing.known
-      else timing.next;
-  known = members;
-}
-
--- a schedule after one more happening; a count of no fewer members changes nothing
-abbrev pub after : Happening → Timing → Timing
-after (transmitted moment interval members) timing =
-    record { last = moment; next = moment + interval; known = members }
-after (tried moment interval members) timing = after_try moment interval members timing
-after (recounted moment members) timing =
-    if nat_lt members timing.known then after_departure moment members timing else timing
-
--- where a schedule *stands* after some happenings: its numbers, computed from its whole history
-abbrev pub schedule_at : List Happening → Timing
-schedule_at [] = record { last = 0; next = 0; known = 1 }
-schedule_at (newest ∷ before) = after newest (schedule_at before)
 
 -- ---- Moments and intervals of happenings
 

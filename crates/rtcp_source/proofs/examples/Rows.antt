@@ -4,7 +4,7 @@ use Rattle.rtcp_wire.specs.Values.{ReportBlock}
 use Rattle.rtcp_source.specs.Packets.{Given, packet_came, report_came, block_made}
 use Rattle.rtcp_source.specs.Summary.{summary_of}
 use Rattle.rtcp_source.specs.Blocks.{block_for}
-use Rattle.rtcp_source.specs.Fields.{block_over}
+use Rattle.rtcp_source.specs.ReportBlocks.{block_over}
 
 -- packets of one transit, the newest number first
 abbrev with_numbers : List ℕ → List Given → List Given

@@ -4,6 +4,9 @@ use Rattle.rtcp_source.proofs.laws.summary_suffices.Goals as goal
 pub returns-clause-taken : goal.returns-clause-taken
 returns-clause-taken c = law.summary_suffices-taken
 
+pub returns-clause-counted : goal.returns-clause-counted
+returns-clause-counted c = law.summary_suffices-counted
+
 pub returns-clause-news : goal.returns-clause-news
 returns-clause-news c = law.summary_suffices-news
 
