@@ -4,7 +4,7 @@ use Rattle.std.specs.Prelude.{slice_index}
 use Rattle.std.proofs.lemmas.List.Elements.{All-nil, All-cons, All-head, All-tail, All-take, All-drop}
 use Rattle.rtcp_wire.specs.Values.{ReportBlock, RtcpPacket, sr, rr, sdes, bye, app, other}
 use Rattle.rtcp_wire.specs.Grammar.{AreOctets, Joins, IsBlock, IsReportEnd, IsBody, IsSpelling}
-use Rattle.rtcp_wire.specs.Readings.{type_of, count_of, body_of}
+use Rattle.rtcp_wire.specs.Headers.{type_of, count_of, body_of}
 
 -- ---- Octets
 

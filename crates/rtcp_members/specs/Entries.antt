@@ -4,7 +4,7 @@ use Rattle.std.specs.Prelude.{ℕ, ◌≡◌, ◌≤◌, ◌||◌, ◌==◌, ◌
 use Rattle.rtcp_wire.specs.declared.fact.Fact.{Fact}
 use Rattle.rtcp_wire.specs.declared.fact.Fact.TheVariants.{Told, Named, Media}
 use Rattle.rtcp_clock.specs.Moments.{media_units}
-use Rattle.rtcp_source.specs.Packets.{Given, packet_came, report_came, block_made, taken_in, is_counted, run_of}
+use Rattle.rtcp_source.specs.Packets.{Given, packet_came, report_came, block_made, is_counted_in, run_of}
 use Rattle.rtcp_source.specs.Summary.{SourceValue, summary_of}
 use Rattle.rtcp_wire.specs.Facts.{subject}
 use Rattle.rtcp_members.specs.Traces.{Horizons, TraceStep, fact_came, check_made, block_made_of, names}
@@ -31,7 +31,7 @@ given_of ssrc (step ∷ earlier) = given_with ssrc step (given_of ssrc earlier)
 
 abbrev pub is_counted_fact : (ssrc : ℕ) → Fact → List Given → Bool
 is_counted_fact ssrc (Media other seq timestamp octets rate) given =
-    other == ssrc && is_counted (taken_in (run_of given) seq)
+    other == ssrc && is_counted_in (run_of given) seq
 is_counted_fact ssrc _ given = false
 
 -- Whether a step is a counted packet of the source, to which this was given before (A.1).

@@ -3,7 +3,7 @@
 use Rattle.std.specs.Prelude.{ℕ, ◌&&◌, Bool, false, not, nat_lt, List, [], ◌∷◌, ◌++◌, filter, filter_map, if◌then◌else◌, Option, Some, None, is_none, true}
 use Rattle.rtcp_wire.specs.Values.{ReportBlock}
 use Rattle.rtcp_source.specs.Packets.{has_news_since}
-use Rattle.rtcp_source.specs.Fields.{block_over}
+use Rattle.rtcp_source.specs.ReportBlocks.{block_over}
 use Rattle.rtcp_members.specs.Traces.{TraceStep, names}
 use Rattle.rtcp_members.specs.Stays.{mark_of, before_mark, stay_of}
 use Rattle.rtcp_members.specs.Entries.{given_of}

@@ -5,7 +5,7 @@ use Rattle.std.specs.FinMap as map
 use Rattle.rtcp_wire.specs.declared.fact.Fact.{Fact}
 use Rattle.rtcp_wire.specs.declared.fact.Fact.TheVariants.{Heard, Told, Named, Gone, Media}
 use Rattle.rtcp_clock.specs.Moments.{media_units}
-use Rattle.rtcp_source.specs.Packets.{is_counted}
+use Rattle.rtcp_source.specs.Takings.{is_counted}
 use Rattle.rtcp_source.specs.Summary.{SourceValue}
 use Rattle.rtcp_source.specs.Steps.{no_source, taken_by, after_packet, after_report_came}
 use Rattle.rtcp_members.specs.declared.table.Place.{Place}

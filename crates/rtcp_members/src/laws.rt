@@ -6,7 +6,7 @@ ghost use Rattle.std.specs.FinMap as map;
 ghost use Rattle.rtcp_wire.specs.declared.fact.Fact.{Fact};
 ghost use Rattle.rtcp_wire.specs.Facts.{subject, is_gone, is_media};
 ghost use Rattle.rtcp_members.specs.Traces.{Horizons, TraceStep, fact_came, check_made, block_made_of, source_forgotten, names, with_facts};
-ghost use Rattle.rtcp_source.specs.Fields.{block_over};
+ghost use Rattle.rtcp_source.specs.ReportBlocks.{block_over};
 ghost use Rattle.rtcp_members.specs.Stays.{mark_of, present_among, stay_of};
 ghost use Rattle.rtcp_members.specs.Entries.{counted_at, count_at, given_of, is_member, is_sender, is_such, members_at, senders_at};
 ghost use Rattle.rtcp_members.specs.Pending.{EntryRow, block_at, is_due_at, after_block, after_blocks};

@@ -2,7 +2,8 @@
 use Rattle.std.proofs.Common.{ℕ, ◌+◌, ◌-◌, List, [], ◌++◌, sym, ap, ◌∙◌, append_assoc, append-nil, refl, arith}
 use Rattle.std.proofs.lemmas.List.{length-append}
 use Rattle.rtcp_wire.specs.Grammar.{IsSpelling}
-use Rattle.rtcp_wire.specs.Readings.{body_of, padding_of, size_of}
+use Rattle.rtcp_wire.specs.Readings.{size_of}
+use Rattle.rtcp_wire.specs.Headers.{body_of, padding_of}
 use Rattle.rtcp_wire.specs.Placed.{StandsIn}
 use Rattle.rtcp_wire.specs.Values.{AppValue, RtcpPacket, app}
 use Rattle.rtcp_parts.specs.declared.placed.PlacedApp.{PlacedApp}

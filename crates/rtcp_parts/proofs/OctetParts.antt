@@ -2,7 +2,8 @@
 use Rattle.std.proofs.Common.{◌≡◌, ℕ, ◌+◌, ◌-◌, ◌≤◌, List, ◌++◌, length, take, drop, sym, ap, ◌∙◌, arith}
 use Rattle.std.proofs.lemmas.List.{drop-drop, drop-take, get_or_append_left, length-drop, length-take, length-take-le, take-append-drop, take_min, take-take}
 use Rattle.byteorder.specs.Endian.{big_number}
-use Rattle.rtcp_wire.specs.Readings.{body_of, padding_of, size_of}
+use Rattle.rtcp_wire.specs.Readings.{size_of}
+use Rattle.rtcp_wire.specs.Headers.{body_of, padding_of}
 use Rattle.rtcp_wire.specs.Placed.{StandsIn}
 
 -- So many octets, after some, of octets that stand in others.

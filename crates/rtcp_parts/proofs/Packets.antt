@@ -2,7 +2,8 @@
 use Rattle.std.proofs.Common.{◌≡◌, ℕ, ◌+◌, ◌*◌, ◌≤◌, List, [], ◌∷◌, ◌++◌, length, get_or, take, drop, refl, sym, ap, subst, ◌∙◌, append-nil, append_assoc, arith}
 use Rattle.std.proofs.lemmas.List.{drop-drop, drop_at, get_or_append_left, get_or-drop, take_at}
 use Rattle.rtcp_wire.specs.Grammar.{Joins, IsSpelling}
-use Rattle.rtcp_wire.specs.Readings.{body_of, count_of, size_of, type_of}
+use Rattle.rtcp_wire.specs.Readings.{size_of}
+use Rattle.rtcp_wire.specs.Headers.{body_of, count_of, type_of}
 use Rattle.rtcp_wire.specs.Values.{RtcpPacket}
 use Rattle.rtcp_parts.specs.declared.packet.Packet.{Packet}
 use Rattle.rtcp_parts.specs.declared.packet.Wanted.{Wanted}

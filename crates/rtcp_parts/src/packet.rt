@@ -2,7 +2,8 @@
 
 ghost use Rattle.std.specs.Prelude.{◌≡◌, ◌≤◌, ◌<◌, ◌+◌, ◌-◌, ◌↔◌, List, [], ◌∷◌, length, drop, IfSome, MatchOption, IsTrue, None};
 ghost use Rattle.rtcp_wire.specs.Grammar.{Joins, IsSpelling};
-ghost use Rattle.rtcp_wire.specs.Readings.{body_of, padding_of, size_of};
+ghost use Rattle.rtcp_wire.specs.Readings.{size_of};
+ghost use Rattle.rtcp_wire.specs.Headers.{body_of, padding_of};
 ghost use Rattle.rtcp_wire.specs.Values.{RtcpPacket};
 ghost use Rattle.rtcp_parts.specs.Cursors.{IsBoundary};
 ghost use Rattle.rtcp_parts.specs.Walks.{ComesFirst, ComesNext, IsOwnPacket, IsWanted, AreUnwanted, IsPlaced};

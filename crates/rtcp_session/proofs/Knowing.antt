@@ -5,7 +5,7 @@ use Rattle.std.proofs.lemmas.List.Elements.{All-nil, All-cons, All-head, All-tai
 use Rattle.rtcp_wire.specs.declared.fact.Fact.{Fact}
 use Rattle.rtcp_wire.specs.declared.fact.Fact.TheVariants.{Heard, Told, Named, Gone, Media}
 use Rattle.rtcp_wire.specs.Facts.{subject, is_media}
-use Rattle.rtcp_source.specs.Packets.{Given, taken_in, is_counted, run_of}
+use Rattle.rtcp_source.specs.Packets.{Given, is_counted_in, run_of}
 use Rattle.rtcp_members.specs.Traces.{TraceStep, fact_came, check_made, block_made_of, is_naming, names, source_forgotten}
 use Rattle.rtcp_members.specs.Stays.{mark_of, before_mark, present_among, stay_of, stay_with, ends_stay}
 use Rattle.rtcp_members.specs.Lasting.{says_bye}
@@ -231,7 +231,7 @@ uncounted ssrc (Told other ntp rtp) given quiet = refl
 uncounted ssrc (Named other) given quiet = refl
 uncounted ssrc (Gone other) given quiet = refl
 uncounted ssrc (Media other seq timestamp octets rate) given quiet =
-    ap (λ (b : Bool). b && is_counted (taken_in (run_of given) seq)) quiet
+    ap (λ (b : Bool). b && is_counted_in (run_of given) seq) quiet
 
 sends_none : (ssrc : ℕ) (own : List TraceStep) → All (IsQuiet ssrc) own → sending_of ssrc own ≡ None
 sends_none ssrc [] h = refl

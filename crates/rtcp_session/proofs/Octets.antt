@@ -4,7 +4,8 @@ use Rattle.std.proofs.lemmas.List.{length-append, length-drop, length-take, get_
 use Rattle.rtcp_wire.specs.declared.fault.WireFault.{WireFault}
 use Rattle.rtcp_wire.specs.Values.{RtcpPacket, sr, rr, sdes, bye, app, other}
 use Rattle.rtcp_wire.specs.Grammar.{Joins, IsBody, IsSpelling}
-use Rattle.rtcp_wire.specs.Readings.{body_of, count_of, padding_of, size_of, type_of}
+use Rattle.rtcp_wire.specs.Readings.{size_of}
+use Rattle.rtcp_wire.specs.Headers.{body_of, count_of, padding_of, type_of}
 use Rattle.rtcp_engine.specs.answers.Acts.{IsReading, rtcp_came}
 use Rattle.rtcp_session.specs.Windows.{HasSize}
 

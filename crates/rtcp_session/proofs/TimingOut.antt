@@ -3,7 +3,7 @@ use Rattle.std.proofs.Common.{◌≡◌, ℕ, ◌+◌, ◌*◌, ◌<◌, ◌≤�
 use Rattle.std.proofs.lemmas.Bool.{le-ltb, ltb-true}
 use Rattle.rtcp_members.specs.Stays.{last_naming}
 use Rattle.rtcp_timer.specs.declared.load.Load.{Load}
-use Rattle.rtcp_timer.specs.Loads.{interval_at_share, interval_of, minimum_of, sharers_of}
+use Rattle.rtcp_timer.specs.Loads.{interval_of, minimum_of}
 use Rattle.rtcp_engine.specs.declared.pace.Pace.{Pace}
 use Rattle.rtcp_engine.specs.answers.Setups.{Setup}
 use Rattle.rtcp_engine.specs.answers.Acts.{ticked}
@@ -38,7 +38,7 @@ silence_is_long setup t outcome =
     let load : Load = check_load setup t outcome in
     subst (λ (initial : Bool). (if initial then 12500000 else 25000000) ≤ 5 * interval_of load)
     (slowed_stays_initial t (newest_pace outcome.paces) (receiver_load setup outcome))
-    (five_minimums load.initial (interval_at_share (sharers_of load) load))
+    (five_minimums load.initial _)
 
 -- ---- Time-outs
 

@@ -4,9 +4,9 @@ use Rattle.std.proofs.lemmas.Bool.{eq-eqb}
 use Rattle.rtcp_wire.specs.Facts.{subject}
 use Rattle.rtcp_wire.specs.declared.fact.Fact.{Fact}
 use Rattle.rtcp_wire.specs.declared.fact.Fact.TheVariants.{Media}
-use Rattle.rtcp_source.specs.Packets.{Given, taken_in, run_of, is_counted}
+use Rattle.rtcp_source.specs.Packets.{Given, is_counted_in, run_of}
 use Rattle.rtcp_source.specs.Summary.{summary_of}
-use Rattle.rtcp_source.proofs.LawLemmas.{summary_suffices-taken}
+use Rattle.rtcp_source.proofs.LawLemmas.{summary_suffices-counted}
 use Rattle.rtcp_members.specs.Traces.{TraceStep}
 use Rattle.rtcp_members.specs.Stays.{mark_of, before_mark, stay_of}
 use Rattle.rtcp_members.specs.Entries.{given_of, is_counted_fact, counted_in_stay, counted_at, entry_of}
@@ -17,7 +17,7 @@ use Rattle.rtcp_members.proofs.stays.Staying.{entry_with, entry_unmarked}
 counts_in_run : (fact : Fact) (given : List Given) → counts fact (summary_of given) ≡ is_counted_fact (subject fact)
     fact given
 counts_in_run (Media ssrc seq timestamp octets rate) given =
-    ap is_counted (summary_suffices-taken given seq) ∙ ap (λ b. b && is_counted (taken_in (run_of given) seq))
+    summary_suffices-counted given seq ∙ ap (λ b. b && is_counted_in (run_of given) seq)
     (sym (eq-eqb ssrc ssrc refl))
 counts_in_run fact given = refl
 

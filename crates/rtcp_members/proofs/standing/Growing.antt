@@ -5,7 +5,7 @@ use Rattle.std.specs.FinMap as finite
 use Rattle.rtcp_wire.specs.Facts.{subject, is_gone}
 use Rattle.rtcp_wire.specs.declared.fact.Fact.{Fact}
 use Rattle.rtcp_wire.specs.declared.fact.Fact.TheVariants.{Heard, Told, Named, Gone, Media}
-use Rattle.rtcp_source.specs.Packets.{is_counted}
+use Rattle.rtcp_source.specs.Takings.{is_counted}
 use Rattle.rtcp_source.specs.Steps.{taken_by}
 use Rattle.rtcp_members.specs.declared.table.Place.TheVariants.{Kept, Ignored, Left}
 use Rattle.rtcp_members.specs.Traces.{Horizons, TraceStep, fact_came, names}

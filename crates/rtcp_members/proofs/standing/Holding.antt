@@ -3,7 +3,7 @@ use Rattle.std.proofs.Common.{◌≡◌, ℕ, if◌then◌else◌, List, [], ◌
 use Rattle.std.specs.FinMap as finite
 use Rattle.rtcp_wire.specs.Values.{ReportBlock}
 use Rattle.rtcp_source.specs.Blocks.{block_for}
-use Rattle.rtcp_source.specs.Fields.{block_over}
+use Rattle.rtcp_source.specs.ReportBlocks.{block_over}
 use Rattle.rtcp_source.proofs.LawLemmas.{summary_suffices-block}
 use Rattle.rtcp_members.specs.Traces.{TraceStep}
 use Rattle.rtcp_members.specs.Stays.{before_mark, mark_of, stay_of}

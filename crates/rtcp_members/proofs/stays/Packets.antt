@@ -9,7 +9,7 @@ use Rattle.rtcp_wire.specs.declared.fact.Fact.TheVariants.{Media}
 use Rattle.rtcp_clock.specs.Moments.{media_units}
 use Rattle.rtcp_source.specs.declared.taken.Taken.{Taken}
 use Rattle.rtcp_source.specs.declared.taken.Taken.TheVariants.{Counted}
-use Rattle.rtcp_source.specs.Packets.{transit_of}
+use Rattle.rtcp_source.specs.Takings.{transit_of}
 use Rattle.rtcp_source.specs.Summary.{SourceValue}
 use Rattle.rtcp_source.specs.Steps.{source_with, taken_by}
 use Rattle.rtcp_wire.specs.Facts.{subject, is_media}

@@ -3,10 +3,11 @@ use Rattle.std.proofs.Common.{◌≡◌, ℕ, true, false, if◌then◌else◌, 
 use Rattle.rtcp_wire.specs.declared.fact.Fact.{Fact}
 use Rattle.rtcp_wire.specs.declared.fact.Fact.TheVariants.{Heard, Media}
 use Rattle.rtcp_clock.specs.Moments.{media_units}
-use Rattle.rtcp_source.specs.Packets.{packet_came, taken_in, is_counted, run_of}
+use Rattle.rtcp_source.specs.Packets.{packet_came, is_counted_in, run_of}
+use Rattle.rtcp_source.specs.Takings.{is_counted}
 use Rattle.rtcp_source.specs.Summary.{summary_of}
 use Rattle.rtcp_source.specs.Steps.{taken_by, after_packet}
-use Rattle.rtcp_source.proofs.LawLemmas.{summary_moves-packet, summary_suffices-taken}
+use Rattle.rtcp_source.proofs.LawLemmas.{summary_moves-packet, summary_suffices-counted}
 use Rattle.rtcp_wire.specs.Facts.{subject}
 use Rattle.rtcp_members.specs.Traces.{Horizons, TraceStep, fact_came, check_made}
 use Rattle.rtcp_members.specs.Stays.{mark_at, mark_of, before_mark, last_naming}
@@ -60,17 +61,17 @@ pub own_fact : (ssrc moment : ℕ) (fact : Fact) (stay : List TraceStep) → (su
     → moved_entry ssrc (fact_came fact moment) stay ≡ entry_after fact moment (entry_with ssrc stay None)
 own_fact ssrc moment (Media other seq timestamp octets rate) stay own =
     let given = given_of ssrc stay in
-    let taken : taken_in (run_of given) seq ≡ taken_by (summary_of given) seq =
-    sym (summary_suffices-taken given seq) in
+    let counted : is_counted_in (run_of given) seq ≡ is_counted (taken_by (summary_of given) seq) =
+    sym (summary_suffices-counted given seq) in
     let arrival = media_units moment rate in
     let moved : summary_of (packet_came seq timestamp arrival octets rate ∷ given)
     ≡ after_packet seq timestamp arrival octets rate (summary_of given) =
     summary_moves-packet seq timestamp arrival octets rate given in
     rw own (λ i. record {
-      valid = is_counted (taken i) || is_valid ssrc stay;
+      valid = counted i || is_valid ssrc stay;
       mark = None;
       sighting = moment;
-      sending = (if is_counted (taken i) then Some moment else sending_of ssrc stay);
+      sending = (if counted i then Some moment else sending_of ssrc stay);
       source = moved i;
     })
 own_fact ssrc moment fact stay own = rw own refl
