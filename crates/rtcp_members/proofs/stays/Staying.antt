@@ -1,5 +1,5 @@
 -- What a stay says of its source, after one step more.
-use Rattle.std.proofs.Common.{◌≡◌, ℕ, true, false, if◌then◌else◌, ◌||◌, ◌==◌, List, [], ◌∷◌, Option, Some, None, is_some, refl, sym, ap, ◌∙◌}
+use Rattle.std.proofs.Common.{◌≡◌, ℕ, Bool, true, false, if◌then◌else◌, ◌||◌, ◌&&◌, ◌==◌, List, [], ◌∷◌, Option, Some, None, is_some, is_none, option_map, refl, sym, ap, ◌∙◌}
 use Rattle.rtcp_wire.specs.declared.fact.Fact.{Fact}
 use Rattle.rtcp_wire.specs.declared.fact.Fact.TheVariants.{Heard, Media}
 use Rattle.rtcp_clock.specs.Moments.{media_units}
@@ -9,8 +9,9 @@ use Rattle.rtcp_source.specs.Steps.{taken_by, after_packet}
 use Rattle.rtcp_source.proofs.LawLemmas.{summary_moves-packet, summary_suffices-taken}
 use Rattle.rtcp_wire.specs.Facts.{subject}
 use Rattle.rtcp_members.specs.Traces.{Horizons, TraceStep, fact_came, check_made}
-use Rattle.rtcp_members.specs.Stays.{mark_at, mark_of, before_mark, last_naming}
-use Rattle.rtcp_members.specs.Entries.{EntryValue, given_of, is_valid, sending_of, still_sending, entry_of}
+use Rattle.rtcp_members.specs.Stays.{mark_at, mark_of, before_mark, last_naming, stay_of}
+use Rattle.rtcp_members.specs.Members.{is_unmarked_with}
+use Rattle.rtcp_members.specs.Entries.{EntryValue, given_of, is_valid, sending_of, still_sending, entry_of, entry_at, is_such}
 use Rattle.rtcp_members.specs.Tables.{entry_after}
 
 -- ---- The mark
@@ -52,6 +53,27 @@ module _ (ssrc : ℕ) (step : TraceStep) (stay : List TraceStep) where
   entry_moves unmarked = λ i. entry_with ssrc
       (if is_some (mark_at ssrc step (unmarked i)) then before_none ssrc stay unmarked i else step ∷ stay)
       (mark_at ssrc step (unmarked i))
+
+-- A test of entries that fails with a mark, and passes what such a stay says without one.
+module _ (test : EntryValue → Bool) (such : ℕ → List TraceStep → Bool) (ssrc : ℕ)
+    (same : (stay : List TraceStep) → test (entry_with ssrc stay None) ≡ such ssrc stay)
+    (fails : (own : List TraceStep) (mark : ℕ) → test (entry_with ssrc own (Some mark)) ≡ false) where
+  by_mark : (stay : List TraceStep) (mark : Option ℕ) → mark_of ssrc stay ≡ mark →
+      test (entry_of ssrc stay) ≡ (is_none (mark_of ssrc stay) && such ssrc stay)
+  by_mark stay None unmarked = ap test (entry_unmarked ssrc stay unmarked) ∙ same stay
+      ∙ ap (λ m. is_none m && such ssrc stay) (sym unmarked)
+  by_mark stay (Some mark) marked =
+      ap (λ m. test (entry_with ssrc (before_mark ssrc stay) m)) marked ∙ fails (before_mark ssrc stay) mark
+      ∙ ap (λ m. is_none m && such ssrc stay) (sym marked)
+
+  pub such_by_stay : (capacity : ℕ) (trace : List TraceStep) →
+      is_such test (entry_at capacity trace ssrc) ≡ is_unmarked_with capacity trace such ssrc
+  such_by_stay capacity trace = elim (stay_of capacity trace ssrc) as (λ stay. is_such test
+      (option_map (entry_of ssrc) stay)
+      ≡ elim stay [ None ↦ false | Some own ↦ is_none (mark_of ssrc own) && such ssrc own ]) [
+        | None ↦ refl
+        | Some stay ↦ by_mark stay (mark_of ssrc stay) refl
+      ]
 
 -- ---- Facts
 
