@@ -7,6 +7,7 @@ use Rattle.rtcp_members.specs.Traces.{Horizons, TraceStep, fact_came, check_made
 use Rattle.rtcp_members.specs.Stays.{mark_at, mark_of, before_mark, step_moment, last_naming, last_sighting, is_removed, ends_stay, stay_with, stay_of}
 use Rattle.rtcp_members.specs.Lasting.{says_bye, is_forgetting, IsLeftAlone, IsHeardAtChecks, LooksBackTo, NamesFrom}
 use Rattle.rtcp_members.specs.Entries.{gives_name, is_counted_by, given_of, is_valid, entry_of, entry_at, is_member, is_such}
+use Rattle.rtcp_members.proofs.StepByStep.{valid_after}
 use Rattle.rtcp_members.proofs.stays.StayLaws.{stay_is_prefix}
 
 -- ---- One step
@@ -215,7 +216,8 @@ member_by_stay capacity ssrc trace stay member =
 pub still_valid : (ssrc : ℕ) (step : TraceStep) (stay : List TraceStep) → is_valid ssrc stay ≡ true →
     is_valid ssrc (step ∷ stay) ≡ true
 still_valid ssrc step stay valid =
-    by (gives_name ssrc step) (is_counted_by ssrc step (given_of ssrc stay)) (is_valid ssrc stay) valid
+    valid_after ssrc stay step ∙ by (gives_name ssrc step) (is_counted_by ssrc step (given_of ssrc stay))
+        (is_valid ssrc stay) valid
   where
     by : (a b c : Bool) → c ≡ true → (a || b || c) ≡ true
     by true b c is = refl

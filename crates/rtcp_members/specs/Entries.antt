@@ -1,11 +1,24 @@
 -- What a session knows of each source that is present (RFC 3550, 6.2.1, 6.3), and words beside those of Members.
 use Rattle.std.specs.Prelude.{ℕ, ◌≡◌, ◌≤◌, ◌==◌, ◌&&◌, Bool, true, false, List, ◌∷◌, ◌++◌, filter, length, if◌then◌else◌, Option, Some, None, is_some, is_none, option_map, not}
 use Rattle.rtcp_wire.specs.declared.fact.Fact.{Fact}
+use Rattle.rtcp_wire.specs.declared.fact.Fact.TheVariants.{Media}
+use Rattle.rtcp_source.specs.Packets.{Given, taken_in, is_counted, run_of}
 use Rattle.rtcp_source.specs.Summary.{SourceValue, summary_of}
 use Rattle.rtcp_members.specs.Present.{Horizons, TraceStep, fact_came, check_made, names, mark_of, before_mark, last_naming, is_before, stay_of}
-pub use Rattle.rtcp_members.specs.Members.{given_in, given_of, is_counted_fact, is_counted_by, gives_name, is_valid, sending_of, counted_at, members_at, senders_at, moved_within}
+pub use Rattle.rtcp_members.specs.Members.{given_in, given_of, gives_name, is_valid, sending_of, counted_at, members_at, senders_at, moved_within}
 
 -- ---- One step
+
+-- Whether a fact is a packet of the source that is counted after what the source gave (A.1).
+abbrev pub is_counted_fact : (ssrc : ℕ) → Fact → List Given → Bool
+is_counted_fact ssrc (Media other seq timestamp octets rate) given =
+    other == ssrc && is_counted (taken_in (run_of given) seq)
+is_counted_fact ssrc _ given = false
+
+-- Whether a step is such a packet.
+abbrev pub is_counted_by : (ssrc : ℕ) → TraceStep → List Given → Bool
+is_counted_by ssrc (fact_came fact moment) given = is_counted_fact ssrc fact given
+is_counted_by ssrc _ given = false
 
 abbrev pub still_sending : Horizons → Option ℕ → Option ℕ
 still_sending horizons sending = if is_before sending horizons.idle then None else sending

@@ -1,10 +1,10 @@
 -- Who is a member and who sends, by the trace of a session, of which sources a block is due, and in which turn they are
 -- reported (RFC 3550, 6.2.1, 6.3, 6.4).
-use Rattle.std.specs.Prelude.{ℕ, ◌||◌, ◌==◌, ◌&&◌, Bool, false, not, nat_lt, zero, suc, List, [], ◌∷◌, ◌++◌, filter, filter_map, length, if◌then◌else◌, Option, Some, None, is_some, is_none, option_and_then}
+use Rattle.std.specs.Prelude.{ℕ, ◌||◌, ◌==◌, ◌&&◌, Bool, false, not, nat_lt, zero, suc, List, [], ◌∷◌, ◌++◌, filter, filter_map, length, slice_get, if◌then◌else◌, Option, Some, None, is_some, is_none, option_and_then}
+use Rattle.std.specs.List.{list_any}
 use Rattle.rtcp_wire.specs.Values.{ReportBlock}
 use Rattle.rtcp_wire.specs.declared.fact.Fact.{Fact}
 use Rattle.rtcp_wire.specs.declared.fact.Fact.TheVariants.{Told, Named, Media}
-use Rattle.rtcp_wire.specs.Facts.{subject}
 use Rattle.rtcp_clock.specs.Moments.{media_units}
 use Rattle.rtcp_source.specs.Packets.{Given, packet_came, report_came, block_made, taken_in, is_counted, run_of, has_news_since}
 use Rattle.rtcp_source.specs.Fields.{block_over}
@@ -24,32 +24,20 @@ given_in ssrc _ = None
 abbrev pub given_of : (ssrc : ℕ) → List TraceStep → List Given
 given_of ssrc stay = filter_map (given_in ssrc) stay
 
--- Whether a fact is a packet of the source that is counted after what the source gave (A.1).
-abbrev pub is_counted_fact : (ssrc : ℕ) → Fact → List Given → Bool
-is_counted_fact ssrc (Media other seq timestamp octets rate) given =
-    other == ssrc && is_counted (taken_in (run_of given) seq)
-is_counted_fact ssrc _ given = false
-
--- Whether a step is such a packet.
-abbrev pub is_counted_by : (ssrc : ℕ) → TraceStep → List Given → Bool
-is_counted_by ssrc (fact_came fact moment) given = is_counted_fact ssrc fact given
-is_counted_by ssrc _ given = false
-
 abbrev pub gives_name : (ssrc : ℕ) → TraceStep → Bool
 gives_name ssrc (fact_came (Named other) moment) = other == ssrc
 gives_name ssrc _ = false
 
--- A source is valid once it gave its name, or a packet of it was counted.
+-- A source is valid once it gave its name, or a packet of it was counted: its last run has a first packet.
 abbrev pub is_valid : (ssrc : ℕ) → List TraceStep → Bool
-is_valid ssrc [] = false
-is_valid ssrc (step ∷ earlier) =
-    gives_name ssrc step || is_counted_by ssrc step (given_of ssrc earlier) || is_valid ssrc earlier
+is_valid ssrc stay = list_any (gives_name ssrc) stay || is_some (slice_get (run_of (given_of ssrc stay)).counted 0)
 
 -- The moment of the last counted packet, as long as no check after it had a later horizon for packets.
 abbrev pub sending_of : (ssrc : ℕ) → List TraceStep → Option ℕ
 sending_of ssrc [] = None
-sending_of ssrc (fact_came fact moment ∷ earlier) =
-    if is_counted_fact ssrc fact (given_of ssrc earlier) then Some moment else sending_of ssrc earlier
+sending_of ssrc (fact_came (Media other seq timestamp octets rate) moment ∷ earlier) =
+    if other == ssrc && is_counted (taken_in (run_of (given_of ssrc earlier)) seq) then Some moment else
+    sending_of ssrc earlier
 sending_of ssrc (check_made horizons ∷ earlier) =
     let sending = sending_of ssrc earlier in if is_before sending horizons.idle then None else sending
 sending_of ssrc (_ ∷ earlier) = sending_of ssrc earlier
@@ -64,8 +52,9 @@ is_unmarked_with capacity trace such ssrc =
 -- Whether a fact is a packet that is counted: its source is present without a mark, and the packet is counted in the
 -- last run of what that gave, or as the first of a new one (A.1).
 abbrev pub counted_at : (capacity : ℕ) → List TraceStep → Fact → Bool
-counted_at capacity trace fact =
-    is_unmarked_with capacity trace (λ ssrc stay. is_counted_fact ssrc fact (given_of ssrc stay)) (subject fact)
+counted_at capacity trace (Media other seq timestamp octets rate) =
+    is_unmarked_with capacity trace (λ ssrc stay. is_counted (taken_in (run_of (given_of ssrc stay)) seq)) other
+counted_at capacity trace _ = false
 
 -- Members are valid and not marked (6.2.1, 6.3.7).
 abbrev pub members_at : (capacity : ℕ) → List TraceStep → ℕ

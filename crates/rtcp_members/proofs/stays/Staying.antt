@@ -13,6 +13,7 @@ use Rattle.rtcp_members.specs.Stays.{mark_at, mark_of, before_mark, last_naming,
 use Rattle.rtcp_members.specs.Members.{is_unmarked_with}
 use Rattle.rtcp_members.specs.Entries.{EntryValue, given_of, is_valid, sending_of, still_sending, entry_of, entry_at, is_such}
 use Rattle.rtcp_members.specs.Tables.{entry_after}
+use Rattle.rtcp_members.proofs.StepByStep.{valid_by_packet}
 
 -- ---- The mark
 
@@ -88,8 +89,10 @@ own_fact ssrc moment (Media other seq timestamp octets rate) stay own =
     let moved : summary_of (packet_came seq timestamp arrival octets rate ∷ given)
     ≡ after_packet seq timestamp arrival octets rate (summary_of given) =
     summary_moves-packet seq timestamp arrival octets rate given in
+    let valid = valid_by_packet ssrc stay seq timestamp arrival octets rate
+    ∙ ap (λ t. is_counted t || is_valid ssrc stay) taken in
     rw own (λ i. record {
-      valid = is_counted (taken i) || is_valid ssrc stay;
+      valid = valid i;
       mark = None;
       sighting = moment;
       sending = (if is_counted (taken i) then Some moment else sending_of ssrc stay);

@@ -22,6 +22,7 @@ use Rattle.rtcp_members.proofs.maps.Counting.{has, IsOnce}
 use Rattle.rtcp_members.proofs.turns.LeastDue.{is_less, joined}
 use Rattle.rtcp_members.proofs.stays.Naming.{names_are_once, present_is_named}
 use Rattle.rtcp_members.proofs.standing.Following.{is_some_mapped}
+use Rattle.rtcp_members.proofs.StepByStep.{either_way}
 use Rattle.rtcp_members.proofs.stays.Staying.{such_by_stay}
 use Rattle.rtcp_members.proofs.standing.TraceTables.{row_by, found_by, entry_if_named}
 
@@ -34,10 +35,6 @@ AreAbove x (y ∷ ys) = (x < y) × AreAbove x ys
 abbrev AreRising : List ℕ → Type 0
 AreRising [] = Unit {0}
 AreRising (x ∷ xs) = AreAbove x xs × AreRising xs
-
-either_way : (a b c : Bool) → (a || (b || c)) ≡ (b || (a || c))
-either_way true true c = refl
-either_way a b c = refl
 
 has_put : (q x : ℕ) (ys : List ℕ) → has q (put_rising x ys) ≡ ((x == q) || has q ys)
 has_put q x [] = refl

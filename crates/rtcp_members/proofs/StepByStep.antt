@@ -1,0 +1,75 @@
+-- What a stay says of its source after one step more, by that step: for definitions that say it of the whole stay.
+use Rattle.std.proofs.Common.{◌≡◌, ℕ, Bool, true, false, if◌then◌else◌, ◌&&◌, ◌||◌, ◌==◌, List, ◌∷◌, Some, None, is_some, slice_get, refl, ap, ◌∙◌}
+use Rattle.std.specs.List.{cons_option, list_any}
+use Rattle.std.proofs.lemmas.Bool.{cond_both}
+use Rattle.rtcp_wire.specs.declared.fact.Fact.{Fact}
+use Rattle.rtcp_wire.specs.declared.fact.Fact.TheVariants.{Told, Named, Media}
+use Rattle.rtcp_clock.specs.Moments.{media_units}
+use Rattle.rtcp_source.specs.declared.taken.Taken.{Taken}
+use Rattle.rtcp_source.specs.declared.taken.Taken.TheVariants.{Counted}
+use Rattle.rtcp_source.specs.Packets.{Given, PacketRun, packet_came, report_came, block_made, transit_of, taken_in, run_with, is_counted, run_of}
+use Rattle.rtcp_members.specs.Traces.{TraceStep, fact_came, block_made_of}
+use Rattle.rtcp_members.specs.Entries.{given_of, is_counted_fact, is_counted_by, gives_name, is_valid, sending_of}
+
+-- ---- Valid sources
+
+pub either_way : (a b c : Bool) → (a || (b || c)) ≡ (b || (a || c))
+either_way true true c = refl
+either_way a b c = refl
+
+-- whether some packet is counted in the last run of what was given
+abbrev has_counted : List Given → Bool
+has_counted given = is_some (slice_get (run_of given).counted 0)
+
+one_more : (taken : Taken) (seq transit octets rate : ℕ) (run : PacketRun) →
+    is_some (slice_get (run_with taken seq transit octets rate run).counted 0)
+    ≡ (is_counted taken || is_some (slice_get run.counted 0))
+one_more Counted seq transit octets rate run = refl
+one_more taken seq transit octets rate run = refl
+
+module _ (ssrc : ℕ) (earlier : List TraceStep) where
+  abbrev given : List Given
+  given = given_of ssrc earlier
+
+  abbrev is_named : Bool
+  is_named = list_any (gives_name ssrc) earlier
+
+  -- A packet of the source makes it valid where it is counted.
+  pub valid_by_packet : (seq timestamp arrival octets rate : ℕ) →
+      (is_named || has_counted (packet_came seq timestamp arrival octets rate ∷ given))
+      ≡ (is_counted (taken_in (run_of given) seq) || is_valid ssrc earlier)
+  valid_by_packet seq timestamp arrival octets rate =
+      let taken = taken_in (run_of given) seq in
+      ap (λ b. is_named || b) (one_more taken seq (transit_of timestamp arrival) octets rate (run_of given))
+      ∙ either_way is_named (is_counted taken) (has_counted given)
+
+  pub valid_after : (step : TraceStep) → is_valid ssrc (step ∷ earlier)
+      ≡ (gives_name ssrc step || is_counted_by ssrc step given || is_valid ssrc earlier)
+  valid_after (fact_came (Told other ntp rtp) moment) =
+      cond_both (other == ssrc) (Some (report_came ntp rtp moment)) None
+      (λ more. (is_named || has_counted (cons_option more given)) ≡ is_valid ssrc earlier) (λ _. refl) (λ _. refl)
+  valid_after (fact_came (Named other) moment) = elim (other == ssrc) as (λ own.
+      (own || is_named || has_counted given) ≡ (own || false || is_valid ssrc earlier)) [
+        | true ↦ refl
+        | false ↦ refl
+      ]
+  valid_after (fact_came (Media other seq timestamp octets rate) moment) =
+      let arrival = media_units moment rate in
+      elim (other == ssrc) as (λ own. (is_named || has_counted
+      (cons_option (if own then Some (packet_came seq timestamp arrival octets rate) else None) given))
+      ≡ (own && is_counted (taken_in (run_of given) seq) || is_valid ssrc earlier)) [
+        | true ↦ valid_by_packet seq timestamp arrival octets rate
+        | false ↦ refl
+      ]
+  valid_after (block_made_of other) =
+      cond_both (other == ssrc) (Some block_made) None
+      (λ more. (is_named || has_counted (cons_option more given)) ≡ is_valid ssrc earlier) (λ _. refl) (λ _. refl)
+  valid_after step = refl
+
+-- ---- Those who send
+
+pub sending_after_fact : (ssrc moment : ℕ) (fact : Fact) (earlier : List TraceStep) →
+    sending_of ssrc (fact_came fact moment ∷ earlier)
+    ≡ (if is_counted_fact ssrc fact (given_of ssrc earlier) then Some moment else sending_of ssrc earlier)
+sending_after_fact ssrc moment (Media other seq timestamp octets rate) earlier = refl
+sending_after_fact ssrc moment fact earlier = refl
