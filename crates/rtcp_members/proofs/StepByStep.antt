@@ -1,15 +1,30 @@
 -- What a stay says of its source after one step more, by that step: for definitions that say it of the whole stay.
 use Rattle.std.proofs.Common.{◌≡◌, ℕ, Bool, true, false, if◌then◌else◌, ◌&&◌, ◌||◌, ◌==◌, List, ◌∷◌, Some, None, is_some, slice_get, refl, ap, ◌∙◌}
 use Rattle.std.specs.List.{cons_option, list_any}
+use Rattle.std.specs.Option.{option_or}
 use Rattle.std.proofs.lemmas.Bool.{cond_both}
 use Rattle.rtcp_wire.specs.declared.fact.Fact.{Fact}
 use Rattle.rtcp_wire.specs.declared.fact.Fact.TheVariants.{Told, Named, Media}
+use Rattle.rtcp_wire.specs.Facts.{subject, is_gone}
 use Rattle.rtcp_clock.specs.Moments.{media_units}
 use Rattle.rtcp_source.specs.declared.taken.Taken.{Taken}
 use Rattle.rtcp_source.specs.declared.taken.Taken.TheVariants.{Counted}
 use Rattle.rtcp_source.specs.Packets.{Given, PacketRun, packet_came, report_came, block_made, transit_of, taken_in, run_with, is_counted, run_of}
 use Rattle.rtcp_members.specs.Traces.{TraceStep, fact_came, block_made_of}
+use Rattle.rtcp_members.specs.Stays.{mark_at, mark_of}
 use Rattle.rtcp_members.specs.Entries.{given_of, is_counted_fact, is_counted_by, gives_name, is_valid, sending_of}
+
+-- ---- Marks
+
+pub mark_after : (ssrc : ℕ) (step : TraceStep) (earlier : List TraceStep) →
+    mark_of ssrc (step ∷ earlier) ≡ mark_at ssrc step (mark_of ssrc earlier)
+mark_after ssrc (fact_came fact moment) earlier = elim (mark_of ssrc earlier) as (λ mark.
+    option_or mark (if is_gone fact && subject fact == ssrc then Some moment else None)
+    ≡ mark_at ssrc (fact_came fact moment) mark) [ None ↦ refl | Some mark ↦ refl ]
+mark_after ssrc step earlier = elim (mark_of ssrc earlier) as (λ mark. mark ≡ mark_at ssrc step mark) [
+  | None ↦ refl
+  | Some mark ↦ refl
+]
 
 -- ---- Valid sources
 

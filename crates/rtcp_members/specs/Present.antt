@@ -2,6 +2,7 @@
 -- trace is kept newest first.
 use Rattle.std.specs.Prelude.{ℕ, ◌&&◌, ◌||◌, ◌==◌, Bool, true, false, not, nat_lt, List, [], ◌∷◌, filter, length, if◌then◌else◌, Option, Some, None, is_some, is_none}
 use Rattle.std.specs.List.{list_any}
+use Rattle.std.specs.Option.{option_or}
 use Rattle.rtcp_wire.specs.declared.fact.Fact.{Fact}
 use Rattle.rtcp_wire.specs.Facts.{subject, is_gone}
 
@@ -47,15 +48,12 @@ names (_ ∷ earlier) = names earlier
 
 -- ---- Parts of a stay
 
-abbrev pub mark_at : (ssrc : ℕ) → TraceStep → Option ℕ → Option ℕ
-mark_at ssrc step (Some mark) = Some mark
-mark_at ssrc (fact_came fact moment) None = if is_gone fact && subject fact == ssrc then Some moment else None
-mark_at ssrc _ None = None
-
 -- The mark of a source: the moment of its first BYE.
 abbrev pub mark_of : (ssrc : ℕ) → List TraceStep → Option ℕ
 mark_of ssrc [] = None
-mark_of ssrc (step ∷ earlier) = mark_at ssrc step (mark_of ssrc earlier)
+mark_of ssrc (fact_came fact moment ∷ earlier) =
+    option_or (mark_of ssrc earlier) (if is_gone fact && subject fact == ssrc then Some moment else None)
+mark_of ssrc (_ ∷ earlier) = mark_of ssrc earlier
 
 -- what stands before the mark
 abbrev pub before_mark : (ssrc : ℕ) → List TraceStep → List TraceStep

@@ -1,10 +1,17 @@
 -- Stays in other words, and words on parts of stays that stand beside those of Present (RFC 3550, 6.3.3 to 6.3.5,
 -- 6.3.7).
+use Rattle.rtcp_wire.specs.Facts.{subject, is_gone}
 use Rattle.std.specs.Prelude.{ℕ, ◌≡◌, ◌<◌, ◌||◌, ◌==◌, ◌&&◌, Bool, true, false, nat_lt, List, [], ◌∷◌, ◌++◌, if◌then◌else◌, Option, Some, None, is_none}
-use Rattle.rtcp_members.specs.Present.{Horizons, TraceStep, check_made, source_forgotten, is_naming, names}
-pub use Rattle.rtcp_members.specs.Present.{mark_at, mark_of, before_mark, step_moment, last_naming, is_before, ends_stay, present_among, stay_of}
+use Rattle.rtcp_members.specs.Present.{Horizons, TraceStep, fact_came, check_made, source_forgotten, is_naming, names}
+pub use Rattle.rtcp_members.specs.Present.{mark_of, before_mark, step_moment, last_naming, is_before, ends_stay, present_among, stay_of}
 
 -- ---- One step
+
+-- the mark of a source after a step
+abbrev pub mark_at : (ssrc : ℕ) → TraceStep → Option ℕ → Option ℕ
+mark_at ssrc step (Some mark) = Some mark
+mark_at ssrc (fact_came fact moment) None = if is_gone fact && subject fact == ssrc then Some moment else None
+mark_at ssrc _ None = None
 
 -- The moment of the last sighting, a naming before the mark. (A stay has one, its admission.)
 abbrev pub last_sighting : (ssrc : ℕ) → List TraceStep → ℕ

@@ -13,6 +13,7 @@ use Rattle.rtcp_members.specs.Stays.{mark_at, mark_of, before_mark, step_moment,
 use Rattle.rtcp_members.specs.Entries.{given_in, given_of}
 use Rattle.rtcp_members.specs.Listings.{StateValue, state_in_stay, ListsAbove, IsWalk}
 use Rattle.rtcp_members.specs.Past.{CameBy, IsKnownBy}
+use Rattle.rtcp_members.proofs.StepByStep.{mark_after}
 use Rattle.rtcp_members.proofs.stays.StayLaws.{stay_is_prefix}
 
 -- ---- Traces
@@ -82,7 +83,8 @@ marked_at latest ssrc step None came before = tt
 marked_by : (latest ssrc : ℕ) (stay : List TraceStep) → CameBy latest stay → IsBy latest (mark_of ssrc stay)
 marked_by latest ssrc [] came = tt
 marked_by latest ssrc (step ∷ earlier) came =
-    marked_at latest ssrc step (mark_of ssrc earlier) came.0 (marked_by latest ssrc earlier came.1)
+    subst (IsBy latest) (sym (mark_after ssrc step earlier))
+    (marked_at latest ssrc step (mark_of ssrc earlier) came.0 (marked_by latest ssrc earlier came.1))
 
 -- ---- The last sender report
 

@@ -13,7 +13,7 @@ use Rattle.rtcp_members.specs.Stays.{mark_at, mark_of, before_mark, last_naming,
 use Rattle.rtcp_members.specs.Members.{is_unmarked_with}
 use Rattle.rtcp_members.specs.Entries.{EntryValue, given_of, is_valid, sending_of, still_sending, entry_of, entry_at, is_such}
 use Rattle.rtcp_members.specs.Tables.{entry_after}
-use Rattle.rtcp_members.proofs.StepByStep.{valid_by_packet}
+use Rattle.rtcp_members.proofs.StepByStep.{mark_after, valid_by_packet}
 
 -- ---- The mark
 
@@ -42,18 +42,25 @@ pub entry_unmarked : (ssrc : ℕ) (stay : List TraceStep) → mark_of ssrc stay 
 entry_unmarked ssrc stay unmarked = λ i. entry_with ssrc (before_none ssrc stay unmarked i) (unmarked i)
 
 module _ (ssrc : ℕ) (step : TraceStep) (stay : List TraceStep) where
+  after_mark : entry_of ssrc (step ∷ stay) ≡ entry_with ssrc
+      (if is_some (mark_at ssrc step (mark_of ssrc stay)) then before_mark ssrc stay else step ∷ stay)
+      (mark_at ssrc step (mark_of ssrc stay))
+  after_mark = ap (λ m. entry_with ssrc (if is_some m then before_mark ssrc stay else step ∷ stay) m)
+      (mark_after ssrc step stay)
+
   -- With a mark no step changes anything.
   pub entry_marked : (mark : ℕ) → mark_of ssrc stay ≡ Some mark →
       entry_of ssrc (step ∷ stay) ≡ entry_of ssrc stay
   entry_marked mark marked =
-      ap (λ m. entry_with ssrc (if is_some (mark_at ssrc step m) then before_mark ssrc stay else step ∷ stay)
+      after_mark ∙ ap (λ m. entry_with ssrc
+            (if is_some (mark_at ssrc step m) then before_mark ssrc stay else step ∷ stay)
       (mark_at ssrc step m)) marked
       ∙ ap (entry_with ssrc (before_mark ssrc stay)) (sym marked)
 
   pub entry_moves : mark_of ssrc stay ≡ None → entry_of ssrc (step ∷ stay) ≡ moved_entry ssrc step stay
-  entry_moves unmarked = λ i. entry_with ssrc
+  entry_moves unmarked = after_mark ∙ (λ i. entry_with ssrc
       (if is_some (mark_at ssrc step (unmarked i)) then before_none ssrc stay unmarked i else step ∷ stay)
-      (mark_at ssrc step (unmarked i))
+      (mark_at ssrc step (unmarked i)))
 
 -- A test of entries that fails with a mark, and passes what such a stay says without one.
 module _ (test : EntryValue → Bool) (such : ℕ → List TraceStep → Bool) (ssrc : ℕ)
