@@ -14,8 +14,8 @@ use Rattle.rtcp_members.specs.Present.{TraceStep, fact_came, check_made, block_m
 
 -- What a step gives of a source, with the arrival in units of the media's clock (5.1).
 abbrev pub given_in : (ssrc : ℕ) → TraceStep → Option Given
-given_in ssrc (fact_came (Told other ntp rtp) moment) = if other == ssrc then Some (report_came ntp rtp moment) else
-    None
+given_in ssrc (fact_came (Told other ntp rtp) moment) =
+    if other == ssrc then Some (report_came ntp rtp moment) else None
 given_in ssrc (fact_came (Media other seq timestamp octets rate) moment) =
     if other == ssrc then Some (packet_came seq timestamp (media_units moment rate) octets rate) else None
 given_in ssrc (block_made_of other) = if other == ssrc then Some block_made else None
@@ -83,8 +83,7 @@ moved_within capacity (suc steps) (step ∷ earlier) =
 abbrev pub is_due_by : (capacity : ℕ) → List TraceStep → (ssrc : ℕ) → Bool
 is_due_by capacity trace = is_unmarked_with capacity trace (λ ssrc stay. has_news_since (given_of ssrc stay))
 
--- The blocks of these sources at the moment `t`, in their order. A block is made of the packets and the sender reports
--- of a stay before its mark, where some packet was counted.
+-- The blocks of these sources at the moment `t`, in their order: each is of what its source gave before its mark.
 abbrev pub blocks_at : (t capacity : ℕ) → List TraceStep → List ℕ → List ReportBlock
 blocks_at t capacity trace ssrcs =
     filter_map (λ ssrc. option_and_then (λ stay. block_over ssrc t (given_of ssrc (before_mark ssrc stay)))

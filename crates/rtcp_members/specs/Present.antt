@@ -15,8 +15,7 @@ pub record Horizons : Type 0 where
   pub idle : ℕ
   pub gone : ℕ
 
--- A fact of a source came at a moment, a check was made, a report block was made of a source, or the host said that a
--- source is gone.
+-- A fact of a source came, a check was made, a block was made of a source, or the host said that a source is gone.
 pub data TraceStep : Type 0 where
   fact_came : (fact : Fact) (moment : ℕ) → TraceStep
   check_made : (horizons : Horizons) → TraceStep

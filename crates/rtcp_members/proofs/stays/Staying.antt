@@ -53,7 +53,7 @@ module _ (ssrc : ℕ) (step : TraceStep) (stay : List TraceStep) where
       entry_of ssrc (step ∷ stay) ≡ entry_of ssrc stay
   entry_marked mark marked =
       after_mark ∙ ap (λ m. entry_with ssrc
-            (if is_some (mark_at ssrc step m) then before_mark ssrc stay else step ∷ stay)
+      (if is_some (mark_at ssrc step m) then before_mark ssrc stay else step ∷ stay)
       (mark_at ssrc step m)) marked
       ∙ ap (entry_with ssrc (before_mark ssrc stay)) (sym marked)
 
