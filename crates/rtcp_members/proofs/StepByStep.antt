@@ -1,6 +1,6 @@
 -- What a stay says of its source after one step more, by that step: for definitions that say it of the whole stay.
 use Rattle.std.proofs.Common.{◌≡◌, ℕ, Bool, true, false, if◌then◌else◌, ◌&&◌, ◌||◌, ◌==◌, List, ◌∷◌, Some, None, is_some, slice_get, refl, ap, ◌∙◌}
-use Rattle.std.specs.List.{cons_option, list_any}
+use Rattle.std.specs.List.{list_any}
 use Rattle.std.specs.Option.{option_or}
 use Rattle.std.proofs.lemmas.Bool.{cond_both}
 use Rattle.rtcp_wire.specs.declared.fact.Fact.{Fact}
@@ -61,8 +61,8 @@ module _ (ssrc : ℕ) (earlier : List TraceStep) where
   pub valid_after : (step : TraceStep) → is_valid ssrc (step ∷ earlier)
       ≡ (gives_name ssrc step || is_counted_by ssrc step given || is_valid ssrc earlier)
   valid_after (fact_came (Told other ntp rtp) moment) =
-      cond_both (other == ssrc) (Some (report_came ntp rtp moment)) None
-      (λ more. (is_named || has_counted (cons_option more given)) ≡ is_valid ssrc earlier) (λ _. refl) (λ _. refl)
+      cond_both (other == ssrc) (report_came ntp rtp moment ∷ given) given
+      (λ more. (is_named || has_counted more) ≡ is_valid ssrc earlier) (λ _. refl) (λ _. refl)
   valid_after (fact_came (Named other) moment) = elim (other == ssrc) as (λ own.
       (own || is_named || has_counted given) ≡ (own || false || is_valid ssrc earlier)) [
         | true ↦ refl
@@ -71,14 +71,14 @@ module _ (ssrc : ℕ) (earlier : List TraceStep) where
   valid_after (fact_came (Media other seq timestamp octets rate) moment) =
       let arrival = media_units moment rate in
       elim (other == ssrc) as (λ own. (is_named || has_counted
-      (cons_option (if own then Some (packet_came seq timestamp arrival octets rate) else None) given))
+      (if own then packet_came seq timestamp arrival octets rate ∷ given else given))
       ≡ (own && is_counted (taken_in (run_of given) seq) || is_valid ssrc earlier)) [
         | true ↦ valid_by_packet seq timestamp arrival octets rate
         | false ↦ refl
       ]
   valid_after (block_made_of other) =
-      cond_both (other == ssrc) (Some block_made) None
-      (λ more. (is_named || has_counted (cons_option more given)) ≡ is_valid ssrc earlier) (λ _. refl) (λ _. refl)
+      cond_both (other == ssrc) (block_made ∷ given) given
+      (λ more. (is_named || has_counted more) ≡ is_valid ssrc earlier) (λ _. refl) (λ _. refl)
   valid_after step = refl
 
 -- ---- Those who send

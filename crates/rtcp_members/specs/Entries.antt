@@ -5,7 +5,7 @@ use Rattle.rtcp_wire.specs.declared.fact.Fact.TheVariants.{Media}
 use Rattle.rtcp_source.specs.Packets.{Given, taken_in, is_counted, run_of}
 use Rattle.rtcp_source.specs.Summary.{SourceValue, summary_of}
 use Rattle.rtcp_members.specs.Present.{Horizons, TraceStep, fact_came, check_made, names, mark_of, before_mark, last_naming, is_before, stay_of}
-pub use Rattle.rtcp_members.specs.Members.{given_in, given_of, gives_name, is_valid, sending_of, counted_at, members_at, senders_at, moved_within}
+pub use Rattle.rtcp_members.specs.Members.{given_of, gives_name, is_valid, sending_of, counted_at, members_at, senders_at, moved_within}
 
 -- ---- One step
 

@@ -12,17 +12,17 @@ use Rattle.rtcp_members.specs.Present.{TraceStep, fact_came, check_made, block_m
 
 -- ---- What a stay says
 
--- What a step gives of a source, with the arrival in units of the media's clock (5.1).
-abbrev pub given_in : (ssrc : ℕ) → TraceStep → Option Given
-given_in ssrc (fact_came (Told other ntp rtp) moment) =
-    if other == ssrc then Some (report_came ntp rtp moment) else None
-given_in ssrc (fact_came (Media other seq timestamp octets rate) moment) =
-    if other == ssrc then Some (packet_came seq timestamp (media_units moment rate) octets rate) else None
-given_in ssrc (block_made_of other) = if other == ssrc then Some block_made else None
-given_in ssrc _ = None
-
+-- What a stay gives of a source, with arrivals in units of the media's clock (5.1).
 abbrev pub given_of : (ssrc : ℕ) → List TraceStep → List Given
-given_of ssrc stay = filter_map (given_in ssrc) stay
+given_of ssrc [] = []
+given_of ssrc (fact_came (Told other ntp rtp) moment ∷ earlier) =
+    let given = given_of ssrc earlier in if other == ssrc then report_came ntp rtp moment ∷ given else given
+given_of ssrc (fact_came (Media other seq timestamp octets rate) moment ∷ earlier) =
+    let given = given_of ssrc earlier in
+    if other == ssrc then packet_came seq timestamp (media_units moment rate) octets rate ∷ given else given
+given_of ssrc (block_made_of other ∷ earlier) =
+    let given = given_of ssrc earlier in if other == ssrc then block_made ∷ given else given
+given_of ssrc (_ ∷ earlier) = given_of ssrc earlier
 
 abbrev pub gives_name : (ssrc : ℕ) → TraceStep → Bool
 gives_name ssrc (fact_came (Named other) moment) = other == ssrc

@@ -1,7 +1,6 @@
 -- What is told of a source came by the moment by which the facts of its trace came.
 use Rattle.std.proofs.Common.{◌≡◌, ◌≤◌, ◌==◌, ◌&&◌, ℕ, Bool, true, false, is_some, if◌then◌else◌, List, [], ◌∷◌, ◌++◌}
 use Rattle.std.proofs.Common.{Option, Some, None, IfSome, All, sym, subst, arith}
-use Rattle.std.specs.List.{cons_option}
 use Rattle.std.proofs.lemmas.List.Elements.{All-nil, All-cons}
 use Rattle.rtcp_wire.specs.declared.fact.Fact.{Fact}
 use Rattle.rtcp_wire.specs.declared.fact.Fact.TheVariants.{Told, Media}
@@ -10,7 +9,7 @@ use Rattle.rtcp_source.specs.Packets.{Given, block_made}
 use Rattle.rtcp_source.specs.Fields.{last_report_of}
 use Rattle.rtcp_members.specs.Traces.{TraceStep, fact_came, block_made_of, is_naming, with_facts}
 use Rattle.rtcp_members.specs.Stays.{mark_at, mark_of, before_mark, step_moment, last_naming, stay_of}
-use Rattle.rtcp_members.specs.Entries.{given_in, given_of}
+use Rattle.rtcp_members.specs.Entries.{given_of}
 use Rattle.rtcp_members.specs.Listings.{StateValue, state_in_stay, ListsAbove, IsWalk}
 use Rattle.rtcp_members.specs.Past.{CameBy, IsKnownBy}
 use Rattle.rtcp_members.proofs.StepByStep.{mark_after}
@@ -92,25 +91,22 @@ abbrev ReportedBy : (latest : ℕ) → List Given → Type 0
 ReportedBy latest given = IfSome (last_report_of given) (λ last_report. last_report.moment ≤ latest)
 
 listed_if : (latest : ℕ) (own : Bool) (more : Given) (given : List Given) → ReportedBy latest (more ∷ given) →
-    ReportedBy latest given → ReportedBy latest (cons_option (if own then Some more else None) given)
+    ReportedBy latest given → ReportedBy latest (if own then more ∷ given else given)
 listed_if latest true more given with_more before = with_more
 listed_if latest false more given with_more before = before
-
-listed_with : (latest ssrc : ℕ) (step : TraceStep) (given : List Given) → step_moment step ≤ latest →
-    ReportedBy latest given → ReportedBy latest (cons_option (given_in ssrc step) given)
-listed_with latest ssrc (fact_came (Told other ntp rtp) moment) given came before =
-    listed_if latest (other == ssrc) _ given came before
-listed_with latest ssrc (fact_came (Media other seq timestamp octets rate) moment) given came before =
-    listed_if latest (other == ssrc) _ given before before
-listed_with latest ssrc (block_made_of other) given came before =
-    listed_if latest (other == ssrc) block_made given before before
-listed_with latest ssrc step given came before = before
 
 reported_by : (latest ssrc : ℕ) (stay : List TraceStep) → CameBy latest stay →
     ReportedBy latest (given_of ssrc stay)
 reported_by latest ssrc [] came = tt
-reported_by latest ssrc (step ∷ earlier) came =
-    listed_with latest ssrc step (given_of ssrc earlier) came.0 (reported_by latest ssrc earlier came.1)
+reported_by latest ssrc (fact_came (Told other ntp rtp) moment ∷ earlier) came =
+    listed_if latest (other == ssrc) _ (given_of ssrc earlier) came.0 (reported_by latest ssrc earlier came.1)
+reported_by latest ssrc (fact_came (Media other seq timestamp octets rate) moment ∷ earlier) came =
+    let before = reported_by latest ssrc earlier came.1 in
+    listed_if latest (other == ssrc) _ (given_of ssrc earlier) before before
+reported_by latest ssrc (block_made_of other ∷ earlier) came =
+    let before = reported_by latest ssrc earlier came.1 in
+    listed_if latest (other == ssrc) block_made (given_of ssrc earlier) before before
+reported_by latest ssrc (step ∷ earlier) came = reported_by latest ssrc earlier came.1
 
 -- ---- What is told
 
