@@ -6,6 +6,7 @@ use Rattle.rtcp_wire.specs.declared.fact.Fact.{Fact}
 use Rattle.rtcp_wire.specs.Facts.{subject, is_gone}
 use Rattle.rtcp_members.specs.Traces.{Horizons, TraceStep, fact_came, check_made, block_made_of, source_forgotten, is_naming, names, with_facts}
 use Rattle.rtcp_members.specs.Stays.{mark_at, mark_of, before_mark, step_moment, last_naming, last_sighting, is_before, ends_stay, present_among, stay_with, stay_of}
+use Rattle.rtcp_members.proofs.StepByStep.{mark_after}
 use Rattle.rtcp_guard.specs.declared.settings.Settings.{Settings}
 use Rattle.rtcp_guard.specs.Claims.{Claim, claim_after, claim_leaving, is_named}
 use Rattle.rtcp_guard.specs.Guarding.{before_which, may_have}
@@ -33,7 +34,8 @@ sighted ssrc b step earlier by before =
       | true ↦ λ marked. before
       | false ↦ λ unmarked.
           let whole : before_mark ssrc earlier ≡ earlier = unmarked_before ssrc earlier
-          (still_unmarked ssrc step (mark_of ssrc earlier) unmarked) in
+          (still_unmarked ssrc step (mark_of ssrc earlier)
+          (ap (λ (m : Option ℕ). is_some m) (sym (mark_after ssrc step earlier)) ∙ unmarked)) in
           let named : last_naming ssrc earlier ≤ b = subst (λ (stay : List TraceStep). last_naming ssrc stay ≤ b) whole
           before in
           elim (is_naming ssrc step) as (λ n. is_naming ssrc step ≡ n →

@@ -11,6 +11,7 @@ use Rattle.rtcp_members.specs.Stays.{present_among, stay_with, stay_of}
 use Rattle.rtcp_members.specs.Lasting.{count_of_others, has_room_beside, IsUnmarked, MayBring}
 use Rattle.rtcp_members.specs.Entries.{gives_name, is_counted_by, given_of, is_valid, entry_at, is_member, is_such}
 use Rattle.rtcp_members.specs.Tables.{after_fact, table_at}
+use Rattle.rtcp_members.proofs.StepByStep.{valid_after}
 use Rattle.rtcp_members.proofs.standing.Capacity.{fact_keeps_bounds, fact_adds_one}
 use Rattle.rtcp_members.proofs.standing.Following.{fact_follows, len_is_present}
 use Rattle.rtcp_members.proofs.stays.Naming.{admitted as admission}
@@ -159,7 +160,8 @@ module _ (capacity ssrc moment : ℕ) (fact : Fact) (facts : List Fact) (trace :
   valid_now stay is =
       let gives : gives_name ssrc (fact_came fact moment) ≡ true =
       ap (λ (fact : Fact). gives_name ssrc (fact_came fact moment)) is ∙ eq-eqb ssrc ssrc refl in
-      ap (λ (b : Bool). b || is_counted_by ssrc (fact_came fact moment) (given_of ssrc stay) || is_valid ssrc stay)
+      valid_after ssrc stay (fact_came fact moment)
+      ∙ ap (λ (b : Bool). b || is_counted_by ssrc (fact_came fact moment) (given_of ssrc stay) || is_valid ssrc stay)
       gives
 
   named_now : (stay : Option (List TraceStep)) → stay_of capacity trace ssrc ≡ stay → IsUnmarked ssrc stay →

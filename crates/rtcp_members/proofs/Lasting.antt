@@ -7,6 +7,7 @@ use Rattle.rtcp_members.specs.Traces.{Horizons, TraceStep, fact_came, check_made
 use Rattle.rtcp_members.specs.Stays.{mark_at, mark_of, before_mark, step_moment, last_naming, last_sighting, is_removed, ends_stay, stay_with, stay_of}
 use Rattle.rtcp_members.specs.Lasting.{says_bye, is_forgetting, IsLeftAlone, IsHeardAtChecks, LooksBackTo, NamesFrom}
 use Rattle.rtcp_members.specs.Entries.{gives_name, is_counted_by, given_of, is_valid, entry_of, entry_at, is_member, is_such}
+use Rattle.rtcp_members.proofs.StepByStep.{mark_after, valid_after}
 use Rattle.rtcp_members.proofs.stays.StayLaws.{stay_is_prefix}
 
 -- ---- One step
@@ -50,10 +51,9 @@ spared ssrc (source_forgotten other) stay none spares =
 pub unmarked_by : (ssrc : ℕ) (step : TraceStep) (stay : List TraceStep) → says_bye ssrc step ≡ false →
     mark_of ssrc stay ≡ None → mark_of ssrc (step ∷ stay) ≡ None
 unmarked_by ssrc (fact_came fact moment) stay quiet none =
-    ap (mark_at ssrc (fact_came fact moment)) none ∙ ap (λ (b : Bool). if b then Some moment else None) quiet
-unmarked_by ssrc (check_made horizons) stay quiet none = ap (mark_at ssrc (check_made horizons)) none
-unmarked_by ssrc (block_made_of other) stay quiet none = ap (mark_at ssrc (block_made_of other)) none
-unmarked_by ssrc (source_forgotten other) stay quiet none = ap (mark_at ssrc (source_forgotten other)) none
+    mark_after ssrc (fact_came fact moment) stay
+    ∙ ap (mark_at ssrc (fact_came fact moment)) none ∙ ap (λ (b : Bool). if b then Some moment else None) quiet
+unmarked_by ssrc step stay quiet none = none
 
 -- ---- The newest naming of a trace is that of the stay
 
@@ -215,7 +215,8 @@ member_by_stay capacity ssrc trace stay member =
 pub still_valid : (ssrc : ℕ) (step : TraceStep) (stay : List TraceStep) → is_valid ssrc stay ≡ true →
     is_valid ssrc (step ∷ stay) ≡ true
 still_valid ssrc step stay valid =
-    by (gives_name ssrc step) (is_counted_by ssrc step (given_of ssrc stay)) (is_valid ssrc stay) valid
+    valid_after ssrc stay step ∙ by (gives_name ssrc step) (is_counted_by ssrc step (given_of ssrc stay))
+    (is_valid ssrc stay) valid
   where
     by : (a b c : Bool) → c ≡ true → (a || b || c) ≡ true
     by true b c is = refl

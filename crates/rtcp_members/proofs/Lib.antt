@@ -20,6 +20,7 @@ mod stays
 -- That a table that stands at a trace stands at it with one step more, and what it holds then.
 mod standing
 -- Who stays a member, and who becomes one. Crates above cite these two.
+pub mod StepByStep
 pub mod Lasting
 pub mod Introducing
 -- The laws, for the crates above.

@@ -1,3 +1,5 @@
+pub mod Present
+pub mod Members
 pub mod Traces
 pub mod Stays
 pub mod Lasting

@@ -1,5 +1,5 @@
 -- Which sources a report block is due of, and in which turn (RFC 3550, 6.4).
-use Rattle.std.specs.Prelude.{ℕ, ◌&&◌, Bool, true, not, nat_lt, List, [], ◌∷◌, ◌++◌, filter, filter_map, Option, Some, None, is_none, option_and_then}
+use Rattle.std.specs.Prelude.{ℕ, ◌&&◌, Bool, not, List, [], ◌∷◌, ◌++◌, filter, filter_map, Option, Some, None, is_none, option_and_then}
 use Rattle.std.specs.FinMap as finite
 use Rattle.rtcp_wire.specs.Values.{ReportBlock}
 use Rattle.rtcp_source.specs.Blocks.{block_for, news_of}

@@ -1,8 +1,8 @@
 -- Which steps of a session change who is a member, or who sends.
-use Rattle.std.specs.Prelude.{ℕ, zero, suc, ◌≡◌, ◌==◌, ◌&&◌, ◌||◌, not, Bool, false, List, [], ◌∷◌, Option}
+use Rattle.std.specs.Prelude.{ℕ, ◌≡◌, ◌==◌, ◌&&◌, ◌||◌, not, Bool, false, List, [], ◌∷◌, Option}
 use Rattle.rtcp_wire.specs.declared.fact.Fact.{Fact}
-use Rattle.rtcp_members.specs.Traces.{Horizons, TraceStep}
-use Rattle.rtcp_members.specs.Entries.{EntryValue, is_member, is_sender, is_such, members_at, senders_at}
+use Rattle.rtcp_members.specs.Traces.{Horizons}
+use Rattle.rtcp_members.specs.Entries.{EntryValue, is_member, is_sender, is_such}
 use Rattle.rtcp_members.specs.Tables.{TableValue, after_fact, after_check, after_forgetting, members_in, senders_in}
 pub use Rattle.rtcp_members.specs.Entries.{step_moves, moved_within}
 

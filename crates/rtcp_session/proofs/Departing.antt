@@ -9,6 +9,7 @@ use Rattle.rtcp_members.specs.Traces.{Horizons, TraceStep, fact_came, check_made
 use Rattle.rtcp_members.specs.Stays.{mark_at, mark_of, ends_stay, is_removed, last_naming, stay_of, stay_with}
 use Rattle.rtcp_members.specs.Entries.{count_at, entry_of, entry_at, is_member, is_such, members_at}
 use Rattle.rtcp_members.proofs.Lasting.{all_before, member_on, naming_of_stay, stay_of_member}
+use Rattle.rtcp_members.proofs.StepByStep.{mark_after}
 use Rattle.rtcp_members.proofs.LawLemmas.{counts_are_of_entries-members, present_were_named_and_fit-named, roles_move_with_counts-block, roles_move_with_counts-kept}
 
 -- whether one of these facts says that a source left
@@ -113,7 +114,7 @@ module _ (capacity : ℕ) where
     stay = fact_came fact t ∷ h.stay;
     moment = h.moment;
     found = ap (stay_with capacity (fact_came fact t) (names trace) (stay_of capacity trace) ssrc) h.found;
-    marked = ap (mark_at ssrc (fact_came fact t)) h.marked;
+    marked = mark_after ssrc (fact_came fact t) h.stay ∙ ap (mark_at ssrc (fact_came fact t)) h.marked;
   }
 
   marked_through : (ssrc t : ℕ) (facts : List Fact) (trace : List TraceStep) → IsMarked ssrc trace →
@@ -131,7 +132,8 @@ module _ (capacity : ℕ) where
         moment = t;
         found = ap (stay_with capacity (fact_came fact t) (names trace) (stay_of capacity trace) ssrc) lasts.is.found;
         marked =
-            ap (mark_at ssrc (fact_came fact t)) lasts.is.unmarked
+            mark_after ssrc (fact_came fact t) stay
+            ∙ ap (mark_at ssrc (fact_came fact t)) lasts.is.unmarked
             ∙ ap (λ (b : Bool). if b then Some t else None) says;
       }
 

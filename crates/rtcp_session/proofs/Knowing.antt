@@ -11,6 +11,7 @@ use Rattle.rtcp_members.specs.Stays.{mark_of, before_mark, present_among, stay_o
 use Rattle.rtcp_members.specs.Lasting.{says_bye}
 use Rattle.rtcp_members.specs.Entries.{gives_name, given_of, is_counted_fact, is_counted_by, sending_of, still_sending, is_sender, is_valid, entry_of, entry_at, is_member, is_such}
 use Rattle.rtcp_members.proofs.Lasting.{all_before, still_valid, unmarked_by}
+use Rattle.rtcp_members.proofs.StepByStep.{sending_after_fact, valid_after}
 use Rattle.rtcp_session.specs.Deliveries.{brings_rtp, is_named_in, pasts_of, has_room, ends_by, is_dropped, IsKept}
 
 -- ---- Steps
@@ -68,7 +69,8 @@ stays_unmarked ssrc step admits (Some stay) quiet none = by (ends_stay ssrc step
 valid_now : (ssrc : ℕ) (step : TraceStep) (stay : List TraceStep) → gives_name ssrc step ≡ true →
     is_valid ssrc (step ∷ stay) ≡ true
 valid_now ssrc step stay gives =
-    by (gives_name ssrc step) (is_counted_by ssrc step (given_of ssrc stay)) (is_valid ssrc stay) gives
+    valid_after ssrc stay step
+    ∙ by (gives_name ssrc step) (is_counted_by ssrc step (given_of ssrc stay)) (is_valid ssrc stay) gives
   where
     by : (a b c : Bool) → a ≡ true → (a || b || c) ≡ true
     by true b c is = refl
@@ -237,7 +239,8 @@ sends_none : (ssrc : ℕ) (own : List TraceStep) → All (IsQuiet ssrc) own → 
 sends_none ssrc [] h = refl
 sends_none ssrc (fact_came fact moment ∷ earlier) h =
     let rest = sends_none ssrc earlier (All-tail (IsQuiet ssrc) (fact_came fact moment) earlier h) in
-    ap (λ (b : Bool). if b then Some moment else sending_of ssrc earlier)
+    sending_after_fact ssrc moment fact earlier
+    ∙ ap (λ (b : Bool). if b then Some moment else sending_of ssrc earlier)
     (uncounted ssrc fact (given_of ssrc earlier) (All-head (IsQuiet ssrc) (fact_came fact moment) earlier h))
     ∙ rest
 sends_none ssrc (check_made horizons ∷ earlier) h =

@@ -7,11 +7,12 @@ use Rattle.rtcp_wire.specs.declared.fact.Fact.TheVariants.{Told, Media}
 use Rattle.rtcp_wire.specs.Facts.{subject, is_gone}
 use Rattle.rtcp_source.specs.Packets.{Given, block_made}
 use Rattle.rtcp_source.specs.Fields.{last_report_of}
-use Rattle.rtcp_members.specs.Traces.{TraceStep, fact_came, check_made, block_made_of, source_forgotten, is_naming, with_facts}
+use Rattle.rtcp_members.specs.Traces.{TraceStep, fact_came, block_made_of, is_naming, with_facts}
 use Rattle.rtcp_members.specs.Stays.{mark_at, mark_of, before_mark, step_moment, last_naming, stay_of}
-use Rattle.rtcp_members.specs.Entries.{given_by, given_of}
+use Rattle.rtcp_members.specs.Entries.{given_of}
 use Rattle.rtcp_members.specs.Listings.{StateValue, state_in_stay, ListsAbove, IsWalk}
 use Rattle.rtcp_members.specs.Past.{CameBy, IsKnownBy}
+use Rattle.rtcp_members.proofs.StepByStep.{mark_after}
 use Rattle.rtcp_members.proofs.stays.StayLaws.{stay_is_prefix}
 
 -- ---- Traces
@@ -81,7 +82,8 @@ marked_at latest ssrc step None came before = tt
 marked_by : (latest ssrc : ℕ) (stay : List TraceStep) → CameBy latest stay → IsBy latest (mark_of ssrc stay)
 marked_by latest ssrc [] came = tt
 marked_by latest ssrc (step ∷ earlier) came =
-    marked_at latest ssrc step (mark_of ssrc earlier) came.0 (marked_by latest ssrc earlier came.1)
+    subst (IsBy latest) (sym (mark_after ssrc step earlier))
+    (marked_at latest ssrc step (mark_of ssrc earlier) came.0 (marked_by latest ssrc earlier came.1))
 
 -- ---- The last sender report
 
@@ -93,25 +95,18 @@ listed_if : (latest : ℕ) (own : Bool) (more : Given) (given : List Given) → 
 listed_if latest true more given with_more before = with_more
 listed_if latest false more given with_more before = before
 
-listed_with : (latest ssrc : ℕ) (fact : Fact) (moment : ℕ) (given : List Given) → moment ≤ latest →
-    ReportedBy latest given → ReportedBy latest (given_by ssrc fact moment given)
-listed_with latest ssrc (Told other ntp rtp) moment given came before =
-    listed_if latest (other == ssrc) _ given came before
-listed_with latest ssrc (Media other seq timestamp octets rate) moment given came before =
-    listed_if latest (other == ssrc) _ given before before
-listed_with latest ssrc fact moment given came before = before
-
 reported_by : (latest ssrc : ℕ) (stay : List TraceStep) → CameBy latest stay →
     ReportedBy latest (given_of ssrc stay)
 reported_by latest ssrc [] came = tt
-reported_by latest ssrc (fact_came fact moment ∷ earlier) came =
+reported_by latest ssrc (fact_came (Told other ntp rtp) moment ∷ earlier) came =
+    listed_if latest (other == ssrc) _ (given_of ssrc earlier) came.0 (reported_by latest ssrc earlier came.1)
+reported_by latest ssrc (fact_came (Media other seq timestamp octets rate) moment ∷ earlier) came =
     let before = reported_by latest ssrc earlier came.1 in
-    listed_with latest ssrc fact moment (given_of ssrc earlier) came.0 before
-reported_by latest ssrc (check_made horizons ∷ earlier) came = reported_by latest ssrc earlier came.1
+    listed_if latest (other == ssrc) _ (given_of ssrc earlier) before before
 reported_by latest ssrc (block_made_of other ∷ earlier) came =
     let before = reported_by latest ssrc earlier came.1 in
     listed_if latest (other == ssrc) block_made (given_of ssrc earlier) before before
-reported_by latest ssrc (source_forgotten other ∷ earlier) came = reported_by latest ssrc earlier came.1
+reported_by latest ssrc (step ∷ earlier) came = reported_by latest ssrc earlier came.1
 
 -- ---- What is told
 

@@ -1,14 +1,12 @@
 -- In a trace of one clock each source is given packets of one rate.
 use Rattle.std.proofs.Common.{◌≡◌, ◌==◌, ℕ, Bool, true, false, is_some, if◌then◌else◌, List, [], ◌∷◌, ◌++◌, Some, sym, subst}
 use Rattle.std.proofs.lemmas.Bool.{cond_both}
-use Rattle.rtcp_wire.specs.declared.fact.Fact.{Fact}
 use Rattle.rtcp_wire.specs.declared.fact.Fact.TheVariants.{Told, Media}
-use Rattle.rtcp_source.specs.Packets.{Given}
 use Rattle.rtcp_source.specs.Summary.{HasOneRate}
-use Rattle.rtcp_members.specs.Traces.{TraceStep, fact_came, check_made, block_made_of, source_forgotten}
+use Rattle.rtcp_members.specs.Traces.{TraceStep, fact_came, block_made_of}
 use Rattle.rtcp_members.specs.Stays.{before_mark, mark_of, stay_of}
-use Rattle.rtcp_members.specs.Entries.{given_by, given_of}
-use Rattle.rtcp_members.specs.Clocks.{HasOneClock, HasRate}
+use Rattle.rtcp_members.specs.Entries.{given_of}
+use Rattle.rtcp_members.specs.Clocks.{HasOneClock}
 use Rattle.rtcp_members.proofs.stays.StayLaws.{stay_is_prefix}
 
 prefix_has : (rate : ℕ) (since : List TraceStep) (admission : TraceStep) (before : List TraceStep) →
@@ -27,23 +25,18 @@ unmarked_has rate ssrc (step ∷ earlier) has =
     by_mark true before = before
     by_mark false before = has
 
-by_fact : (rate ssrc : ℕ) (fact : Fact) (moment : ℕ) (given : List Given) → HasRate rate fact →
-    HasOneRate rate given → HasOneRate rate (given_by ssrc fact moment given)
-by_fact rate ssrc (Told other ntp rtp) moment given has before =
-    cond_both (other == ssrc) _ given (HasOneRate rate) (λ _. before) (λ _. before)
-by_fact rate ssrc (Media other seq timestamp octets own) moment given has before =
-    cond_both (other == ssrc) _ given (HasOneRate rate) (λ _. (has, before)) (λ _. before)
-by_fact rate ssrc fact moment given has before = before
-
 given_has : (rate ssrc : ℕ) (stay : List TraceStep) → HasOneClock rate stay → HasOneRate rate (given_of ssrc stay)
 given_has rate ssrc [] has = tt
-given_has rate ssrc (fact_came fact moment ∷ earlier) has =
-    by_fact rate ssrc fact moment (given_of ssrc earlier) has.0 (given_has rate ssrc earlier has.1)
-given_has rate ssrc (check_made horizons ∷ earlier) has = given_has rate ssrc earlier has.1
+given_has rate ssrc (fact_came (Told other ntp rtp) moment ∷ earlier) has =
+    let before = given_has rate ssrc earlier has.1 in
+    cond_both (other == ssrc) _ (given_of ssrc earlier) (HasOneRate rate) (λ _. before) (λ _. before)
+given_has rate ssrc (fact_came (Media other seq timestamp octets own) moment ∷ earlier) has =
+    let before = given_has rate ssrc earlier has.1 in
+    cond_both (other == ssrc) _ (given_of ssrc earlier) (HasOneRate rate) (λ _. (has.0, before)) (λ _. before)
 given_has rate ssrc (block_made_of other ∷ earlier) has =
     let before = given_has rate ssrc earlier has.1 in
     cond_both (other == ssrc) _ (given_of ssrc earlier) (HasOneRate rate) (λ _. before) (λ _. before)
-given_has rate ssrc (source_forgotten other ∷ earlier) has = given_has rate ssrc earlier has.1
+given_has rate ssrc (step ∷ earlier) has = given_has rate ssrc earlier has.1
 
 pub one_rate_each : (capacity rate ssrc : ℕ) (trace stay : List TraceStep) → HasOneClock rate trace →
     stay_of capacity trace ssrc ≡ Some stay → HasOneRate rate (given_of ssrc (before_mark ssrc stay))

@@ -6,6 +6,7 @@ use Rattle.rtcp_wire.specs.declared.fact.Fact.{Fact}
 use Rattle.rtcp_members.specs.Traces.{Horizons, TraceStep, fact_came, check_made, block_made_of, source_forgotten}
 use Rattle.rtcp_members.specs.Stays.{mark_of, before_mark, stay_of}
 use Rattle.rtcp_members.specs.Entries.{given_of, is_counted_fact, is_counted_by, gives_name, is_valid, still_sending, sending_of, entry_of, entry_at, is_sender, is_such, IsSendingSince, IsSenderAt}
+use Rattle.rtcp_members.proofs.StepByStep.{sending_after_fact, valid_after}
 use Rattle.rtcp_members.proofs.stays.Staying.{entry_with, entry_unmarked}
 
 none_is_no_moment : {X : Type 0} (x : X) → None ≡ Some x → ⊥
@@ -92,7 +93,7 @@ module _ (ssrc : ℕ) where
       ≡ Some moment → IsSendingSince ssrc (fact_came fact at ∷ earlier) moment) [
         | true ↦ λ counted is. let same : at ≡ moment = cc in sent_now fact at moment earlier counted same
         | false ↦ λ quiet is. one_step_later (fact_came fact at) earlier moment (kept_is_newest earlier moment is) quiet
-      ] refl found
+      ] refl (sym (sending_after_fact ssrc at fact earlier) ∙ found)
   kept_is_newest (check_made horizons ∷ earlier) moment found =
       elim (sending_of ssrc earlier) as (λ sending. sending_of ssrc earlier ≡ sending →
       still_sending horizons sending ≡ Some moment →
@@ -120,7 +121,8 @@ module _ (ssrc : ℕ) where
   still_kept : (step : TraceStep) (earlier : List TraceStep) (moment : ℕ) → IsQuiet step earlier moment →
       sending_of ssrc earlier ≡ Some moment → sending_of ssrc (step ∷ earlier) ≡ Some moment
   still_kept (fact_came fact at) earlier moment quiet kept =
-      ap (λ counted. if counted then Some at else sending_of ssrc earlier) quiet ∙ kept
+      sending_after_fact ssrc at fact earlier
+      ∙ ap (λ counted. if counted then Some at else sending_of ssrc earlier) quiet ∙ kept
   still_kept (check_made horizons) earlier moment quiet kept =
       let recent : nat_lt moment horizons.idle ≡ false = grind (arith, nat_tests, quiet) in
       ap (still_sending horizons) kept ∙ ap (λ late. if late then None else Some moment) recent
@@ -148,7 +150,7 @@ module _ (ssrc : ℕ) where
       since ≡ newer ++ check_made horizons ∷ older → horizons.idle ≤ moment)
       → sending_of ssrc (since ++ fact_came packet moment ∷ before) ≡ Some moment
   kept_since moment packet before counted [] newest recent =
-      ap (λ b. if b then Some moment else sending_of ssrc before) counted
+      sending_after_fact ssrc moment packet before ∙ ap (λ b. if b then Some moment else sending_of ssrc before) counted
   kept_since moment packet before counted (step ∷ since) newest recent =
       let later = kept_since moment packet before counted since
       (λ newer other at older is. newest (step ∷ newer) other at older (ap (λ (t : List TraceStep). step ∷ t) is))
@@ -165,12 +167,14 @@ module _ (ssrc : ℕ) where
 
   counted_is_valid : (step : TraceStep) (earlier : List TraceStep) →
       is_counted_by ssrc step (given_of ssrc earlier) ≡ true → is_valid ssrc (step ∷ earlier) ≡ true
-  counted_is_valid step earlier counted = or_left _ _ (or_right (gives_name ssrc step) _ counted)
+  counted_is_valid step earlier counted = valid_after ssrc earlier step
+      ∙ or_left _ _ (or_right (gives_name ssrc step) _ counted)
 
   valid_since : (since : List TraceStep) (own : List TraceStep) → is_valid ssrc own ≡ true →
       is_valid ssrc (since ++ own) ≡ true
   valid_since [] own valid = valid
-  valid_since (step ∷ since) own valid = or_right _ _ (valid_since since own valid)
+  valid_since (step ∷ since) own valid =
+      valid_after ssrc (since ++ own) step ∙ or_right _ _ (valid_since since own valid)
 
   pub sending_is_valid : (own : List TraceStep) (moment : ℕ) → IsSendingSince ssrc own moment →
       is_valid ssrc own ≡ true

@@ -1,5 +1,5 @@
 -- What a stay says of its source, after one step more.
-use Rattle.std.proofs.Common.{◌≡◌, ℕ, true, false, if◌then◌else◌, ◌||◌, ◌==◌, List, [], ◌∷◌, Option, Some, None, is_some, refl, sym, ap, ◌∙◌}
+use Rattle.std.proofs.Common.{◌≡◌, ℕ, Bool, true, false, if◌then◌else◌, ◌||◌, ◌&&◌, ◌==◌, List, [], ◌∷◌, Option, Some, None, is_some, is_none, option_map, refl, sym, ap, ◌∙◌}
 use Rattle.rtcp_wire.specs.declared.fact.Fact.{Fact}
 use Rattle.rtcp_wire.specs.declared.fact.Fact.TheVariants.{Heard, Media}
 use Rattle.rtcp_clock.specs.Moments.{media_units}
@@ -10,9 +10,11 @@ use Rattle.rtcp_source.specs.Steps.{taken_by, after_packet}
 use Rattle.rtcp_source.proofs.LawLemmas.{summary_moves-packet, summary_suffices-counted}
 use Rattle.rtcp_wire.specs.Facts.{subject}
 use Rattle.rtcp_members.specs.Traces.{Horizons, TraceStep, fact_came, check_made}
-use Rattle.rtcp_members.specs.Stays.{mark_at, mark_of, before_mark, last_naming}
-use Rattle.rtcp_members.specs.Entries.{EntryValue, given_of, is_valid, sending_of, still_sending, entry_of}
+use Rattle.rtcp_members.specs.Stays.{mark_at, mark_of, before_mark, last_naming, stay_of}
+use Rattle.rtcp_members.specs.Members.{is_unmarked_with}
+use Rattle.rtcp_members.specs.Entries.{EntryValue, given_of, is_valid, sending_of, still_sending, entry_of, entry_at, is_such}
 use Rattle.rtcp_members.specs.Tables.{entry_after}
+use Rattle.rtcp_members.proofs.StepByStep.{mark_after, valid_by_packet}
 
 -- ---- The mark
 
@@ -41,18 +43,46 @@ pub entry_unmarked : (ssrc : ℕ) (stay : List TraceStep) → mark_of ssrc stay 
 entry_unmarked ssrc stay unmarked = λ i. entry_with ssrc (before_none ssrc stay unmarked i) (unmarked i)
 
 module _ (ssrc : ℕ) (step : TraceStep) (stay : List TraceStep) where
+  after_mark : entry_of ssrc (step ∷ stay) ≡ entry_with ssrc
+      (if is_some (mark_at ssrc step (mark_of ssrc stay)) then before_mark ssrc stay else step ∷ stay)
+      (mark_at ssrc step (mark_of ssrc stay))
+  after_mark = ap (λ m. entry_with ssrc (if is_some m then before_mark ssrc stay else step ∷ stay) m)
+      (mark_after ssrc step stay)
+
   -- With a mark no step changes anything.
   pub entry_marked : (mark : ℕ) → mark_of ssrc stay ≡ Some mark →
       entry_of ssrc (step ∷ stay) ≡ entry_of ssrc stay
   entry_marked mark marked =
-      ap (λ m. entry_with ssrc (if is_some (mark_at ssrc step m) then before_mark ssrc stay else step ∷ stay)
+      after_mark ∙ ap (λ m. entry_with ssrc
+      (if is_some (mark_at ssrc step m) then before_mark ssrc stay else step ∷ stay)
       (mark_at ssrc step m)) marked
       ∙ ap (entry_with ssrc (before_mark ssrc stay)) (sym marked)
 
   pub entry_moves : mark_of ssrc stay ≡ None → entry_of ssrc (step ∷ stay) ≡ moved_entry ssrc step stay
-  entry_moves unmarked = λ i. entry_with ssrc
+  entry_moves unmarked = after_mark ∙ (λ i. entry_with ssrc
       (if is_some (mark_at ssrc step (unmarked i)) then before_none ssrc stay unmarked i else step ∷ stay)
-      (mark_at ssrc step (unmarked i))
+      (mark_at ssrc step (unmarked i)))
+
+-- A test of entries that fails with a mark, and passes what such a stay says without one.
+module _ (test : EntryValue → Bool) (such : ℕ → List TraceStep → Bool) (ssrc : ℕ)
+    (same : (stay : List TraceStep) → test (entry_with ssrc stay None) ≡ such ssrc stay)
+    (fails : (own : List TraceStep) (mark : ℕ) → test (entry_with ssrc own (Some mark)) ≡ false) where
+  by_mark : (stay : List TraceStep) (mark : Option ℕ) → mark_of ssrc stay ≡ mark →
+      test (entry_of ssrc stay) ≡ (is_none (mark_of ssrc stay) && such ssrc stay)
+  by_mark stay None unmarked = ap test (entry_unmarked ssrc stay unmarked) ∙ same stay
+      ∙ ap (λ m. is_none m && such ssrc stay) (sym unmarked)
+  by_mark stay (Some mark) marked =
+      ap (λ m. test (entry_with ssrc (before_mark ssrc stay) m)) marked ∙ fails (before_mark ssrc stay) mark
+      ∙ ap (λ m. is_none m && such ssrc stay) (sym marked)
+
+  pub such_by_stay : (capacity : ℕ) (trace : List TraceStep) →
+      is_such test (entry_at capacity trace ssrc) ≡ is_unmarked_with capacity trace such ssrc
+  such_by_stay capacity trace = elim (stay_of capacity trace ssrc) as (λ stay. is_such test
+      (option_map (entry_of ssrc) stay)
+      ≡ elim stay [ None ↦ false | Some own ↦ is_none (mark_of ssrc own) && such ssrc own ]) [
+        | None ↦ refl
+        | Some stay ↦ by_mark stay (mark_of ssrc stay) refl
+      ]
 
 -- ---- Facts
 
@@ -67,8 +97,10 @@ own_fact ssrc moment (Media other seq timestamp octets rate) stay own =
     let moved : summary_of (packet_came seq timestamp arrival octets rate ∷ given)
     ≡ after_packet seq timestamp arrival octets rate (summary_of given) =
     summary_moves-packet seq timestamp arrival octets rate given in
+    let valid = valid_by_packet ssrc stay seq timestamp arrival octets rate
+    ∙ ap (λ t. t || is_valid ssrc stay) counted in
     rw own (λ i. record {
-      valid = counted i || is_valid ssrc stay;
+      valid = valid i;
       mark = None;
       sighting = moment;
       sending = (if counted i then Some moment else sending_of ssrc stay);

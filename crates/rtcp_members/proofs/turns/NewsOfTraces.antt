@@ -1,5 +1,5 @@
 -- The pending sources of a table, as a list over the names of its trace.
-use Rattle.std.proofs.Common.{◌≡◌, ℕ, zero, suc, take, ◌<◌, Bool, true, false, T, cond, if◌then◌else◌, not, ◌||◌, ◌==◌, ◌&&◌, nat_lt, nat_cmp, is_lt, List, [], ◌∷◌, ◌++◌, filter, filter_map, map, Option, Some, None, is_some, is_none, option_map, arith, refl, sym, ap, ◌∙◌}
+use Rattle.std.proofs.Common.{◌≡◌, ℕ, zero, suc, take, ◌<◌, Bool, true, false, T, cond, if◌then◌else◌, not, ◌||◌, ◌==◌, nat_lt, nat_cmp, is_lt, List, [], ◌∷◌, ◌++◌, filter, filter_map, map, Option, Some, None, is_some, option_map, option_and_then, append-nil, arith, refl, sym, ap, ◌∙◌}
 use Rattle.std.proofs.lemmas.Bool.{or_parts}
 use Rattle.std.proofs.lemmas.Bool.Decides.{nat_tests}
 use Rattle.std.specs.List.{All, cons_option}
@@ -10,18 +10,20 @@ use Rattle.std.specs.FinMap as finite
 use Rattle.std.specs.FinMap.{nat_cmp-IsAntisymmetric}
 use Rattle.std.specs.FinMap.Entries.{below_all}
 use Rattle.rtcp_source.specs.Packets.{has_news_since}
+use Rattle.rtcp_source.specs.ReportBlocks.{block_over}
 use Rattle.rtcp_source.proofs.LawLemmas.{summary_suffices-block, summary_suffices-news}
 use Rattle.rtcp_members.specs.Traces.{TraceStep, names}
-use Rattle.rtcp_members.specs.Stays.{mark_of, before_mark, stay_of}
+use Rattle.rtcp_members.specs.Stays.{before_mark, is_before, stay_of}
 use Rattle.rtcp_members.specs.Entries.{EntryValue, given_of, entry_of, entry_at, is_such}
 use Rattle.rtcp_members.specs.Tables.{EntryMap, TableValue, StandsAt}
 use Rattle.rtcp_members.specs.Pending.{EntryRow, is_due, due_rows, is_above, pending, blocks_of, pending_rows_at}
-use Rattle.rtcp_members.specs.News.{is_due_in, is_due_by, block_in, blocks_at, put_rising, rising, pending_at, is_after}
+use Rattle.rtcp_members.specs.News.{is_due_by, blocks_at, put_rising, rising, pending_at, is_after}
 use Rattle.rtcp_members.proofs.maps.Counting.{has, IsOnce}
 use Rattle.rtcp_members.proofs.turns.LeastDue.{is_less, joined}
 use Rattle.rtcp_members.proofs.stays.Naming.{names_are_once, present_is_named}
 use Rattle.rtcp_members.proofs.standing.Following.{is_some_mapped}
-use Rattle.rtcp_members.proofs.stays.Staying.{entry_with, entry_unmarked}
+use Rattle.rtcp_members.proofs.StepByStep.{either_way}
+use Rattle.rtcp_members.proofs.stays.Staying.{such_by_stay}
 use Rattle.rtcp_members.proofs.standing.TraceTables.{row_by, found_by, entry_if_named}
 
 -- ---- Rising numbers
@@ -33,10 +35,6 @@ AreAbove x (y ∷ ys) = (x < y) × AreAbove x ys
 abbrev AreRising : List ℕ → Type 0
 AreRising [] = Unit {0}
 AreRising (x ∷ xs) = AreAbove x xs × AreRising xs
-
-either_way : (a b c : Bool) → (a || (b || c)) ≡ (b || (a || c))
-either_way true true c = refl
-either_way a b c = refl
 
 has_put : (q x : ℕ) (ys : List ℕ) → has q (put_rising x ys) ≡ ((x == q) || has q ys)
 has_put q x [] = refl
@@ -198,27 +196,24 @@ module _ (table : TableValue) (trace : List TraceStep) (stands : StandsAt table 
 
 -- ---- News, by stays
 
-module _ (ssrc : ℕ) where
-  unmarked_news : (stay : List TraceStep) (mark : Option ℕ) → mark_of ssrc stay ≡ mark →
-      is_due (entry_of ssrc stay) ≡ (is_none (mark_of ssrc stay) && has_news_since (given_of ssrc stay))
-  unmarked_news stay None unmarked =
-      ap is_due (entry_unmarked ssrc stay unmarked)
-      ∙ summary_suffices-news (given_of ssrc stay)
-      ∙ ap (λ m. is_none m && has_news_since (given_of ssrc stay)) (sym unmarked)
-  unmarked_news stay (Some mark) marked =
-      ap (λ m. is_due (entry_with ssrc (before_mark ssrc stay) m)) marked
-      ∙ ap (λ m. is_none m && has_news_since (given_of ssrc stay)) (sym marked)
-
-  due_in : (stay : Option (List TraceStep)) → is_such is_due (option_map (entry_of ssrc) stay) ≡ is_due_in
-      ssrc stay
-  due_in None = refl
-  due_in (Some stay) = unmarked_news stay (mark_of ssrc stay) refl
-
 pub due_at_trace : (capacity : ℕ) (trace : List TraceStep) (ssrc : ℕ) →
     is_such is_due (entry_at capacity trace ssrc) ≡ is_due_by capacity trace ssrc
-due_at_trace capacity trace ssrc = due_in ssrc (stay_of capacity trace ssrc)
+due_at_trace capacity trace ssrc =
+    such_by_stay is_due (λ ssrc stay. has_news_since (given_of ssrc stay)) ssrc
+    (λ stay. summary_suffices-news (given_of ssrc stay)) (λ own mark. refl) capacity trace
 
 -- ---- Turns
+
+none_pass : (xs : List ℕ) → filter (λ _. false) xs ≡ []
+none_pass [] = refl
+none_pass (x ∷ xs) = none_pass xs
+
+-- Where none was reported, none is below it or all are above it.
+same_turn : (last : Option ℕ) (xs : List ℕ) → filter (is_after last) xs ++ filter (λ x. not (is_after last x)) xs
+    ≡ filter (is_before last) xs ++ filter (λ x. not (is_before last x)) xs
+same_turn (Some m) xs = refl
+same_turn None xs = ap (λ (ys : List ℕ). filter (λ _. true) xs ++ ys) (none_pass xs)
+    ∙ append-nil (filter (λ _. true) xs) ∙ ap (λ (ys : List ℕ). ys ++ filter (λ _. true) xs) (sym (none_pass xs))
 
 module _ (last : Option ℕ) (table : TableValue) (trace : List TraceStep) (stands : StandsAt table trace) where
   abbrev entries : ℕ → Option EntryValue
@@ -241,6 +236,7 @@ module _ (last : Option ℕ) (table : TableValue) (trace : List TraceStep) (stan
       ∙ (λ i. rows_kept entries (is_above last) (is_after last) (λ ssrc e is. refl) news i ++ rows_kept entries
       (λ row. not (is_above last row)) (λ ssrc. not (is_after last ssrc)) (λ ssrc e is. refl) news i)
       ∙ rows_joined entries (filter (is_after last) news) (filter (λ ssrc. not (is_after last ssrc)) news)
+      ∙ ap (rows entries) (same_turn last news)
 
 such_is_there : (test : EntryValue → Bool) (entry : Option EntryValue) → is_such test entry ≡ true →
     is_some entry ≡ true
@@ -255,8 +251,8 @@ module _ (last : Option ℕ) (capacity : ℕ) (trace : List TraceStep) where
       let all = have_passing entry (is_due_by capacity trace)
       (λ ssrc news. such_is_there is_due (entry ssrc) (due_at_trace capacity trace ssrc ∙ news))
       (rising (names trace)) in
-      All-append (Has entry) _ _ (All-filter (is_after last) (Has entry) _ all)
-      (All-filter (λ ssrc. not (is_after last ssrc)) (Has entry) _ all)
+      All-append (Has entry) _ _ (All-filter (is_before last) (Has entry) _ all)
+      (All-filter (λ ssrc. not (is_before last ssrc)) (Has entry) _ all)
 
   pub pending_have_rows : map (λ (row : EntryRow). row.0) (pending_rows_at last capacity trace)
       ≡ pending_at last capacity trace
@@ -276,7 +272,8 @@ module _ (t capacity : ℕ) (trace : List TraceStep) where
       let later : List EntryRow = rows (entry_at capacity trace) ssrcs in
       elim (stay_of capacity trace ssrc) as (λ stay. is_some (option_map (entry_of ssrc) stay) ≡ true →
       blocks_of t (take (suc most) (cons_option (option_map (λ e. (ssrc, e)) (option_map (entry_of ssrc) stay)) later))
-      ≡ cons_option (block_in ssrc t stay) (blocks_at t capacity trace (take most ssrcs))) [
+      ≡ cons_option (option_and_then (λ stay. block_over ssrc t (given_of ssrc (before_mark ssrc stay))) stay)
+      (blocks_at t capacity trace (take most ssrcs))) [
         | None ↦ λ h. absurd cc
         | Some stay ↦ λ h i. cons_option (summary_suffices-block (given_of ssrc (before_mark ssrc stay)) ssrc t i)
             (rest i)
