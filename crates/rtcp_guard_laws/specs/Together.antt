@@ -2,7 +2,7 @@
 use Rattle.std.specs.Prelude.{ℕ, ◌≡◌, ◌≤◌, true, List, [], ◌∷◌, if◌then◌else◌, Option}
 use Rattle.rtcp_wire.specs.declared.fact.Fact.{Fact}
 use Rattle.rtcp_wire.specs.Facts.{subject}
-use Rattle.rtcp_members.specs.Traces.{Horizons, TraceStep, check_made as table_checked, block_made_of, source_forgotten, with_facts}
+use Rattle.rtcp_members.specs.Present.{Horizons, TraceStep, check_made as table_checked, block_made_of, source_forgotten, with_facts}
 use Rattle.rtcp_guard.specs.declared.settings.Settings.{Settings}
 use Rattle.rtcp_guard.specs.Claims.{is_named}
 use Rattle.rtcp_guard.specs.Guarding.{GuardStep, datagram_came, check_made, source_expected, origin_trusted}

@@ -7,10 +7,11 @@ use Rattle.rtcp_wire.specs.declared.fact.Fact.TheVariants.{Named}
 use Rattle.rtcp_wire.specs.Values.{RtcpPacket}
 use Rattle.rtcp_wire.specs.Facts.{subject, is_media, facts_of}
 use Rattle.rtcp_wire.specs.Writing.{written_all}
-use Rattle.rtcp_members.specs.Traces.{TraceStep, fact_came, check_made, block_made_of, names, source_forgotten}
-use Rattle.rtcp_members.specs.Stays.{present_among, stay_of, ends_stay}
+use Rattle.rtcp_members.specs.Present.{TraceStep, fact_came, check_made, block_made_of, names, source_forgotten}
+use Rattle.rtcp_members.specs.Present.{present_among, stay_of, ends_stay}
 use Rattle.rtcp_members.specs.Lasting.{says_bye}
-use Rattle.rtcp_members.specs.Entries.{gives_name, is_such, is_sender, entry_at}
+use Rattle.rtcp_members.specs.Members.{gives_name}
+use Rattle.rtcp_members.specs.Entries.{is_such, is_sender, entry_at}
 use Rattle.rtcp_engine.specs.answers.Acts.{arrived, rtcp}
 use Rattle.rtcp_session.specs.Windows.{Decided, load_at, Joined, decided_within}
 use Rattle.rtcp_session.specs.Crowds.{Terms}

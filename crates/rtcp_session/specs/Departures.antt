@@ -3,9 +3,10 @@
 use Rattle.std.specs.Prelude.{ℕ, ◌≡◌, ◌+◌, ◌*◌, ◌<◌, ◌==◌, ◌&&◌, not, Bool, true, false, nat_lt, nat_le, List, [], ◌∷◌, filter, flat_map, length, if◌then◌else◌, Ok}
 use Rattle.std.specs.List.{list_any}
 use Rattle.rtcp_wire.specs.Values.{RtcpPacket, sr, rr, sdes, bye, app, other}
-use Rattle.rtcp_members.specs.Traces.{names}
-use Rattle.rtcp_members.specs.Stays.{last_naming}
-use Rattle.rtcp_members.specs.Entries.{entry_at, is_member, is_such, members_at}
+use Rattle.rtcp_members.specs.Present.{names}
+use Rattle.rtcp_members.specs.Present.{last_naming}
+use Rattle.rtcp_members.specs.Entries.{entry_at, is_member, is_such}
+use Rattle.rtcp_members.specs.Members.{members_at}
 use Rattle.rtcp_engine.specs.answers.Setups.{Setup}
 use Rattle.rtcp_engine.specs.answers.Acts.{Act, arrived, rtcp, ticked, forgotten, moment_of}
 use Rattle.rtcp_engine.specs.answers.Changes.{is_among}

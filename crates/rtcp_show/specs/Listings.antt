@@ -4,7 +4,7 @@ use Rattle.std.specs.Option.{option_or}
 use Rattle.rtcp_engine.specs.answers.Histories.{History, life_at, setup_at}
 use Rattle.rtcp_engine.specs.answers.Leaving.{Life, present, backing_off, finished}
 use Rattle.rtcp_engine.specs.answers.Setups.{Setup}
-use Rattle.rtcp_members.specs.Stays.{stay_of}
+use Rattle.rtcp_members.specs.Present.{stay_of}
 use Rattle.rtcp_members.specs.Listings.{StateValue, state_in_stay}
 
 abbrev pub takes_part : Life → Bool

@@ -7,8 +7,8 @@ use Rattle.rtcp_wire.specs.declared.rtp.fault.RtpFault.{RtpFault}
 use Rattle.rtcp_wire.specs.Values.{RtcpPacket}
 use Rattle.rtcp_wire.specs.Facts.{facts_of}
 use Rattle.rtcp_wire.specs.RtpHeads.{RtpValue}
-use Rattle.rtcp_members.specs.Traces.{with_facts}
-use Rattle.rtcp_members.specs.Entries.{counted_at}
+use Rattle.rtcp_members.specs.Present.{with_facts}
+use Rattle.rtcp_members.specs.Members.{counted_at}
 use Rattle.rtcp_engine.specs.answers.Setups.{Setup, rate_among}
 use Rattle.rtcp_engine.specs.answers.Acts.{Datagram, rtcp, rtp, Act, arrived, rtp_sent, ticked, left, configured, forgotten}
 use Rattle.rtcp_engine.specs.answers.OwnStreams.{packet_sent, counts_anew, has_sent}

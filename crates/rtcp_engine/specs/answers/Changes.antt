@@ -3,7 +3,7 @@
 use Rattle.std.specs.Prelude.{ℕ, ◌+◌, ◌==◌, ◌||◌, Bool, false, List, [], ◌∷◌, length, map, is_some, if◌then◌else◌, Option, Some, None, Ok, Err, suc, zero, nat_lt, not, ◌&&◌, ◌%◌, ◌^◌}
 use Rattle.std.specs.List.{list_any}
 use Rattle.rtcp_wire.specs.Facts.{subject, facts_of}
-use Rattle.rtcp_members.specs.Stays.{stay_of}
+use Rattle.rtcp_members.specs.Present.{stay_of}
 use Rattle.rtcp_engine.specs.declared.changes.IdentifierChange.{IdentifierChange}
 use Rattle.rtcp_engine.specs.answers.Setups.{Setup}
 use Rattle.rtcp_engine.specs.answers.Acts.{Datagram, rtcp, rtp, Act, arrived}

@@ -2,9 +2,10 @@
 use Rattle.std.specs.Prelude.{ℕ, ◌≡◌, ◌+◌, ◌-◌, ◌==◌, ◌&&◌, nat_le, not, Bool, false, List, [], ◌∷◌, length, if◌then◌else◌, Option, Some, None, option_map, Result, Ok, Err}
 use Rattle.rtcp_wire.specs.declared.fault.WireFault.{WireFault}
 use Rattle.rtcp_wire.specs.Values.{RtcpPacket}
-use Rattle.rtcp_members.specs.Traces.{names, source_forgotten}
-use Rattle.rtcp_members.specs.Stays.{present_among, stay_of}
-use Rattle.rtcp_members.specs.Entries.{EntryValue, entry_at, members_at, moved_within}
+use Rattle.rtcp_members.specs.Present.{names, source_forgotten}
+use Rattle.rtcp_members.specs.Present.{present_among, stay_of}
+use Rattle.rtcp_members.specs.Entries.{EntryValue, entry_at}
+use Rattle.rtcp_members.specs.Members.{members_at, moved_within}
 use Rattle.rtcp_members.specs.Listings.{StateValue, ListsAbove, IsWalk}
 use Rattle.rtcp_engine.specs.declared.step.Standing.{Standing}
 use Rattle.rtcp_engine.specs.declared.step.OutKind.TheVariants.{Report, Bye}

@@ -2,8 +2,8 @@
 -- Lists are newest first.
 use Rattle.std.specs.Prelude.{ℕ, ◌+◌, ◌*◌, ◌≤◌, ◌==◌, Bool, false, nat_lt, min, max, List, [], ◌∷◌, if◌then◌else◌, Option, Some, None}
 use Rattle.rtcp_clock.specs.Intervals.{drawn_interval}
-use Rattle.rtcp_members.specs.Traces.{TraceStep}
-use Rattle.rtcp_members.specs.Entries.{members_at, senders_at}
+use Rattle.rtcp_members.specs.Present.{TraceStep}
+use Rattle.rtcp_members.specs.Members.{members_at, senders_at}
 use Rattle.rtcp_report.specs.Reports.{Reporter, items_of}
 use Rattle.rtcp_report.specs.Sizes.{report_size}
 use Rattle.rtcp_timer.specs.declared.load.Load.{Load}

@@ -2,7 +2,7 @@
 -- newest first.
 use Rattle.std.specs.Prelude.{◌≡◌, ℕ, ◌+◌, ◌-◌, ◌%◌, ◌^◌, Bool, true, false, List, [], ◌∷◌, if◌then◌else◌, Option, Some, None, is_some}
 use Rattle.rtcp_clock.specs.Moments.{ntp_moment, media_units}
-use Rattle.rtcp_members.specs.Stays.{is_before}
+use Rattle.rtcp_members.specs.Present.{is_before}
 use Rattle.rtcp_report.specs.Reports.{SentValue}
 
 pub data OwnStep : Type 0 where

@@ -2,7 +2,7 @@
 -- is due.
 use Rattle.std.specs.Prelude.{ℕ, ◌+◌, ◌-◌, ◌*◌, ◌&&◌, Bool, nat_le, List, ◌∷◌, if◌then◌else◌, length, Option, Some, None}
 use Rattle.rtcp_clock.specs.Intervals.{drawn_interval}
-use Rattle.rtcp_members.specs.Traces.{Horizons, check_made, source_forgotten, with_blocks}
+use Rattle.rtcp_members.specs.Present.{Horizons, check_made, source_forgotten, with_blocks}
 use Rattle.rtcp_timer.specs.Schedules.{Happening, transmitted, tried, recounted}
 use Rattle.rtcp_engine.specs.answers.Setups.{Setup}
 use Rattle.rtcp_engine.specs.answers.OwnStreams.{check_passed, report_sent}

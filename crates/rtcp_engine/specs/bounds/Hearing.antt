@@ -3,7 +3,7 @@
 use Rattle.std.specs.Prelude.{ℕ, ◌≡◌, ◌+◌, ◌*◌, ◌≤◌, ◌==◌, ◌&&◌, not, Bool, true, false, List, ◌∷◌, ◌++◌, All, Contains, Ok, Err}
 use Rattle.std.specs.List.{list_any}
 use Rattle.rtcp_wire.specs.Facts.{subject, is_gone, facts_of}
-use Rattle.rtcp_members.specs.Stays.{last_naming}
+use Rattle.rtcp_members.specs.Present.{last_naming}
 use Rattle.rtcp_members.specs.Entries.{is_member, is_such}
 use Rattle.rtcp_engine.specs.answers.Setups.{Setup}
 use Rattle.rtcp_engine.specs.answers.Acts.{Act, Datagram, arrived, rtcp, rtp, ticked, forgotten}
