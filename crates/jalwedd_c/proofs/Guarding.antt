@@ -6,7 +6,7 @@ use Rattle.rtcp_engine.specs.declared.step.WrittenStep.{WrittenStep}
 use Rattle.rtcp_engine.specs.answers.Acts.{Act, EventValue, IsActOfEvent}
 use Rattle.rtcp_engine.specs.answers.Histories.{History}
 use Rattle.rtcp_engine.specs.state.Promises.{Replies as ParticipantReplies}
-use Rattle.rtcp_engine.specs.state.States.{KeepsCapacity, ParticipantValue}
+use Rattle.rtcp_engine.specs.state.States.{ParticipantValue, KeepsCapacity}
 use Rattle.rtcp_engine.specs.state.Views.{reply_value as participant_reply}
 use Rattle.rtcp_guarded.specs.Guarded.{IsTakenInTime, guard_at, guarded_answer, passed_at, with_told}
 use Rattle.rtcp_guarded.specs.Views.{StandsAt, as_refused, both, reply_value}

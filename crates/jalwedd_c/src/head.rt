@@ -2,8 +2,9 @@
 
 ghost use Rattle.std.specs.Prelude.{◌≡◌, ◌<◌, ◌≤◌, length};
 ghost use Rattle.rtcp_wire.specs.declared.rtp.fault.RtpFault.{RtpFault as HeadFault};
-ghost use Rattle.rtcp_wire.specs.RtpHeads.{RtpValue, IsRtpFault, IsRtpHead};
+ghost use Rattle.rtcp_wire.specs.RtpHeads.{IsRtpFault, IsRtpHead};
 ghost use Rattle.jalwedd_host.specs.Heads.{ShowsHead, ShowsHeadFault};
+ghost use Rattle.rtcp_wire.specs.Values.{RtpValue};
 
 use crate::calls::LONGEST;
 use jalwedd_host::head::{HeadPlace, head_place, head_reason_number};

@@ -4,8 +4,8 @@ use Rattle.std.proofs.lemmas.List.Elements.{All-nil, All-cons, All-append, All-h
 use Rattle.std.proofs.lemmas.Option.{slice_get_within, get_or_from_slice_get}
 use Rattle.rtcp_wire.specs.Contents.{all_apps, all_blocks, all_goodbyes, all_items, packet_apps}
 use Rattle.rtcp_wire.specs.Grammar.{AreOctets, IsAccepted}
-use Rattle.rtcp_wire.specs.RtpHeads.{RtpValue, IsReserved, IsRtpHead}
-use Rattle.rtcp_wire.specs.Values.{AppValue, ItemValue, ReportBlock, RtcpPacket, app}
+use Rattle.rtcp_wire.specs.RtpHeads.{IsReserved, IsRtpHead}
+use Rattle.rtcp_wire.specs.Values.{AppValue, ItemValue, ReportBlock, RtcpPacket, app, RtpValue}
 use Rattle.rtcp_wire.specs.Writing.{IsWritable, IsWritableBlock, IsWritableItem, IsWritableReason}
 use Rattle.rtcp_wire.proofs.LawLemmas as wire
 use Rattle.jalwedd_host.specs.declared.app.AppPlace.{AppPlace}

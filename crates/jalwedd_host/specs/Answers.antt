@@ -9,7 +9,7 @@ use Rattle.rtcp_engine.specs.declared.step.Written.{Written}
 use Rattle.rtcp_engine.specs.answers.Histories.{History, life_at, setup_at}
 use Rattle.rtcp_engine.specs.answers.Leaving.{Life}
 use Rattle.rtcp_engine.specs.answers.Lives.{next_in_life, standing_in_life}
-use Rattle.rtcp_engine.specs.answers.Steps.{OutValue, AnswerValue}
+use Rattle.rtcp_engine.specs.answers.Acts.{OutValue, AnswerValue}
 use Rattle.jalwedd_host.specs.declared.step.HostStep.{HostStep}
 use Rattle.jalwedd_host.specs.Configs.{status_of_error}
 

@@ -3,10 +3,11 @@ use Rattle.std.specs.Prelude.{◌≡◌, ℕ, ◌+◌, List, length}
 use Rattle.rtcp_wire.specs.Placed.{StandsIn}
 use Rattle.rtcp_wire.specs.declared.rtp.fault.RtpFault.{RtpFault}
 use Rattle.rtcp_wire.specs.declared.rtp.fault.RtpFault.TheVariants.{Short, Version, PayloadType, Extension, Padding}
-use Rattle.rtcp_wire.specs.RtpHeads.{RtpValue, IsRtpHead}
+use Rattle.rtcp_wire.specs.RtpHeads.{IsRtpHead}
 use Rattle.jalwedd_host.specs.Answers.{one_if}
 use Rattle.jalwedd_host.specs.declared.head.HeadPlace.{HeadPlace}
 use Rattle.jalwedd_host.specs.declared.reading.Fault.{Fault}
+use Rattle.rtcp_wire.specs.Values.{RtpValue}
 
 -- What the fields of a head say, and where its CSRCs and its payload stand: the CSRCs, a word each, after the fixed
 -- part, and the payload after the extension and before the padding (RFC 3550, 5.1).

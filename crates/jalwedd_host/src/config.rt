@@ -1,10 +1,11 @@
 //! How a host in C configures a participant.
 
 ghost use Rattle.std.specs.Prelude.{◌≡◌, ◌↔◌, ◌≤◌, [], map, length, IfSome, IsTrue, Some, None};
-ghost use Rattle.rtcp_report.specs.Views.{item_value};
-ghost use Rattle.rtcp_engine.specs.state.Views.{clock_value, settings_value, setup_of};
+ghost use Rattle.rtcp_report.specs.Reports.{item_value};
+ghost use Rattle.rtcp_engine.specs.state.Views.{setup_of};
 ghost use Rattle.jalwedd_host.specs.Configs.{clock_given, clocks_given, item_given, settings_given, setup_given};
 ghost use Rattle.jalwedd_host.specs.Configs.{do_clocks_fit, oversize, oversize_of_settings};
+ghost use Rattle.rtcp_engine.specs.answers.Acts.{clock_value, settings_value};
 
 use crate::status::{CNAME, ITEM, RATE};
 use arrayvec::ArrayVec;

@@ -4,10 +4,10 @@ ghost use Rattle.std.specs.Prelude.{◌≡◌, ◌+◌, ◌%◌, ◌^◌, ◌<�
 ghost use Rattle.rtcp_wire.specs.Contents.{all_apps, all_blocks, all_goodbyes, all_items};
 ghost use Rattle.rtcp_wire.specs.Contents.{packet_apps, packet_blocks, packet_goodbyes, packet_items, packet_senders};
 ghost use Rattle.rtcp_wire.specs.Grammar.{AreOctets, IsAccepted};
-ghost use Rattle.rtcp_wire.specs.RtpHeads.{RtpValue, IsReserved, IsRtpHead};
+ghost use Rattle.rtcp_wire.specs.RtpHeads.{IsReserved, IsRtpHead};
 ghost use Rattle.rtcp_wire.specs.declared.fault.FaultReason.{FaultReason as Rule};
 ghost use Rattle.rtcp_wire.specs.declared.rtp.fault.RtpFault.{RtpFault as HeadRule};
-ghost use Rattle.rtcp_wire.specs.Values.{AppValue, ItemValue, ReportBlock, RtcpPacket};
+ghost use Rattle.rtcp_wire.specs.Values.{AppValue, ItemValue, ReportBlock, RtcpPacket, RtpValue};
 ghost use Rattle.rtcp_members.specs.Listings.{StateValue};
 ghost use Rattle.rtcp_listing.specs.Differences.{listed_of};
 ghost use Rattle.rtcp_engine.specs.answers.Histories.{History, life_at, setup_at};

@@ -3,10 +3,11 @@
 ghost use Rattle.std.specs.Prelude.{◌≡◌, ◌≤◌, ◌<◌, ◌+◌, ◌++◌, ◌⊎◌, ℕ, List, Ok, Err, Some, None, OnOk, IfOk, IfErr, IfSome, [], length, map, option_map, string_bytes, codes};
 ghost use Rattle.clap.specs.Matches.{found_of, first_value};
 ghost use Rattle.rtcp_wire.specs.Values.{ItemValue};
-ghost use Rattle.rtcp_engine.specs.state.Views.{clock_value, setup_of};
+ghost use Rattle.rtcp_engine.specs.state.Views.{setup_of};
 ghost use Rattle.rtcp_command.specs.Listening.{HasTurns, IsListenOrder, listen_in, listening_of, seed_in, settled as settled_text, settled_ntp as settled_time, turns_given};
 ghost use Rattle.rtcp_command.specs.Options.{bandwidth_in, clock_given, clocks_given, extras_in, is_set as is_set_in, item_in, lines_in, replay_in, setup_in, text_found, text_given, text_in, texts_given, texts_in, with_extras};
 ghost use Rattle.rtcp_text.specs.Numerals.{hex_text_in};
+ghost use Rattle.rtcp_engine.specs.answers.Acts.{clock_value};
 
 use crate::endpoint::read_endpoint;
 use crate::guard::read_given_guard;

@@ -3,10 +3,11 @@
 ghost use Rattle.std.specs.Prelude.{◌≡◌, ◌++◌, IfOk, OnOk, codes};
 ghost use Rattle.std.specs.Fmt.{decimal};
 ghost use Rattle.std.specs.List.{flat_map};
-ghost use Rattle.rtcp_engine.specs.state.Views.{clock_value, setup_of};
-ghost use Rattle.rtcp_report.specs.Views.{item_value};
+ghost use Rattle.rtcp_engine.specs.state.Views.{setup_of};
+ghost use Rattle.rtcp_report.specs.Reports.{item_value};
 ghost use Rattle.rtcp_text.specs.Text.{hex_long, hex_word};
 ghost use Rattle.rtcp_command.specs.ReplayCommand.{bandwidths_text, clock_option_text, clocks_text, guard_text, item_name, item_text, name_text, quoted, quoted_octet, replay_command, replay_guarded_command, setup_text, sizes_text};
+ghost use Rattle.rtcp_engine.specs.answers.Acts.{clock_value};
 
 use rtcp_engine::{Clock, Config, Item};
 use rtcp_guarded_text::GuardLimits;

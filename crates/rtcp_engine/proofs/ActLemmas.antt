@@ -8,18 +8,16 @@ use Rattle.rtcp_engine.specs.declared.step.Step.{Step}
 use Rattle.rtcp_engine.specs.declared.step.WrittenStep.{WrittenStep}
 use Rattle.rtcp_engine.specs.declared.step.Written.{Written}
 use Rattle.rtcp_engine.specs.answers.Setups.{Setup, SettingsValue}
-use Rattle.rtcp_engine.specs.answers.Acts.{Act, EventValue, IsActOfEvent, configured, moment_of}
+use Rattle.rtcp_engine.specs.answers.Acts.{Act, EventValue, IsActOfEvent, configured, moment_of, AnswerValue, OutValue, StepValue, answer_unless}
 use Rattle.rtcp_engine.specs.answers.Leaving.{Backoff, Life, present, backing_off, finished, leaving_count}
 use Rattle.rtcp_engine.specs.answers.Lives.{lived, others_moved_by, others_moved_into, out_by, out_while_backing_off, out_while_present, step_into, while_backing_off, while_present}
 use Rattle.rtcp_engine.specs.answers.Outcomes.{Outcome}
 use Rattle.rtcp_engine.specs.answers.Changes.{NewIdentifier, Session, bye_of_change, change_by, changed_by}
 use Rattle.rtcp_engine.specs.answers.Histories.{History, life_at, session_at, setup_after, setup_at, with_act}
-use Rattle.rtcp_engine.specs.answers.Refusals.{refusal_after, refusal_of_content}
-use Rattle.rtcp_engine.specs.answers.Answers.{answer_of, followed_by, step_by}
+use Rattle.rtcp_engine.specs.answers.Answers.{answer_of, followed_by, step_by, refusal_after, refusal_of_content}
 use Rattle.rtcp_engine.specs.state.Promises.{Answers, Replies, SaysStanding, Spares, Takes as Promised}
 use Rattle.rtcp_engine.specs.bounds.Runs.{IsAnsweredInTime}
-use Rattle.rtcp_engine.specs.state.States.{State, Acts, Agrees, Does, StandsStill, IsAt, IsIn, IsPaceOf, KeepsCapacity, MovesOthers, Stays, ParticipantValue, PhaseValue, StandsAt, Waits, called, leaving, over, refusal_by, taking_part, with_settings_in}
-use Rattle.rtcp_engine.specs.answers.Steps.{AnswerValue, OutValue, StepValue, answer_unless}
+use Rattle.rtcp_engine.specs.state.States.{State, Acts, Agrees, Does, StandsStill, IsAt, IsIn, IsPaceOf, MovesOthers, Stays, ParticipantValue, PhaseValue, StandsAt, Waits, called, leaving, over, refusal_by, taking_part, with_settings_in, KeepsCapacity}
 use Rattle.rtcp_engine.specs.state.Taken.{HasWords}
 use Rattle.rtcp_engine.specs.state.Views.{LeavesRest, answer_value, reply_value, written_step_value}
 use Rattle.rtcp_engine.proofs.Agreeing.{calls_agree, with_own}

@@ -2,8 +2,7 @@
 use Rattle.std.proofs.Common.{None, ◌≡◌, ℕ, ◌+◌, ◌==◌, Bool, List, [], ◌∷◌, length, map, Option, is_some, refl, sym, ap, ◌∙◌, arith, subst}
 use Rattle.std.proofs.lemmas.Bool.{ne_eqb}
 use Rattle.rtcp_wire.specs.declared.fact.Fact.{Fact}
-use Rattle.rtcp_wire.specs.RtpHeads.{RtpValue}
-use Rattle.rtcp_wire.specs.Values.{ReportBlock}
+use Rattle.rtcp_wire.specs.Values.{ReportBlock, RtpValue}
 use Rattle.rtcp_wire.specs.Writing.{written_all}
 use Rattle.rtcp_members.specs.Traces.{TraceStep, with_facts, with_blocks}
 use Rattle.rtcp_members.specs.Entries.{members_at, senders_at, counted_at}
@@ -15,8 +14,8 @@ use Rattle.rtcp_members.specs.Traces.{names}
 use Rattle.rtcp_members.specs.Stays.{present_among, stay_of}
 use Rattle.rtcp_members.specs.Listings.{StateValue, state_above, states_above, ListsAbove, IsWalk}
 use Rattle.rtcp_members.proofs.LawLemmas as tables
-use Rattle.rtcp_report.specs.Reports.{Reporter, packets_with}
-use Rattle.rtcp_report.specs.Sizes.{fitting, reported_rows, report_of}
+use Rattle.rtcp_report.specs.Reports.{Reporter, packets_with, fitting}
+use Rattle.rtcp_report.specs.Sizes.{reported_rows, report_of}
 use Rattle.rtcp_report.proofs.LawLemmas as reports
 use Rattle.rtcp_timer.specs.declared.load.Load.{Load}
 use Rattle.rtcp_timer.specs.Averages.{moved_average}
@@ -25,9 +24,10 @@ use Rattle.rtcp_engine.specs.answers.OwnStreams.{OwnStep, OwnValue, Adds, own_of
 use Rattle.rtcp_engine.specs.answers.Outcomes.{Outcome, one_if, member_count, sender_count, load_of}
 use Rattle.rtcp_engine.specs.answers.Reporting.{last_reported_in, reporter_at, reporter_by, reported_at, report_octets}
 use Rattle.rtcp_engine.specs.answers.Ticks as ticks
-use Rattle.rtcp_engine.specs.answers.Arrivals.{media_fact, facts_of_media, rate_of, with_media}
+use Rattle.rtcp_engine.specs.answers.Arrivals.{media_fact, facts_of_media, rate_of}
 use Rattle.rtcp_engine.specs.state.States.{State, Agrees, StandsStill, with_call}
 use Rattle.rtcp_engine.proofs.LawLemmas.{last_block_is_newest}
+use Rattle.rtcp_engine.specs.answers.Lives.{with_media}
 
 -- ---- Counts and intervals
 

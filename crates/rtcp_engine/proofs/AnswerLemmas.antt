@@ -2,12 +2,11 @@
 use Rattle.std.proofs.Common.{◌≡◌, length, Option, Some, None, Err, refl, sym, ap, ◌∙◌, subst}
 use Rattle.std.specs.Option.{option_or}
 use Rattle.rtcp_engine.specs.declared.refusal.Refusal.{Refusal}
-use Rattle.rtcp_engine.specs.answers.Acts.{Act, moment_of}
+use Rattle.rtcp_engine.specs.answers.Acts.{Act, moment_of, answer_unless}
 use Rattle.rtcp_engine.specs.answers.Leaving.{Life, present, backing_off, finished}
 use Rattle.rtcp_engine.specs.answers.Histories.{History, last_moment, life_at, session_at, with_act}
-use Rattle.rtcp_engine.specs.answers.Refusals.{call_refusal, refusal_after, refusal_in, refusal_of, refusal_of_content}
-use Rattle.rtcp_engine.specs.answers.Steps.{answer_unless}
-use Rattle.rtcp_engine.specs.answers.Answers.{step_by, answer_of, followed_by}
+use Rattle.rtcp_engine.specs.answers.Refusals.{refusal_of}
+use Rattle.rtcp_engine.specs.answers.Answers.{step_by, answer_of, followed_by, call_refusal, refusal_after, refusal_in, refusal_of_content}
 use Rattle.rtcp_engine.specs.state.States.{PhaseValue, ParticipantValue, IsAt, StandsAt, refusal_by, refusal_in_phase}
 
 -- ---- Refusals

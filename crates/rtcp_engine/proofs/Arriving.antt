@@ -1,7 +1,6 @@
 -- A datagram that was read: whether it is refused, and whether it changes the identifier.
 use Rattle.std.proofs.Common.{◌≡◌, ℕ, ◌&&◌, not, Bool, true, false, List, map, Option, Some, None, Result, Err, if◌then◌else◌, refl, sym, ap, ◌∙◌, subst}
-use Rattle.rtcp_wire.specs.Values.{RtcpPacket}
-use Rattle.rtcp_wire.specs.RtpHeads.{RtpValue}
+use Rattle.rtcp_wire.specs.Values.{RtcpPacket, RtpValue}
 use Rattle.rtcp_wire.specs.declared.fault.WireFault.{WireFault}
 use Rattle.rtcp_wire.specs.declared.rtp.fault.RtpFault.{RtpFault}
 use Rattle.std.specs.Option.{option_or}
@@ -12,18 +11,18 @@ use Rattle.rtcp_engine.specs.declared.arrival.Arrival.TheVariants.{Rtcp, Rtp}
 use Rattle.rtcp_engine.specs.declared.changes.IdentifierChange.{IdentifierChange}
 use Rattle.rtcp_engine.specs.declared.refusal.Refusal.{Refusal}
 use Rattle.rtcp_engine.specs.declared.refusal.Refusal.TheVariants.{OwnSsrc}
-use Rattle.rtcp_engine.specs.answers.Acts.{Act, Datagram, IsActOfEvent, IsReading, IsRtpReading, arrived, rtcp_arrived, rtcp_came, rtp_arrived, rtp_came}
+use Rattle.rtcp_engine.specs.answers.Acts.{Act, Datagram, IsActOfEvent, IsReading, IsRtpReading, arrived, rtcp_arrived, rtcp_came, rtp_arrived, rtp_came, AnswerValue}
 use Rattle.rtcp_engine.specs.answers.Changes.{NewIdentifier, Session, changing_peers, is_about, new_identifier, may_change}
 use Rattle.rtcp_engine.specs.answers.Histories.{History, session_at}
 use Rattle.rtcp_engine.specs.state.Promises.{Takes as Promised}
-use Rattle.rtcp_engine.specs.answers.Refusals.{fault_in, refusal_after, refusal_if, refusal_of_content}
+use Rattle.rtcp_engine.specs.answers.Refusals.{refusal_if}
 use Rattle.rtcp_engine.specs.answers.Setups.{Setup}
 use Rattle.rtcp_engine.specs.state.States.{ParticipantValue, StandsAt, refusal_by}
-use Rattle.rtcp_engine.specs.answers.Steps.{AnswerValue}
 use Rattle.rtcp_engine.specs.state.Views.{datagram_of}
 use Rattle.rtcp_engine.proofs.ActLemmas.{IsTaken, refuses}
 use Rattle.rtcp_engine.proofs.AnswerLemmas.{refusal_is}
 use Rattle.rtcp_engine.proofs.LawLemmas.{one_reading-computed, one_reading-once, one_reading-rtp_computed, one_reading-rtp_once}
+use Rattle.rtcp_engine.specs.answers.Answers.{fault_in, refusal_after, refusal_of_content}
 
 -- one that was read has no fault
 no_fault : (arrival : Arrival) → fault_in (datagram_of arrival) ≡ None

@@ -7,8 +7,7 @@ use Rattle.rtcp_members.proofs.LawLemmas as tables
 use Rattle.rtcp_report.specs.Reports.{Reporter, packets_with, items_of}
 use Rattle.rtcp_report.proofs.LawLemmas.{size_is_that_of_the_octets}
 use Rattle.rtcp_timer.specs.declared.load.Load.{Load}
-use Rattle.rtcp_timer.specs.Averages.{average_of}
-use Rattle.rtcp_timer.specs.Loads.{interval_of}
+use Rattle.rtcp_timer.specs.Loads.{interval_of, average_of}
 use Rattle.rtcp_timer.specs.Schedules.{Timing, transmitted, schedule_at}
 use Rattle.rtcp_engine.specs.answers.Setups.{Setup, IsUsable}
 use Rattle.rtcp_engine.specs.answers.OwnStreams.{OwnValue, own_of}

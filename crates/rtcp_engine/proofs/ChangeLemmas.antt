@@ -5,19 +5,19 @@ use Rattle.std.proofs.lemmas.List.Concat.{flat_map-append}
 use Rattle.rtcp_wire.specs.Writing.{written, written_all}
 use Rattle.rtcp_report.specs.Reports.{packets_with, receiver_named, bye_packet}
 use Rattle.rtcp_report.proofs.LawLemmas.{size_is_that_of_the_octets}
-use Rattle.rtcp_timer.specs.Averages.{average_of, moved_average}
+use Rattle.rtcp_timer.specs.Averages.{moved_average}
 use Rattle.rtcp_engine.specs.answers.Setups.{Setup}
 use Rattle.rtcp_engine.specs.answers.OwnStreams.{OwnStep, OwnValue, has_sent, counts_anew, own_of}
 use Rattle.rtcp_engine.specs.state.OwnValues.{own_anew}
 use Rattle.rtcp_engine.specs.answers.Outcomes.{Outcome}
-use Rattle.rtcp_engine.specs.answers.Arrivals.{with_change}
 use Rattle.rtcp_engine.specs.answers.Reporting.{bye_octets}
 use Rattle.rtcp_engine.specs.answers.Leaving.{ByeCompound, Backoff, Life, present, backing_off, finished, after_own_bye, counted_anew, leaving_average}
-use Rattle.rtcp_engine.specs.answers.Lives.{bye_if_sent, bye_out, own_bye, with_new_ssrc}
+use Rattle.rtcp_engine.specs.answers.Lives.{bye_if_sent, bye_out, own_bye, with_new_ssrc, with_change}
 use Rattle.rtcp_engine.specs.answers.Changes.{NewIdentifier, Session, changed_to, with_ssrc}
 use Rattle.rtcp_engine.specs.state.States.{State, Agrees, StandsStill, Waits, ParticipantValue, IsAt, IsIn, leaving, over, own_bye_in, after_change}
 use Rattle.rtcp_engine.proofs.Agreeing.{with_own}
 use Rattle.rtcp_engine.proofs.ChangeRest.{bye_keeps_count, bye_keeps_timing, with_bye}
+use Rattle.rtcp_timer.specs.Loads.{average_of}
 
 -- ---- Sizes
 

@@ -9,7 +9,7 @@ use Rattle.rtcp_engine.specs.answers.Leaving.{Life, present, backing_off, finish
 use Rattle.rtcp_engine.specs.answers.Lives.{out_by, own_bye}
 use Rattle.rtcp_engine.specs.answers.Changes.{NewIdentifier, Session, change_by, changed_by, changed_to, with_ssrc}
 use Rattle.rtcp_engine.specs.answers.Histories.{session_of, setup_after}
-use Rattle.rtcp_engine.specs.answers.Refusals.{refusal_of_content}
+use Rattle.rtcp_engine.specs.answers.Answers.{refusal_of_content}
 use Rattle.rtcp_engine.specs.bounds.OwnClock.{latest_settings}
 use Rattle.rtcp_engine.specs.state.Taken.{AllTaken}
 use Rattle.rtcp_engine.proofs.AnswerLemmas.{unrefused}

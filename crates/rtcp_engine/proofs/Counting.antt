@@ -2,7 +2,7 @@
 use Rattle.std.proofs.Common.{◌≡◌, ℕ, ◌&&◌, Bool, true, false, is_some, nat_le, List, [], ◌∷◌, ◌++◌, length, arith, Option, Some, None, option_map, Ok, if◌then◌else◌, refl, sym, ap, ◌∙◌}
 use Rattle.std.specs.Option.{option_or}
 use Rattle.rtcp_engine.specs.answers.Setups.{Setup}
-use Rattle.rtcp_engine.specs.answers.Acts.{rtcp, rtp, Act, arrived, ticked, left, moment_of}
+use Rattle.rtcp_engine.specs.answers.Acts.{rtcp, rtp, Act, arrived, ticked, left, moment_of, OutValue}
 use Rattle.rtcp_engine.specs.answers.OwnStreams.{has_sent}
 use Rattle.rtcp_engine.specs.answers.Outcomes.{Outcome, interval_at, member_count}
 use Rattle.rtcp_engine.specs.answers.Ticks.{checked, has_come, has_passed, reported, put_off}
@@ -11,7 +11,6 @@ use Rattle.rtcp_engine.specs.answers.Leaving.{Backoff, Life, present, backing_of
 use Rattle.rtcp_engine.specs.answers.Lives.{lived, bye_out, out_by, own_bye, report_out, with_new_ssrc}
 use Rattle.rtcp_engine.specs.answers.Changes.{NewIdentifier, Session, bye_of_change, change_by, changed_by, changed_to}
 use Rattle.rtcp_engine.specs.answers.Histories.{session_of}
-use Rattle.rtcp_engine.specs.answers.Steps.{OutValue}
 use Rattle.rtcp_engine.specs.bounds.Sent.{Sent, interval_by, reports_in, sent_with, sent_over, reports_of}
 use Rattle.rtcp_engine.proofs.Changing.{bye_alone, nothing_more}
 

@@ -6,20 +6,18 @@ use Rattle.std.proofs.lemmas.List.{append_assoc}
 use Rattle.std.specs.Option.{option_or}
 use Rattle.rtcp_engine.specs.declared.refusal.Refusal.{Refusal}
 use Rattle.rtcp_engine.specs.declared.refusal.Refusal.TheVariants.{Left}
-use Rattle.rtcp_engine.specs.answers.Acts.{Act, ticked, left, moment_of, arrived, rtcp, rtp}
-use Rattle.rtcp_engine.specs.answers.Answers.{answer_of, answers_to, followed_by, followed_by_all, step_by}
+use Rattle.rtcp_engine.specs.answers.Acts.{Act, ticked, left, moment_of, arrived, rtcp, rtp, AnswerValue, answer_unless}
+use Rattle.rtcp_engine.specs.answers.Answers.{answer_of, answers_to, followed_by, followed_by_all, step_by, refusal_after, refusal_in}
 use Rattle.rtcp_engine.specs.answers.Changes.{NewIdentifier, Session, bye_of_change, change_by, changed_by}
 use Rattle.rtcp_engine.specs.answers.Histories.{History, after_act, brought_by, life_at, session_at, with_act}
 use Rattle.rtcp_engine.specs.answers.Leaving.{Life, present, backing_off, finished}
 use Rattle.rtcp_engine.specs.answers.Lives.{bye_out, lived, out_by, report_out}
 use Rattle.rtcp_engine.specs.answers.Outcomes.{Outcome}
-use Rattle.rtcp_engine.specs.answers.Refusals.{refusal_after, refusal_in}
 use Rattle.rtcp_engine.specs.answers.Reporting.{bye_octets}
 use Rattle.rtcp_engine.specs.bounds.Runs.{AllAlong, AreRefusals, EndAtBye, HandsOver, IsAnsweredInTime, IsRefusalForgotten, handed_over, is_bye, says_bye, taken_since}
 use Rattle.rtcp_engine.specs.bounds.Sent.{Sent, deciding_interval, handed_out, sent_at}
 use Rattle.rtcp_engine.specs.answers.Setups.{Setup}
 use Rattle.rtcp_engine.specs.bounds.Spacing.{AreBounded, first_leave}
-use Rattle.rtcp_engine.specs.answers.Steps.{AnswerValue, answer_unless}
 use Rattle.rtcp_engine.specs.state.Taken.{IsHistory}
 use Rattle.rtcp_engine.proofs.Waiting.{answered_in_time, one_less}
 use Rattle.rtcp_engine.proofs.LawLemmas.{answers_hand_out_compounds, sent_compounds_keep_apart}

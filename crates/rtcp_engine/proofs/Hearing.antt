@@ -4,8 +4,7 @@ use Rattle.std.proofs.lemmas.List.Elements.{All-nil, All-cons, All-head, All-tai
 use Rattle.rtcp_wire.specs.declared.fact.Fact.{Fact}
 use Rattle.rtcp_wire.specs.declared.fact.Fact.TheVariants.{Heard, Named}
 use Rattle.rtcp_wire.specs.Facts.{subject, is_gone, facts_of}
-use Rattle.rtcp_wire.specs.RtpHeads.{RtpValue}
-use Rattle.rtcp_wire.specs.Values.{RtcpPacket}
+use Rattle.rtcp_wire.specs.Values.{RtcpPacket, RtpValue}
 use Rattle.rtcp_members.specs.Entries.{counted_at, entry_at, is_member, is_such}
 use Rattle.rtcp_members.specs.Lasting.{MayBring}
 use Rattle.rtcp_members.specs.Traces.{TraceStep, block_made_of, check_made, source_forgotten, with_blocks}

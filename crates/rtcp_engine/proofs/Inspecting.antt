@@ -3,8 +3,7 @@ use Rattle.std.proofs.Common.{◌≡◌, ◌==◌, true, false, arith, ◌&&◌,
 use Rattle.std.proofs.lemmas.Bool.{eqb-true}
 use Rattle.std.proofs.lemmas.Bool.Decides.{nat_tests}
 use Rattle.std.specs.Option.{option_or}
-use Rattle.rtcp_wire.specs.Values.{RtcpPacket}
-use Rattle.rtcp_wire.specs.RtpHeads.{RtpValue}
+use Rattle.rtcp_wire.specs.Values.{RtcpPacket, RtpValue}
 use Rattle.rtcp_wire.specs.declared.fault.WireFault.{WireFault}
 use Rattle.rtcp_wire.specs.declared.rtp.fault.RtpFault.{RtpFault}
 use Rattle.rtcp_wire.specs.Readings.{rtcp_in}
@@ -12,10 +11,10 @@ use Rattle.rtcp_wire.specs.RtpReadings.{rtp_in}
 use Rattle.rtcp_engine.specs.declared.refusal.Refusal.{Refusal}
 use Rattle.rtcp_engine.specs.declared.refusal.Refusal.TheVariants.{OwnSsrc}
 use Rattle.rtcp_engine.specs.answers.Acts.{Act, Datagram, EventValue, IsActOfEvent, IsReading, IsRtpReading, arrived, moment_of, rtcp_arrived, rtcp_came, rtp_arrived, rtp_came}
-use Rattle.rtcp_engine.specs.answers.Answers.{taken_under}
+use Rattle.rtcp_engine.specs.answers.Answers.{taken_under, fault_in, refusal_after, refusal_of_content}
 use Rattle.rtcp_engine.specs.answers.Changes.{NewIdentifier, changed_by, changing_peers, is_about, may_change}
 use Rattle.rtcp_engine.specs.answers.Histories.{History, session_at, session_for}
-use Rattle.rtcp_engine.specs.answers.Refusals.{fault_in, refusal_after, refusal_if, refusal_of_content}
+use Rattle.rtcp_engine.specs.answers.Refusals.{refusal_if}
 use Rattle.rtcp_engine.specs.state.Promises.{Foretells}
 use Rattle.rtcp_engine.specs.state.States.{ParticipantValue, StandsAt, refusal_by}
 use Rattle.rtcp_engine.proofs.ActLemmas.{IsTaken}

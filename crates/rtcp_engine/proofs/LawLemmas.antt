@@ -10,14 +10,13 @@ use Rattle.rtcp_members.specs.Pending.{EntryRow, last_reported}
 use Rattle.rtcp_members.specs.Listings.{StateValue}
 use Rattle.rtcp_wire.specs.declared.fault.WireFault.{WireFault}
 use Rattle.rtcp_wire.specs.declared.rtp.fault.RtpFault.{RtpFault}
-use Rattle.rtcp_wire.specs.Values.{RtcpPacket}
-use Rattle.rtcp_wire.specs.RtpHeads.{RtpValue}
+use Rattle.rtcp_wire.specs.Values.{RtcpPacket, RtpValue}
 use Rattle.rtcp_wire.specs.Readings.{rtcp_in}
 use Rattle.rtcp_wire.specs.RtpReadings.{rtp_in}
 use Rattle.rtcp_engine.specs.declared.refusal.Refusal.{Refusal}
 use Rattle.rtcp_engine.specs.answers.Setups.{Setup, SettingsValue, IsUsable, settings_of, with_settings}
 use Rattle.rtcp_engine.specs.answers.Refused.{error_in}
-use Rattle.rtcp_engine.specs.answers.Acts.{Act, configured, moment_of, IsReading, IsRtpReading, IsTotal, IsUnique}
+use Rattle.rtcp_engine.specs.answers.Acts.{Act, configured, moment_of, IsReading, IsRtpReading, IsTotal, IsUnique, OutValue, answer_unless}
 use Rattle.rtcp_engine.specs.answers.Leaving.{Life, present}
 use Rattle.rtcp_engine.specs.answers.Lives.{ListsInLife, lived, out_by, own_bye, with_pace_in, next_in_life}
 use Rattle.rtcp_engine.specs.answers.Changes.{NewIdentifier, Session, bye_of_change, change_by, changed_by}
@@ -27,9 +26,7 @@ use Rattle.rtcp_engine.specs.bounds.OwnSending.{OutlastsChecks, IsSendingSince}
 use Rattle.rtcp_engine.specs.answers.Outcomes.{Outcome}
 use Rattle.rtcp_engine.specs.answers.Reporting.{last_reported_in, reporter_at}
 use Rattle.rtcp_engine.specs.answers.Histories.{History, brought_by, last_moment, life_at, session_at, setup_at, with_act}
-use Rattle.rtcp_engine.specs.answers.Refusals.{refusal_after}
-use Rattle.rtcp_engine.specs.answers.Steps.{OutValue, answer_unless}
-use Rattle.rtcp_engine.specs.answers.Answers.{step_by, answer_of, followed_by}
+use Rattle.rtcp_engine.specs.answers.Answers.{step_by, answer_of, followed_by, refusal_after}
 use Rattle.rtcp_engine.specs.state.Taken.{IsHistory}
 use Rattle.rtcp_engine.specs.bounds.Sent.{reports_in, deciding_interval, sent_at, sent_with, handed_out, reports_of}
 use Rattle.rtcp_engine.proofs.Changing.{bye_alone, latest_of}

@@ -7,7 +7,7 @@ use Rattle.rtcp_engine.specs.declared.refusal.Refusal.{Refusal}
 use Rattle.rtcp_engine.specs.answers.Setups.{Setup}
 use Rattle.rtcp_engine.specs.answers.Outcomes.{Outcome, member_count}
 use Rattle.rtcp_engine.specs.answers.Reporting.{bye_octets}
-use Rattle.rtcp_engine.specs.answers.Refusals.{call_refusal}
+use Rattle.rtcp_engine.specs.answers.Answers.{call_refusal}
 use Rattle.rtcp_engine.specs.answers.Leaving.{with_byes_of, ByeCompound, Backoff, Life, after_waiting_tick, is_bye_due, sent_nothing, few_members, backoff_from, bye_at_once, backing_off, finished, left_at, after_wait, leaving_count, leaving_timing}
 use Rattle.rtcp_engine.specs.answers.Lives.{bye_out}
 use Rattle.rtcp_engine.specs.answers.Ticks.{after_check, has_come, has_passed, put_off, reported}

@@ -14,18 +14,18 @@ use Rattle.rtcp_members.proofs.LawLemmas.{present_were_named_and_fit-named, pres
 use Rattle.rtcp_engine.specs.declared.changes.IdentifierChange.{IdentifierChange}
 use Rattle.rtcp_engine.specs.declared.refusal.Refusal.TheVariants.{OwnSsrc}
 use Rattle.rtcp_engine.specs.answers.Setups.{Setup}
-use Rattle.rtcp_engine.specs.answers.Acts.{Datagram, Act, arrived, moment_of}
+use Rattle.rtcp_engine.specs.answers.Acts.{Datagram, Act, arrived, moment_of, OutValue}
 use Rattle.rtcp_engine.specs.answers.Identities.{AreApart}
 use Rattle.rtcp_engine.specs.answers.Leaving.{Life, present, backing_off, finished}
 use Rattle.rtcp_engine.specs.answers.Changes.{NewIdentifier, Session, change_by, changed_by, changing_peers, identifiers, is_about, is_in_table, is_taken, most_taken, named_by, new_identifier, first_free, is_among, may_change, most_changes}
 use Rattle.rtcp_engine.specs.answers.Histories.{History, brought_by, session_at, session_for, session_of}
-use Rattle.rtcp_engine.specs.answers.Refusals.{fault_in, refusal_if, refusal_of_content}
+use Rattle.rtcp_engine.specs.answers.Refusals.{refusal_if}
 use Rattle.rtcp_engine.specs.state.Taken.{AllTaken, IsHistory}
-use Rattle.rtcp_engine.specs.answers.Steps.{OutValue}
 use Rattle.rtcp_engine.specs.bounds.Sent.{Sent, deciding_interval, is_report, sent_over, sent_with}
 use Rattle.rtcp_engine.specs.bounds.Spacing.{is_change_bye}
 use Rattle.rtcp_engine.proofs.AnswerLemmas.{neither, unrefused}
 use Rattle.rtcp_engine.proofs.Changing.{usable_in}
+use Rattle.rtcp_engine.specs.answers.Answers.{fault_in, refusal_of_content}
 
 -- ---- Few changes
 

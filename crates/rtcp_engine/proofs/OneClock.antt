@@ -4,7 +4,7 @@ use Rattle.std.proofs.lemmas.List.Elements.{All-head, All-tail}
 use Rattle.rtcp_wire.specs.declared.fact.Fact.{Fact}
 use Rattle.rtcp_wire.specs.declared.fact.Fact.TheVariants.{Heard, Media}
 use Rattle.rtcp_wire.specs.Facts.{facts_of, is_media}
-use Rattle.rtcp_wire.specs.RtpHeads.{RtpValue}
+use Rattle.rtcp_wire.specs.Values.{RtpValue}
 use Rattle.rtcp_wire.proofs.LawLemmas.{compounds_give_no_media}
 use Rattle.rtcp_members.specs.Clocks.{HasOneClock, HasRate}
 use Rattle.rtcp_members.specs.Entries.{counted_at}

@@ -5,11 +5,10 @@ use Rattle.std.proofs.Math.ListN.{get_or}
 use Rattle.std.proofs.lemmas.List.{length-map, take_more}
 use Rattle.rtcp_engine.specs.declared.event.Event.{Event}
 use Rattle.rtcp_engine.specs.declared.event.Event.TheVariants.{ArriveRtcp, ArriveRtp, SentRtp, Tick, Leave, Configure, Forget}
-use Rattle.rtcp_engine.specs.answers.Acts.{Act, act_of, ticked}
+use Rattle.rtcp_engine.specs.answers.Acts.{Act, act_of, ticked, AnswerValue, act_told}
 use Rattle.rtcp_engine.specs.answers.Histories.{History}
-use Rattle.rtcp_engine.specs.answers.Steps.{AnswerValue}
 use Rattle.rtcp_engine.specs.answers.Answers.{answer_of, answers_to, followed_by, followed_by_all}
-use Rattle.rtcp_engine.specs.state.Views.{act_told, event_value}
+use Rattle.rtcp_engine.specs.state.Views.{event_value}
 
 pub answers_more : (h : History) (acts : List Act) (act : Act) →
     answers_to h (acts ++ act ∷ []) ≡ answers_to h acts ++ answer_of (followed_by_all h acts) act ∷ []

@@ -19,7 +19,7 @@ use Rattle.rtcp_engine.specs.answers.Leaving.{Life, backing_off}
 use Rattle.rtcp_engine.specs.answers.Leaving.{present}
 use Rattle.rtcp_engine.specs.answers.Lives.{ListsInLife, WalksInLife, lived, with_new_ssrc}
 use Rattle.rtcp_engine.specs.answers.Outcomes.{Outcome}
-use Rattle.rtcp_engine.specs.answers.Refusals.{refusal_after}
+use Rattle.rtcp_engine.specs.answers.Answers.{refusal_after}
 use Rattle.rtcp_engine.specs.answers.Reporting.{reported_at}
 use Rattle.rtcp_engine.specs.answers.Setups.{Setup}
 use Rattle.rtcp_engine.specs.state.Taken.{AllTaken, IsHistory}

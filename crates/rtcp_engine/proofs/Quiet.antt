@@ -9,7 +9,7 @@ use Rattle.rtcp_timer.proofs.LawLemmas.{interval_has_minimum}
 use Rattle.rtcp_engine.specs.declared.pace.Pace.{Pace}
 use Rattle.rtcp_engine.specs.answers.Outcomes.{Outcome, check_interval, check_load, newest_pace, receiver_load, slowed_by}
 use Rattle.rtcp_engine.specs.answers.Ticks.{horizons_of, with_check, without_silent}
-use Rattle.rtcp_engine.specs.state.States.{Agrees, Does, IsQuiet, KeepsCapacity, MovesOthers, State}
+use Rattle.rtcp_engine.specs.state.States.{Agrees, Does, IsQuiet, MovesOthers, State, KeepsCapacity}
 use Rattle.rtcp_engine.proofs.RolesChanged.{check_since}
 use Rattle.rtcp_engine.proofs.StepLemmas.{checks_agree}
 

@@ -2,16 +2,15 @@
 use Rattle.std.proofs.Common.{◌≡◌, ◌≤◌, ℕ, suc, ◌+◌, ◌-◌, ◌==◌, ◌||◌, not, Bool, true, false, List, [], ◌∷◌, length, arith, refl, sym, ap, ◌∙◌}
 use Rattle.rtcp_wire.specs.declared.fact.Fact.{Fact}
 use Rattle.rtcp_wire.specs.Facts.{facts_of}
-use Rattle.rtcp_wire.specs.RtpHeads.{RtpValue}
-use Rattle.rtcp_wire.specs.Values.{RtcpPacket}
+use Rattle.rtcp_wire.specs.Values.{RtcpPacket, RtpValue}
 use Rattle.rtcp_members.specs.Entries.{counted_at, moved_within, step_moves}
 use Rattle.rtcp_members.specs.Roles.{check_moves, facts_move, forgetting_moves}
 use Rattle.rtcp_members.specs.Tables.{counted, members_in}
 use Rattle.rtcp_members.specs.Traces.{Horizons, TraceStep, block_made_of, check_made, fact_came, with_facts, source_forgotten, with_blocks}
 use Rattle.rtcp_members.proofs.LawLemmas as tables
-use Rattle.rtcp_engine.specs.answers.Arrivals.{facts_of_media, media_fact, rate_of, with_facts_of, with_media}
+use Rattle.rtcp_engine.specs.answers.Arrivals.{facts_of_media, media_fact, rate_of, with_facts_of}
 use Rattle.rtcp_engine.specs.answers.Leaving.{Life, left_at}
-use Rattle.rtcp_engine.specs.answers.Lives.{has_others, moved_since, others_moved_into}
+use Rattle.rtcp_engine.specs.answers.Lives.{has_others, moved_since, others_moved_into, with_media}
 use Rattle.rtcp_engine.specs.answers.Outcomes.{Outcome, check_interval}
 use Rattle.rtcp_engine.specs.answers.Reporting.{reported_at}
 use Rattle.rtcp_engine.specs.answers.Setups.{Setup}

@@ -20,15 +20,14 @@ use Rattle.rtcp_wire.specs.Writing.{written_all}
 use Rattle.rtcp_engine.specs.declared.refusal.Refusal.{Refusal}
 use Rattle.rtcp_engine.specs.declared.refusal.Refusal.TheVariants.{Backwards}
 use Rattle.rtcp_engine.specs.answers.Setups.{Setup, IsExtraItem, IsUsable}
-use Rattle.rtcp_engine.specs.answers.Acts.{rtcp, rtp, Act, arrived, rtp_sent, ticked, left, configured, moment_of, forgotten}
+use Rattle.rtcp_engine.specs.answers.Acts.{rtcp, rtp, Act, arrived, rtp_sent, ticked, left, configured, moment_of, forgotten, OutValue}
 use Rattle.rtcp_engine.specs.answers.Outcomes.{Outcome, interval_at, load_of, member_count}
 use Rattle.rtcp_engine.specs.answers.Ticks.{checked, has_come, has_passed, reported, put_off}
 use Rattle.rtcp_engine.specs.answers.OwnStreams.{has_sent, own_of, sent_of}
 use Rattle.rtcp_engine.specs.answers.Reporting.{bye_octets, report_octets, extra_item, reporter_at, last_reported_in}
 use Rattle.rtcp_engine.specs.answers.Changes.{NewIdentifier, Session, bye_of_change, change_by, changed_by, changed_to}
 use Rattle.rtcp_engine.specs.answers.Histories.{History, last_moment, session_of}
-use Rattle.rtcp_engine.specs.answers.Refusals.{refusal_after}
-use Rattle.rtcp_engine.specs.answers.Steps.{OutValue}
+use Rattle.rtcp_engine.specs.answers.Answers.{refusal_after}
 use Rattle.rtcp_engine.specs.state.Taken.{HasWords, AllTaken}
 use Rattle.rtcp_engine.specs.answers.Leaving.{Backoff, Life, present, backing_off, finished, backoff_from, bye_count, few_members, is_bye_due, sent_nothing, after_wait, leaving_count, leaving_interval, leaving_load, leaving_timing}
 use Rattle.rtcp_engine.specs.answers.Lives.{while_present, while_backing_off, lived, bye_out, out_by, own_bye, report_out, with_new_ssrc}

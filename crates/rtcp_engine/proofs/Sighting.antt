@@ -7,12 +7,12 @@ use Rattle.rtcp_members.specs.Entries.{counted_at}
 use Rattle.rtcp_members.specs.Stays.{last_naming}
 use Rattle.rtcp_members.specs.Traces.{TraceStep, block_made_of, fact_came, is_naming, with_facts, with_blocks}
 use Rattle.rtcp_engine.specs.answers.Acts.{Act, Datagram, arrived, configured, left, moment_of, rtcp, rtp, rtp_sent, ticked, forgotten}
-use Rattle.rtcp_engine.specs.answers.Arrivals.{facts_of_csrcs, facts_of_media, media_fact, rate_of, with_datagram}
+use Rattle.rtcp_engine.specs.answers.Arrivals.{facts_of_csrcs, facts_of_media, media_fact, rate_of}
 use Rattle.rtcp_engine.specs.answers.Changes.{NewIdentifier, Session, change_by, changed_by}
 use Rattle.rtcp_engine.specs.bounds.Hearing.{names_source, with_acts, IsHeardAtTicks, IsNamedAtTicks}
 use Rattle.rtcp_engine.specs.answers.Histories.{History, last_moment, life_at, session_of}
 use Rattle.rtcp_engine.specs.answers.Leaving.{Life, backing_off, finished, present}
-use Rattle.rtcp_engine.specs.answers.Lives.{lived, with_new_ssrc}
+use Rattle.rtcp_engine.specs.answers.Lives.{lived, with_new_ssrc, with_datagram}
 use Rattle.rtcp_engine.specs.answers.Outcomes.{Outcome}
 use Rattle.rtcp_engine.specs.answers.Reporting.{reported_at}
 use Rattle.rtcp_engine.specs.answers.Setups.{Setup}

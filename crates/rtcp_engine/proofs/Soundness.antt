@@ -5,7 +5,7 @@ use Rattle.std.proofs.lemmas.List.Elements.{All-nil, All-cons}
 use Rattle.rtcp_wire.specs.declared.fact.Fact.{Fact}
 use Rattle.rtcp_wire.specs.declared.fact.Fact.TheVariants.{Heard}
 use Rattle.rtcp_wire.specs.Facts.{is_media}
-use Rattle.rtcp_wire.specs.RtpHeads.{RtpValue}
+use Rattle.rtcp_wire.specs.Values.{RtpValue}
 use Rattle.rtcp_members.specs.Traces.{Horizons}
 use Rattle.rtcp_members.specs.Tables.{TableValue, KeepsBounds, HasFew, counted, after_fact, after_facts, after_check, after_forgetting}
 use Rattle.rtcp_members.specs.Pending.{EntryRow, after_blocks}

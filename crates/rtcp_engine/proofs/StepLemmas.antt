@@ -3,8 +3,7 @@ use Rattle.std.proofs.Common.{◌≡◌, ℕ, ◌+◌, ◌-◌, ◌*◌, ◌<◌
 use Rattle.std.proofs.lemmas.Bool.{cases_lt, le-leb, lt-leb}
 use Rattle.rtcp_clock.specs.Intervals.{drawn_interval}
 use Rattle.rtcp_wire.specs.Facts.{facts_of}
-use Rattle.rtcp_wire.specs.RtpHeads.{RtpValue}
-use Rattle.rtcp_wire.specs.Values.{RtcpPacket}
+use Rattle.rtcp_wire.specs.Values.{RtcpPacket, RtpValue}
 use Rattle.rtcp_members.specs.Traces.{Horizons}
 use Rattle.rtcp_members.specs.Tables.{TableValue, after_check, after_facts, counted, after_forgetting}
 use Rattle.rtcp_members.specs.Pending.{after_blocks, last_reported}
@@ -13,14 +12,14 @@ use Rattle.rtcp_timer.specs.Averages.{moved_average}
 use Rattle.rtcp_timer.specs.Schedules.{Happening, Timing, after, tried, transmitted}
 use Rattle.rtcp_engine.specs.answers.Setups.{Setup}
 use Rattle.rtcp_engine.specs.answers.OwnStreams.{OwnValue, Adds, packet_sent, check_passed, report_sent}
-use Rattle.rtcp_engine.specs.answers.Lives.{report_out}
+use Rattle.rtcp_engine.specs.answers.Lives.{report_out, with_media}
 use Rattle.rtcp_engine.specs.answers.Outcomes.{Outcome, member_count, timing_of, interval_at, check_interval}
 use Rattle.rtcp_engine.specs.answers.Reporting.{report_octets}
 use Rattle.rtcp_engine.specs.answers.Leaving.{Backoff, after_wait, backoff_from, is_bye_due, leaving_average, leaving_count, leaving_interval, leaving_load, leaving_timing, with_byes_of}
-use Rattle.rtcp_engine.specs.answers.Arrivals.{facts_of_media, media_fact, rate_of, with_facts_of, with_media, with_packet}
-use Rattle.rtcp_engine.specs.answers.Steps.{OutValue}
+use Rattle.rtcp_engine.specs.answers.Arrivals.{facts_of_media, media_fact, rate_of, with_facts_of, with_packet}
+use Rattle.rtcp_engine.specs.answers.Acts.{OutValue}
 use Rattle.rtcp_engine.specs.answers.Ticks.{horizons_of, with_check, without_silent, has_come, has_passed, is_report_due, put_off, tried_at, report_due, with_report, reported, after_check as after_check_at, with_forgotten}
-use Rattle.rtcp_engine.specs.state.States.{State, Agrees, Does, DoesWaiting, KeepsCapacity, Stays, Waits}
+use Rattle.rtcp_engine.specs.state.States.{State, Agrees, Does, DoesWaiting, Stays, Waits, KeepsCapacity}
 use Rattle.rtcp_engine.proofs.Agreeing.{load, facts_agree, media_agree, sizes_agree, with_own, rows_in, octets_in, octets_agree, sent_reports_agree, forgotten_agree, table_agrees}
 
 -- ---- Steps one after the other

@@ -5,7 +5,7 @@ use Rattle.rtcp_clock.specs.Intervals.{drawn_interval, longest_draw}
 use Rattle.rtcp_clock.proofs.LawLemmas.{draw_within_bounds, longest_never_falls}
 use Rattle.rtcp_wire.specs.declared.fact.Fact.{Fact}
 use Rattle.rtcp_wire.specs.declared.fact.Fact.TheVariants.{Heard}
-use Rattle.rtcp_wire.specs.RtpHeads.{RtpValue}
+use Rattle.rtcp_wire.specs.Values.{RtpValue}
 use Rattle.rtcp_members.specs.Traces.{TraceStep, fact_came, with_facts}
 use Rattle.rtcp_members.specs.Entries.{counted_at, members_at}
 use Rattle.rtcp_members.proofs.LawLemmas.{facts_keep_members}
@@ -14,22 +14,20 @@ use Rattle.rtcp_timer.specs.Schedules.{Happening, Timing, IsDue, IsInOrder, newe
 use Rattle.rtcp_timer.specs.Departures.{members_known, last_departure}
 use Rattle.rtcp_timer.proofs.LawLemmas.{due_in_time}
 use Rattle.rtcp_engine.specs.answers.Setups.{Setup, IsUsable}
-use Rattle.rtcp_engine.specs.answers.Acts.{rtcp, rtp, Act, arrived, rtp_sent, ticked, left, configured, moment_of, forgotten}
+use Rattle.rtcp_engine.specs.answers.Acts.{rtcp, rtp, Act, arrived, rtp_sent, ticked, left, configured, moment_of, forgotten, answer_unless}
 use Rattle.rtcp_engine.specs.answers.OwnStreams.{has_sent}
 use Rattle.rtcp_engine.specs.answers.Outcomes.{Outcome, interval_at, member_count, nothing_yet, with_pace}
 use Rattle.rtcp_engine.specs.answers.Ticks.{checked, has_come, has_passed, is_report_due, put_off, reported, with_recount, with_report}
-use Rattle.rtcp_engine.specs.answers.Arrivals.{media_fact, rate_of, with_media}
+use Rattle.rtcp_engine.specs.answers.Arrivals.{media_fact, rate_of}
 use Rattle.rtcp_engine.specs.answers.Changes.{NewIdentifier, Session, change_by, changed_by, with_ssrc}
 use Rattle.rtcp_engine.specs.declared.refusal.Refusal.{Refusal}
-use Rattle.rtcp_engine.specs.answers.Answers.{answer_of, followed_by, step_by}
+use Rattle.rtcp_engine.specs.answers.Answers.{answer_of, followed_by, step_by, refusal_after}
 use Rattle.rtcp_engine.specs.answers.Histories.{History, last_moment, life_at, session_of, setup_after, setup_at, with_act}
-use Rattle.rtcp_engine.specs.answers.Refusals.{refusal_after}
 use Rattle.rtcp_engine.specs.bounds.Runs.{HasCompound, IsAnsweredInTime}
-use Rattle.rtcp_engine.specs.answers.Steps.{answer_unless}
 use Rattle.rtcp_engine.specs.answers.Reporting.{bye_octets, report_octets}
 use Rattle.rtcp_engine.specs.state.Taken.{HasWords, AllTaken, IsHistory}
 use Rattle.rtcp_engine.specs.answers.Leaving.{Backoff, Life, present, backing_off, finished, after_waiting_tick, left_at, bye_count, is_bye_due, leaving_interval, leaving_load, leaving_timing}
-use Rattle.rtcp_engine.specs.answers.Lives.{lived, bye_out, out_by, report_out, with_new_ssrc}
+use Rattle.rtcp_engine.specs.answers.Lives.{lived, bye_out, out_by, report_out, with_new_ssrc, with_media}
 use Rattle.rtcp_engine.specs.bounds.Sent.{Sent, interval_by, reports_in, sent_at}
 use Rattle.rtcp_engine.specs.bounds.Spacing.{first_leave, newest_moment}
 use Rattle.rtcp_engine.specs.bounds.InTime.{AllInTime, HasWaited, IsInTime, greatest_by, greatest_interval, is_fall, last_fall}

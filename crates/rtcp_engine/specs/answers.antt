@@ -7,7 +7,6 @@ pub mod Outcomes
 pub mod Reporting
 pub mod Ticks
 pub mod Arrivals
-pub mod Steps
 pub mod Leaving
 pub mod Lives
 pub mod OwnCounts

@@ -3,7 +3,7 @@
 ghost use Rattle.std.specs.Prelude.{◌≡◌, map};
 ghost use Rattle.std.specs.List.{list_all};
 ghost use Rattle.rtcp_engine.specs.answers.Setups.{is_clock, rate_among as rate_among_clocks};
-ghost use Rattle.rtcp_engine.specs.state.Views.{clock_value};
+ghost use Rattle.rtcp_engine.specs.answers.Acts.{clock_value};
 
 use crate::config::is_within;
 

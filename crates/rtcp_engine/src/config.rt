@@ -1,7 +1,7 @@
 //! How a participant is configured.
 
 ghost use Rattle.std.specs.Prelude.{◌≡◌, ◌≤◌, ◌-◌, ◌/◌, ◌^◌, ℕ, List, map, Option, Some, None};
-ghost use Rattle.rtcp_report.specs.Views.{item_value};
+ghost use Rattle.rtcp_report.specs.Reports.{item_value};
 ghost use Rattle.rtcp_engine.specs.answers.Setups.{is_within as within, is_extra_item, is_bandwidth as is_bandwidth_for, are_extras as extras_are};
 ghost use Rattle.rtcp_engine.specs.answers.Refused.{error_in, is_limit as is_limit_for};
 ghost use Rattle.rtcp_engine.specs.answers.Arrivals.{rate_of};

@@ -1,8 +1,9 @@
 //! The extra items of reports (RFC 3550, 6.5).
 
 ghost use Rattle.std.specs.Prelude.{◌≡◌, ◌<◌, map};
-ghost use Rattle.rtcp_report.specs.Views.{item_value, extra_of};
+ghost use Rattle.rtcp_report.specs.Views.{extra_of};
 ghost use Rattle.rtcp_engine.specs.answers.Reporting.{extra_item as item_of};
+ghost use Rattle.rtcp_report.specs.Reports.{item_value};
 
 use rtcp_report::Item;
 

@@ -4,15 +4,15 @@ ghost use Rattle.std.specs.Prelude.{option_map, ◌≡◌, ◌↔◌, ◌<◌, �
 ghost use Rattle.rtcp_members.specs.Tables.{no_members};
 ghost use Rattle.rtcp_members.specs.ListViews.{state_value};
 ghost use Rattle.rtcp_engine.specs.declared.config.ConfigError.{ConfigError as Error};
-ghost use Rattle.rtcp_engine.specs.answers.Acts.{forget_asked, leave_asked, packet_sent, rtcp_arrived, rtp_arrived, settings_given, time_passed};
+ghost use Rattle.rtcp_engine.specs.answers.Acts.{forget_asked, leave_asked, packet_sent, rtcp_arrived, rtp_arrived, settings_given, time_passed, settings_value};
 ghost use Rattle.rtcp_engine.specs.answers.Histories.{History, life_at, setup_at};
 ghost use Rattle.rtcp_engine.specs.answers.Lives.{members_in_life, senders_in_life, entries_in_life, ListsInLife, WalksInLife, next_in_life, silent_in_life};
 ghost use Rattle.rtcp_engine.specs.answers.OwnCounts.{own_counts_in_life};
 ghost use Rattle.rtcp_engine.specs.answers.Refused.{error_in};
-ghost use Rattle.rtcp_engine.specs.state.States.{KeepsCapacity, StandsAt};
+ghost use Rattle.rtcp_engine.specs.state.States.{StandsAt, KeepsCapacity};
 ghost use Rattle.rtcp_engine.specs.state.Promises.{Answers};
 ghost use Rattle.rtcp_engine.specs.state.Taken.{begun};
-ghost use Rattle.rtcp_engine.specs.state.Views.{setup_of, settings_value};
+ghost use Rattle.rtcp_engine.specs.state.Views.{setup_of};
 
 use crate::changes::IdentifierChanges;
 use crate::config::{Config, ConfigError};
@@ -57,7 +57,7 @@ pub struct Participant<T: MemberTable> {
 }
 
 impl<T: MemberTable> Model for Participant<T> {
-    ghost use Rattle.rtcp_engine.specs.state.States.{ParticipantValue, KeepsCapacity, IsCounted};
+    ghost use Rattle.rtcp_engine.specs.state.States.{ParticipantValue, IsCounted, KeepsCapacity};
     ghost use Rattle.rtcp_engine.specs.state.Views.{phase_value};
     ghost use Rattle.rtcp_engine.specs.state.Codes.{participant_code};
 

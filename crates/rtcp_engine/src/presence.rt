@@ -10,8 +10,8 @@ ghost use Rattle.rtcp_engine.specs.answers.Refused.{error_in};
 ghost use Rattle.rtcp_engine.specs.state.Views.{setup_of};
 ghost use Rattle.rtcp_engine.specs.answers.Outcomes.{Outcome, one_if, member_count as member_count_of, sender_count as sender_count_of, load_of, interval_at};
 ghost use Rattle.rtcp_engine.specs.state.Taken.{begun};
-ghost use Rattle.rtcp_engine.specs.state.States.{Agrees, HasOthers, KeepsCapacity, StandsAt, newcomer};
-ghost use Rattle.rtcp_engine.specs.answers.Refusals.{call_refusal};
+ghost use Rattle.rtcp_engine.specs.state.States.{Agrees, HasOthers, StandsAt, newcomer, KeepsCapacity};
+ghost use Rattle.rtcp_engine.specs.answers.Answers.{call_refusal};
 ghost use Rattle.rtcp_engine.specs.answers.Untimely.{refusal_of_moment};
 
 use crate::config::Config;

@@ -4,9 +4,9 @@ ghost use Rattle.std.specs.Prelude.{◌≡◌, ◌≤◌, ◌<◌, ◌+◌, ◌-
 ghost use Rattle.rtcp_engine.specs.answers.Outcomes.{one_if};
 ghost use Rattle.rtcp_engine.specs.answers.Histories.{History};
 ghost use Rattle.rtcp_engine.specs.answers.Answers.{answers_to, followed_by_all};
-ghost use Rattle.rtcp_engine.specs.state.Views.{act_told};
+ghost use Rattle.rtcp_engine.specs.answers.Acts.{act_told};
 ghost use Rattle.rtcp_engine.specs.bounds.Runs.{HandsOver, taken_since};
-ghost use Rattle.rtcp_engine.specs.state.States.{KeepsCapacity, StandsAt};
+ghost use Rattle.rtcp_engine.specs.state.States.{StandsAt, KeepsCapacity};
 
 use crate::event::Event;
 use crate::participant::Participant;

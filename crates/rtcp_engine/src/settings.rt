@@ -1,9 +1,9 @@
 //! What a host may change of a configuration in a running session.
 
 ghost use Rattle.std.specs.Prelude.{◌≡◌, map, take};
-ghost use Rattle.rtcp_report.specs.Views.{item_value};
+ghost use Rattle.rtcp_report.specs.Reports.{item_value};
 ghost use Rattle.rtcp_engine.specs.answers.Setups.{settings_error};
-ghost use Rattle.rtcp_engine.specs.state.Views.{settings_value};
+ghost use Rattle.rtcp_engine.specs.answers.Acts.{settings_value};
 
 use crate::clock::{Clock, are_clocks};
 use crate::config::{ConfigError, are_extras, is_bandwidth, is_rate};

@@ -1,7 +1,7 @@
 //! Where the answers of a run go.
 
 ghost use Rattle.std.specs.Prelude.{◌≡◌, ◌<◌, ◌+◌, ◌-◌, ◌^◌, ◌++◌, ℕ, List, [], ◌∷◌, OnOk, OnErr};
-ghost use Rattle.rtcp_engine.specs.answers.Steps.{AnswerValue};
+ghost use Rattle.rtcp_engine.specs.answers.Acts.{AnswerValue};
 ghost use Rattle.rtcp_engine.specs.state.Views.{answer_value};
 
 use crate::step::Answer;

@@ -5,8 +5,7 @@ use Rattle.rtcp_wire.specs.declared.fact.Fact.{Fact}
 use Rattle.rtcp_wire.specs.Facts.{subject, is_gone, facts_of}
 use Rattle.rtcp_guard.specs.declared.naming.Gathered.{Gathered}
 use Rattle.rtcp_guard.specs.declared.naming.Gathered.TheVariants.{Whole, Part}
-use Rattle.rtcp_wire.specs.Values.{RtcpPacket}
-use Rattle.rtcp_wire.specs.RtpHeads.{RtpValue}
+use Rattle.rtcp_wire.specs.Values.{RtcpPacket, RtpValue}
 
 abbrev pub but : (own : ℕ) → List ℕ → List ℕ
 but own names = filter (λ name. not (name == own)) names

@@ -1,7 +1,6 @@
 -- The calls of a guarded participant, by what its guard and its participant promise.
 use Rattle.std.proofs.Common.{◌≡◌, ℕ, List, length, Option, Some, None, Result, Ok, Err, refl, sym, ap, ◌∙◌, subst, arith}
-use Rattle.rtcp_wire.specs.Values.{RtcpPacket}
-use Rattle.rtcp_wire.specs.RtpHeads.{RtpValue}
+use Rattle.rtcp_wire.specs.Values.{RtcpPacket, RtpValue}
 use Rattle.rtcp_wire.specs.Grammar.{IsAccepted}
 use Rattle.rtcp_wire.specs.RtpHeads.{IsRtpHead}
 use Rattle.rtcp_guard.specs.Guarding.{after, datagram_came, check_made, verdict_on}
@@ -13,12 +12,11 @@ use Rattle.rtcp_wire.specs.RtpReadings.{rtp_in}
 use Rattle.rtcp_engine.specs.declared.refusal.Refusal.{Refusal}
 use Rattle.rtcp_engine.specs.declared.step.WrittenStep.{WrittenStep}
 use Rattle.rtcp_engine.specs.answers.Acts.{Act, act_of, Datagram, rtcp, rtp, ticked, time_passed, EventValue, IsActOfEvent, arrived, rtcp_arrived, rtcp_came, rtp_arrived, rtp_came}
-use Rattle.rtcp_engine.specs.answers.Answers.{taken_under}
+use Rattle.rtcp_engine.specs.answers.Answers.{taken_under, refusal_after}
 use Rattle.rtcp_engine.specs.answers.Histories.{History, life_at, session_at, session_for, setup_at}
 use Rattle.rtcp_engine.specs.answers.Lives.{silent_in_life}
-use Rattle.rtcp_engine.specs.answers.Refusals.{refusal_after}
 use Rattle.rtcp_engine.specs.state.Promises.{Foretells, Replies as ParticipantReplies, Takes as ParticipantTakes}
-use Rattle.rtcp_engine.specs.state.States.{KeepsCapacity, ParticipantValue, StandsAt as IsAtHistory}
+use Rattle.rtcp_engine.specs.state.States.{ParticipantValue, StandsAt as IsAtHistory, KeepsCapacity}
 use Rattle.rtcp_engine.specs.state.Views.{LeavesRest, reply_value as participant_reply}
 use Rattle.rtcp_engine.proofs.LawLemmas.{one_reading-computed, one_reading-once, one_reading-rtp_computed, one_reading-rtp_once}
 use Rattle.rtcp_guarded.specs.declared.untaken.Reason.{Reason}

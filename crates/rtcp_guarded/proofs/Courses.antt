@@ -6,11 +6,9 @@ use Rattle.rtcp_guard.specs.declared.verdict.Verdict.{Verdict}
 use Rattle.rtcp_guard.specs.declared.verdict.Verdict.TheVariants.{Pass, Stranger, Crowd}
 use Rattle.rtcp_engine.specs.declared.refusal.Refusal.{Refusal}
 use Rattle.rtcp_engine.specs.declared.step.WrittenStep.{WrittenStep}
-use Rattle.rtcp_engine.specs.answers.Acts.{Act}
-use Rattle.rtcp_engine.specs.answers.Answers.{followed_by, step_by}
+use Rattle.rtcp_engine.specs.answers.Acts.{Act, StepValue, answer_unless}
+use Rattle.rtcp_engine.specs.answers.Answers.{followed_by, step_by, refusal_after}
 use Rattle.rtcp_engine.specs.answers.Histories.{History, with_act}
-use Rattle.rtcp_engine.specs.answers.Refusals.{refusal_after}
-use Rattle.rtcp_engine.specs.answers.Steps.{StepValue, answer_unless}
 use Rattle.rtcp_engine.specs.state.Promises.{Takes as ParticipantTakes}
 use Rattle.rtcp_engine.specs.state.States.{ParticipantValue, StandsAt as IsAtHistory}
 use Rattle.rtcp_engine.specs.state.Views.{reply_value as participant_reply}

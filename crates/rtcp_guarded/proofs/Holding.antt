@@ -8,9 +8,8 @@ use Rattle.rtcp_guard.specs.declared.verdict.Verdict.{Verdict}
 use Rattle.rtcp_guard.specs.declared.verdict.Verdict.TheVariants.{Pass, Stranger, Crowd}
 use Rattle.rtcp_engine.specs.declared.refusal.Refusal.{Refusal}
 use Rattle.rtcp_engine.specs.answers.Acts.{Act, arrived, rtp_sent, ticked, left, configured, forgotten}
-use Rattle.rtcp_engine.specs.answers.Answers.{step_by}
+use Rattle.rtcp_engine.specs.answers.Answers.{step_by, refusal_after}
 use Rattle.rtcp_engine.specs.answers.Histories.{History}
-use Rattle.rtcp_engine.specs.answers.Refusals.{refusal_after}
 use Rattle.rtcp_guarded.specs.Claimed.{IsHeldBack, followed}
 use Rattle.rtcp_guarded.specs.Guarded.{Course, GuardedAct, GuardedHistory, told, expected, trusted, course_after, course_at, course_unless, course_with, goodbye_for, guarded_answer, guarded_unless, names_for, origin_of, passed_at, passed_on, steps_with, verdict_in, with_told}
 

@@ -21,7 +21,7 @@ use Rattle.rtcp_engine.specs.answers.Histories.{History, life_at, session_at, se
 use Rattle.rtcp_engine.specs.answers.Leaving.{Backoff, Life, present, backing_off, finished, after_wait, after_waiting_tick, backoff_from, is_bye_due, sent_nothing}
 use Rattle.rtcp_engine.specs.answers.Lives.{entry_in_life, lived, silent_in_life, with_new_ssrc}
 use Rattle.rtcp_engine.specs.answers.Outcomes.{Outcome, check_interval, member_count}
-use Rattle.rtcp_engine.specs.answers.Refusals.{refusal_after}
+use Rattle.rtcp_engine.specs.answers.Answers.{refusal_after}
 use Rattle.rtcp_engine.specs.answers.Reporting.{reported_at}
 use Rattle.rtcp_engine.specs.answers.Setups.{Setup, SettingsValue}
 use Rattle.rtcp_engine.specs.answers.Ticks.{checked, has_come, has_passed, horizons_of, put_off, reported}

@@ -8,7 +8,7 @@ use Rattle.rtcp_guard.specs.declared.verdict.Verdict.TheVariants.{Pass, Stranger
 use Rattle.rtcp_engine.specs.declared.refusal.Refusal.{Refusal}
 use Rattle.rtcp_engine.specs.answers.Acts.{Act, Datagram, arrived, rtp_sent, ticked, left, configured, forgotten}
 use Rattle.rtcp_engine.specs.answers.Histories.{History}
-use Rattle.rtcp_engine.specs.answers.Refusals.{refusal_after}
+use Rattle.rtcp_engine.specs.answers.Answers.{refusal_after}
 use Rattle.rtcp_engine.specs.state.Taken.{IsHistory}
 use Rattle.rtcp_guarded.specs.Claimed.{AllFrom, AllNameFew, AreInOrder, IsForward, IsNotMoved, IsPresentThroughout, IsTaken, followed, owner_at}
 use Rattle.rtcp_guarded.specs.Guarded.{Course, GuardedAct, GuardedHistory, told, expected, trusted, course_after, course_at, course_unless, course_with, goodbye_for, names_for, origin_of, passed_at, passed_on, steps_with, verdict_in}

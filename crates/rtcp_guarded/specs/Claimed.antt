@@ -7,7 +7,7 @@ use Rattle.rtcp_guard.specs.Guarding.{GuardStep, datagram_came, check_made, sour
 use Rattle.rtcp_engine.specs.answers.Acts.{Act, arrived}
 use Rattle.rtcp_engine.specs.answers.Histories.{life_at, setup_at}
 use Rattle.rtcp_engine.specs.answers.Lives.{entry_in_life}
-use Rattle.rtcp_engine.specs.answers.Refusals.{refusal_after}
+use Rattle.rtcp_engine.specs.answers.Answers.{refusal_after}
 use Rattle.rtcp_engine.specs.state.Taken.{IsHistory, NamesFew}
 use Rattle.rtcp_guarded.specs.Guarded.{GuardedAct, GuardedHistory, told, expected, trusted, course_at, names_for, origin_of, passed_at, verdict_in}
 

@@ -8,13 +8,11 @@ use Rattle.rtcp_guard.specs.declared.settings.Settings.{Settings}
 use Rattle.rtcp_guard.specs.declared.verdict.Verdict.{Verdict}
 use Rattle.rtcp_guard.specs.declared.verdict.Verdict.TheVariants.{Pass, Stranger, Crowd}
 use Rattle.rtcp_engine.specs.declared.refusal.Refusal.{Refusal}
-use Rattle.rtcp_engine.specs.answers.Acts.{Act, Datagram, rtcp, rtp, arrived, ticked}
-use Rattle.rtcp_engine.specs.answers.Answers.{step_by}
+use Rattle.rtcp_engine.specs.answers.Acts.{Act, Datagram, rtcp, rtp, arrived, ticked, StepValue}
+use Rattle.rtcp_engine.specs.answers.Answers.{step_by, refusal_after}
 use Rattle.rtcp_engine.specs.answers.Histories.{History, life_at, session_at, session_for, setup_at, with_act}
 use Rattle.rtcp_engine.specs.answers.Lives.{silent_in_life}
-use Rattle.rtcp_engine.specs.answers.Refusals.{refusal_after}
 use Rattle.rtcp_engine.specs.answers.Setups.{Setup}
-use Rattle.rtcp_engine.specs.answers.Steps.{StepValue}
 use Rattle.rtcp_engine.specs.bounds.Runs.{IsAnsweredInTime}
 use Rattle.rtcp_engine.specs.state.Taken.{begun}
 use Rattle.rtcp_guarded.specs.declared.untaken.Reason.{Reason}

@@ -5,7 +5,7 @@ use Rattle.rtcp_engine.specs.declared.step.WrittenStep.{WrittenStep}
 use Rattle.rtcp_engine.specs.answers.Acts.{Act, EventValue, IsActOfEvent}
 use Rattle.rtcp_engine.specs.declared.refusal.Refusal.{Refusal}
 use Rattle.rtcp_engine.specs.state.Promises.{Replies as ParticipantReplies, SaysStanding}
-use Rattle.rtcp_engine.specs.state.States.{KeepsCapacity, ParticipantValue}
+use Rattle.rtcp_engine.specs.state.States.{ParticipantValue, KeepsCapacity}
 use Rattle.rtcp_guard.specs.Guarding.{GuardValue}
 use Rattle.rtcp_engine.specs.state.Views.{LeavesRest}
 use Rattle.rtcp_guarded.specs.Guarded.{GuardedHistory, GuardedAnswer, IsTakenInTime, guarded_answer, with_told}

@@ -2,8 +2,8 @@
 //! has one, to the start of the caller's octets.
 
 ghost use Rattle.std.specs.Prelude.{◌≡◌};
-ghost use Rattle.rtcp_engine.specs.answers.Acts.{forget_asked, leave_asked, packet_sent, rtcp_arrived, rtp_arrived, settings_given, time_passed};
-ghost use Rattle.rtcp_engine.specs.state.Views.{event_value, settings_value};
+ghost use Rattle.rtcp_engine.specs.answers.Acts.{forget_asked, leave_asked, packet_sent, rtcp_arrived, rtp_arrived, settings_given, time_passed, settings_value};
+ghost use Rattle.rtcp_engine.specs.state.Views.{event_value};
 ghost use Rattle.rtcp_guarded.specs.Promises.{Replies};
 ghost use Rattle.rtcp_guarded.specs.Views.{as_refused};
 

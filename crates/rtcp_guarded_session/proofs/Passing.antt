@@ -9,7 +9,7 @@ use Rattle.rtcp_engine.specs.answers.Acts.{Act, Datagram, arrived, rtp_sent, tic
 use Rattle.rtcp_engine.specs.answers.Leaving.{Life, present, backing_off, finished}
 use Rattle.rtcp_engine.specs.answers.Histories.{History, last_moment, life_at, session_at, setup_at, with_act}
 use Rattle.rtcp_engine.specs.answers.Lives.{silent_in_life}
-use Rattle.rtcp_engine.specs.answers.Refusals.{call_refusal, refusal_after, refusal_in, refusal_of_content}
+use Rattle.rtcp_engine.specs.answers.Answers.{call_refusal, refusal_after, refusal_in, refusal_of_content}
 use Rattle.rtcp_engine.specs.state.Taken.{AllTaken, IsHistory, NamesFew}
 use Rattle.rtcp_guard.specs.declared.settings.Settings.{Settings}
 use Rattle.rtcp_guard.specs.declared.verdict.Verdict.{Verdict}

@@ -5,7 +5,7 @@ use Rattle.std.specs.List.{list_any, sum_by}
 use Rattle.rtcp_engine.specs.answers.Setups.{Setup}
 use Rattle.rtcp_engine.specs.answers.Acts.{Act, arrived, moment_of}
 use Rattle.rtcp_engine.specs.answers.Histories.{History, last_moment}
-use Rattle.rtcp_engine.specs.answers.Refusals.{refusal_after}
+use Rattle.rtcp_engine.specs.answers.Answers.{refusal_after}
 use Rattle.rtcp_engine.specs.state.Taken.{IsHistory}
 use Rattle.rtcp_guard.specs.Guarding.{limit_of}
 use Rattle.rtcp_guard.specs.Histories.{IsWithinHold}

@@ -9,7 +9,7 @@ use Rattle.rtcp_engine.specs.declared.refusal.Refusal.{Refusal}
 use Rattle.rtcp_engine.specs.declared.refusal.Refusal.TheVariants.{Left, Backwards, TooFar, TooMany, Wire, Rtp, OwnSsrc, Settings}
 use Rattle.rtcp_engine.specs.declared.step.OutKind.{OutKind}
 use Rattle.rtcp_engine.specs.declared.step.OutKind.TheVariants.{Report, Bye}
-use Rattle.rtcp_engine.specs.answers.Steps.{OutValue, StepValue}
+use Rattle.rtcp_engine.specs.answers.Acts.{OutValue, StepValue}
 use Rattle.rtcp_guarded.specs.declared.untaken.Reason.{Reason}
 use Rattle.rtcp_guarded.specs.declared.untaken.Reason.TheVariants.{Stranger, Crowd}
 use Rattle.rtcp_text.specs.AnswerText.{config_text, kind_text, rtp_fault_text}

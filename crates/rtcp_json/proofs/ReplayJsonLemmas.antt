@@ -1,11 +1,10 @@
 -- The text of a session in JSON: each line says one act or has one fault, and what holds a participant answers as its
 -- history does.
 use Rattle.std.proofs.Common.{◌≡◌, ℕ, ◌⊎◌, inl, inr, List, [], ◌++◌, Option, None, Result, Ok, Err, refl, sym, ◌∙◌, ap, subst}
-use Rattle.rtcp_engine.specs.answers.Acts.{EventValue, IsActOfEvent}
+use Rattle.rtcp_engine.specs.answers.Acts.{EventValue, IsActOfEvent, AnswerValue}
 use Rattle.rtcp_engine.specs.answers.Refused.{error_in}
 use Rattle.rtcp_engine.specs.answers.Answers.{answer_of, followed_by}
 use Rattle.rtcp_engine.specs.answers.Histories.{History}
-use Rattle.rtcp_engine.specs.answers.Steps.{AnswerValue}
 use Rattle.rtcp_engine.specs.state.States.{ParticipantValue, StandsAt}
 use Rattle.rtcp_text.specs.EventLines.{event_in}
 use Rattle.rtcp_text.specs.declared.fault.LineFault.{LineFault}

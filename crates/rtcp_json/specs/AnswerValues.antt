@@ -7,7 +7,7 @@ use Rattle.std.specs.Prelude.{ℕ, List, [], ◌∷◌, ◌++◌, Option, Ok, Er
 use Rattle.json.specs.Json.{Json, string}
 use Rattle.rtcp_engine.specs.declared.refusal.Refusal.{Refusal}
 use Rattle.rtcp_engine.specs.declared.refusal.Refusal.TheVariants.{Left, Backwards, TooFar, TooMany, Wire, Rtp, OwnSsrc, Settings}
-use Rattle.rtcp_engine.specs.answers.Steps.{OutValue, StepValue, AnswerValue}
+use Rattle.rtcp_engine.specs.answers.Acts.{OutValue, StepValue, AnswerValue}
 use Rattle.rtcp_guarded.specs.Guarded.{GuardedAnswer}
 use Rattle.rtcp_guarded.specs.declared.untaken.Reason.{Reason}
 use Rattle.rtcp_guarded.specs.declared.untaken.Untaken.TheVariants.{Refused, HeldBack}

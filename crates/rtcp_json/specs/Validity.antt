@@ -5,8 +5,7 @@ use Rattle.json.specs.Json.{Json, document}
 use Rattle.rtcp_wire.specs.Grammar.{AreOctets}
 use Rattle.rtcp_source.specs.Receptions.{ReceptionValue}
 use Rattle.rtcp_members.specs.Listings.{StateValue}
-use Rattle.rtcp_engine.specs.answers.Acts.{EventValue}
-use Rattle.rtcp_engine.specs.answers.Steps.{StepValue}
+use Rattle.rtcp_engine.specs.answers.Acts.{EventValue, StepValue}
 use Rattle.rtcp_engine.specs.declared.refusal.Refusal.{Refusal}
 use Rattle.rtcp_engine.specs.declared.refusal.Refusal.TheVariants.{Left, Backwards, TooFar, TooMany, Wire, Rtp, OwnSsrc, Settings}
 use Rattle.rtcp_guarded.specs.Guarded.{GuardedAnswer}

@@ -7,8 +7,8 @@ use Rattle.std.proofs.lemmas.List.Sums.{sum_by-cons}
 use Rattle.rtcp_wire.specs.Values.{ReportBlock, ItemValue}
 use Rattle.rtcp_wire.specs.Writing.{written, written_all}
 use Rattle.rtcp_members.specs.Pending.{EntryRow, blocks_of}
-use Rattle.rtcp_report.specs.Reports.{SentValue, Reporter, cname_item, receiver_named, bye_packet, packets_with, bye_of, items_of}
-use Rattle.rtcp_report.specs.Sizes.{item_size, description_size, first_report_size, report_size, IsShort, fitting}
+use Rattle.rtcp_report.specs.Reports.{SentValue, Reporter, cname_item, receiver_named, bye_packet, packets_with, bye_of, items_of, first_report_size, report_size, fitting}
+use Rattle.rtcp_report.specs.Sizes.{item_size, description_size, IsShort}
 use Rattle.rtcp_report.proofs.Prefixes.{size_rises, longest_fitting}
 use Rattle.rtcp_report.proofs.ReportSizes.{packets_length}
 

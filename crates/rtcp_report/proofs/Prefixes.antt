@@ -9,8 +9,8 @@ use Rattle.std.proofs.lemmas.List.Sums.{sum_by-append}
 use Rattle.rtcp_members.specs.Tables.{TableValue}
 use Rattle.rtcp_members.specs.Pending.{EntryRow, is_due_at, pending}
 use Rattle.rtcp_members.proofs.LawLemmas.{each_is_pending_once}
-use Rattle.rtcp_report.specs.Reports.{Reporter, further_count}
-use Rattle.rtcp_report.specs.Sizes.{report_size, greatest_passing, block_count, fitting, reported_rows, IsLongestFitting}
+use Rattle.rtcp_report.specs.Reports.{Reporter, further_count, report_size, greatest_passing, fitting}
+use Rattle.rtcp_report.specs.Sizes.{block_count, reported_rows, IsLongestFitting}
 
 further_rises : (fewer more : ℕ) → fewer ≤ more → further_count fewer ≤ further_count more
 further_rises fewer more le = omega (arith, le)

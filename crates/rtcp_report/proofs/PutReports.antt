@@ -14,8 +14,7 @@ use Rattle.rtcp_wire.proofs.LawLemmas.{sizes_add_up-receiver, sizes_add_up-sende
 use Rattle.rtcp_wire.proofs.Putting.{put_after, put_before, part_at_start}
 use Rattle.rtcp_members.specs.Pending.{EntryRow}
 use Rattle.rtcp_report.specs.Gathered.{written_head, PutsPackets, PutsReports, PutsFurther}
-use Rattle.rtcp_report.specs.Reports.{SentValue, report_with, further_count, further_reports, reports_with}
-use Rattle.rtcp_report.specs.Sizes.{first_report_size}
+use Rattle.rtcp_report.specs.Reports.{SentValue, report_with, further_count, further_reports, reports_with, first_report_size}
 use Rattle.rtcp_report.specs.Views.{sent_value}
 use Rattle.rtcp_report.specs.declared.sender.SrPart.{SrPart}
 use Rattle.rtcp_report.proofs.ReportPackets.{one_report}

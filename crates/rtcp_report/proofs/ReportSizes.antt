@@ -7,8 +7,8 @@ use Rattle.std.specs.List.{flat_map}
 use Rattle.rtcp_wire.specs.Values.{ReportBlock, SenderValue, ItemValue, RtcpPacket, ChunkValue, rr}
 use Rattle.rtcp_wire.specs.Writing.{fill_after, written_item, written_chunk, written, written_all}
 use Rattle.rtcp_wire.proofs.LawLemmas.{sizes_add_up-receiver, sizes_add_up-sender}
-use Rattle.rtcp_report.specs.Reports.{SentValue, Reporter, report_with, further_count, further_reports, reports_with, description_of, packets_with}
-use Rattle.rtcp_report.specs.Sizes.{first_report_size, item_size, description_size, report_size}
+use Rattle.rtcp_report.specs.Reports.{SentValue, Reporter, report_with, further_count, further_reports, reports_with, description_of, packets_with, first_report_size, report_size}
+use Rattle.rtcp_report.specs.Sizes.{item_size, description_size}
 
 -- ---- Descriptions
 

@@ -5,8 +5,8 @@ use Rattle.rtcp_members.specs.Traces.{TraceStep}
 use Rattle.rtcp_members.specs.Pending.{EntryRow, blocks_of, pending_rows_at}
 use Rattle.rtcp_members.specs.News.{blocks_at, pending_at}
 use Rattle.rtcp_members.proofs.LawLemmas.{rows_are_of_stays-all, rows_are_of_stays-sources, rows_are_of_stays-blocks}
-use Rattle.rtcp_report.specs.Reports.{Reporter}
-use Rattle.rtcp_report.specs.Sizes.{block_count, fitting}
+use Rattle.rtcp_report.specs.Reports.{Reporter, fitting}
+use Rattle.rtcp_report.specs.Sizes.{block_count}
 
 module _ (reporter : Reporter) (limit : ℕ) (last : Option ℕ) (capacity : ℕ) (trace : List TraceStep) where
   abbrev ssrcs_of : List EntryRow → List ℕ

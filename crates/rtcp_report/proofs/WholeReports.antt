@@ -8,8 +8,8 @@ use Rattle.rtcp_wire.specs.Writing.{written_all, IsWritableItem}
 use Rattle.rtcp_members.specs.Tables.{TableValue}
 use Rattle.rtcp_members.specs.Pending.{EntryRow, pending, blocks_of}
 use Rattle.rtcp_report.specs.Gathered.{IsReport, IsTakenFrom, PutsPackets}
-use Rattle.rtcp_report.specs.Reports.{Reporter, cname_item, description_of, packets_with, items_of}
-use Rattle.rtcp_report.specs.Sizes.{report_size, reported_rows, report_of}
+use Rattle.rtcp_report.specs.Reports.{Reporter, cname_item, description_of, packets_with, items_of, report_size}
+use Rattle.rtcp_report.specs.Sizes.{reported_rows, report_of}
 use Rattle.rtcp_report.proofs.PutReports.{octets_are, read_back, begins}
 use Rattle.rtcp_report.proofs.ReportSizes.{packets_length}
 use Rattle.rtcp_report.proofs.Prefixes.{size_rises, front_is}

@@ -6,8 +6,8 @@ use Rattle.rtcp_wire.specs.Puts.{IsPut}
 use Rattle.rtcp_wire.specs.Writing.{written_word, written_sender, written_header, written_all, IsWritable, IsWritableBlock, IsInRange, IsBlockInRange}
 use Rattle.rtcp_members.specs.Tables.{TableValue}
 use Rattle.rtcp_members.specs.Pending.{EntryRow, blocks_of, after_blocks, last_reported}
-use Rattle.rtcp_report.specs.Reports.{SentValue, Reporter, further_count, further_reports, reports_with}
-use Rattle.rtcp_report.specs.Sizes.{report_of, report_size, reported_rows}
+use Rattle.rtcp_report.specs.Reports.{SentValue, Reporter, further_count, further_reports, reports_with, report_size}
+use Rattle.rtcp_report.specs.Sizes.{report_of, reported_rows}
 
 -- What stands before the blocks of a report (RFC 3550, 6.4.1, 6.4.2).
 abbrev pub written_head : (ssrc : ℕ) → Option SentValue → (count : ℕ) → List ℕ

@@ -1,7 +1,8 @@
--- The packets of a compound report (RFC 3550, 6.1, 6.4, 6.5).
-use Rattle.std.specs.Prelude.{ℕ, zero, suc, ◌-◌, ◌/◌, List, [], ◌∷◌, ◌++◌, length, take, drop, Option, Some, None}
+-- The packets of a compound report (RFC 3550, 6.1, 6.4, 6.5), its size, and how many of the pending sources it holds.
+use Rattle.std.specs.Prelude.{ℕ, zero, suc, ◌-◌, ◌/◌, List, [], ◌∷◌, ◌++◌, length, take, drop, Option, Some, None, Bool, nat_le, sum_by, ◌+◌, ◌*◌, ◌≡◌, ◌<◌, ◌≤◌, if◌then◌else◌, option_map, option_copied}
 use Rattle.rtcp_wire.specs.Values.{ReportBlock, ItemValue, RtcpPacket, rr, sr, sdes, bye}
 use Rattle.std.specs.Option.{option_to_list}
+use Rattle.rtcp_report.specs.declared.sender.Item.{Item}
 
 -- What a sender's report says beside its SSRC (6.4.1).
 pub record SentValue : Type 0 where
@@ -44,6 +45,28 @@ packets_with reporter blocks =
     ∷ (further_reports reporter.ssrc ((length blocks - 1) / 31) (drop 31 blocks)
     ++ sdes (record { id = reporter.ssrc; items = reporter.items } ∷ []) ∷ [])
 
+-- the first report, without blocks
+abbrev pub first_report_size : Option SentValue → ℕ
+first_report_size None = 8
+first_report_size (Some sent) = 28
+
+-- A report with so many blocks, in octets. The source description has a header and an SSRC, the items, and zeros up to
+-- the end of a word, at least one.
+abbrev pub report_size : Reporter → (blocks : ℕ) → ℕ
+report_size reporter blocks =
+    first_report_size reporter.sent + 24 * blocks + 8 * ((blocks - 1) / 31)
+    + (8 + 4 * (sum_by (λ item. length item.text + 2) reporter.items / 4 + 1))
+
+-- the greatest number from 1 to `most` that passes the test, or 0
+abbrev pub greatest_passing : (ℕ → Bool) → (most : ℕ) → ℕ
+greatest_passing test zero = 0
+greatest_passing test (suc n) = if test (suc n) then suc n else greatest_passing test n
+
+-- The sources that a report is of: the longest prefix of the pending ones that fits the limit.
+abbrev pub fitting : {A : Type 0} → Reporter → (limit : ℕ) → List A → List A
+fitting reporter limit sources =
+    take (greatest_passing (λ blocks. nat_le (report_size reporter blocks) limit) (length sources)) sources
+
 -- ---- Parts of it, by names of their own
 
 -- How many reports follow the first one.
@@ -77,3 +100,6 @@ receiver_named ssrc cname = receiver_with ssrc (cname_item cname ∷ [])
 abbrev pub bye_of : (ssrc : ℕ) → (cname : List ℕ) → List RtcpPacket
 bye_of ssrc cname =
     packets_with (record { ssrc = ssrc; sent = None; items = cname_item cname ∷ [] }) [] ++ bye (ssrc ∷ []) None ∷ []
+
+abbrev pub item_value : Item → ItemValue
+item_value i = record { kind = i.kind; text = i.text.items }

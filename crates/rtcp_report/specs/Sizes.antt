@@ -1,23 +1,11 @@
--- The size of a compound report, and how many of the pending sources it holds (RFC 3550, 6.1, 6.4).
+-- Parts of the size of a compound report, and the rows of a table that it holds (RFC 3550, 6.1, 6.4).
 use Rattle.std.specs.Prelude.{ℕ, zero, suc, ◌+◌, ◌-◌, ◌*◌, ◌/◌, ◌≡◌, ◌<◌, ◌≤◌, Bool, nat_le, if◌then◌else◌, List, ◌++◌, length, sum_by, take, Option, Some, None}
 use Rattle.rtcp_wire.specs.Values.{ItemValue, RtcpPacket}
 use Rattle.rtcp_members.specs.Tables.{TableValue}
 use Rattle.rtcp_members.specs.Pending.{EntryRow, pending, blocks_of}
-use Rattle.rtcp_report.specs.Reports.{SentValue, Reporter, further_count, packets_with}
+use Rattle.rtcp_report.specs.Reports.{SentValue, Reporter, further_count, packets_with, report_size, greatest_passing, fitting}
 
 -- ---- Sizes
-
--- the first report, without blocks
-abbrev pub first_report_size : Option SentValue → ℕ
-first_report_size None = 8
-first_report_size (Some sent) = 28
-
--- A report with so many blocks, in octets. The source description has a header and an SSRC, the items, and zeros up to
--- the end of a word, at least one.
-abbrev pub report_size : Reporter → (blocks : ℕ) → ℕ
-report_size reporter blocks =
-    first_report_size reporter.sent + 24 * blocks + 8 * ((blocks - 1) / 31)
-    + (8 + 4 * (sum_by (λ item. length item.text + 2) reporter.items / 4 + 1))
 
 abbrev pub item_size : ItemValue → ℕ
 item_size item = length item.text + 2
@@ -31,16 +19,6 @@ IsShort None = Unit {0}
 IsShort (Some item) = length item.text ≤ 255
 
 -- ---- As many as fit
-
--- the greatest number from 1 to `most` that passes the test, or 0
-abbrev pub greatest_passing : (ℕ → Bool) → (most : ℕ) → ℕ
-greatest_passing test zero = 0
-greatest_passing test (suc n) = if test (suc n) then suc n else greatest_passing test n
-
--- The sources that a report is of: the longest prefix of the pending ones that fits the limit.
-abbrev pub fitting : {A : Type 0} → Reporter → (limit : ℕ) → List A → List A
-fitting reporter limit sources =
-    take (greatest_passing (λ blocks. nat_le (report_size reporter blocks) limit) (length sources)) sources
 
 -- how many blocks a report has where so many sources wait for one
 abbrev pub block_count : Reporter → (limit waiting : ℕ) → ℕ

@@ -6,14 +6,11 @@ use Rattle.rtcp_wire.specs.Values.{ItemValue}
 use Rattle.rtcp_report.specs.declared.sender.Sender.{Sender}
 use Rattle.rtcp_report.specs.declared.sender.SrPart.{SrPart}
 use Rattle.rtcp_report.specs.declared.sender.Item.{Item}
-use Rattle.rtcp_report.specs.Reports.{SentValue, Reporter, cname_item}
+use Rattle.rtcp_report.specs.Reports.{SentValue, Reporter, cname_item, item_value}
 pub use Rattle.rtcp_report.specs.Reports.{items_of}
 
 abbrev pub sent_value : SrPart → SentValue
 sent_value s = record { ntp = s.ntp; rtp = s.rtp; packets = s.packets; octets = s.octets }
-
-abbrev pub item_value : Item → ItemValue
-item_value i = record { kind = i.kind; text = i.text.items }
 
 abbrev pub extra_of : Option (Bor Item) → Option ItemValue
 extra_of extra = option_map item_value (option_copied extra)

@@ -4,8 +4,7 @@ ghost use Rattle.std.specs.Prelude.{◌≡◌, ◌+◌, ◌≤◌, ◌<◌, ◌^
 ghost use Rattle.rtcp_wire.specs.Grammar.{IsAccepted};
 ghost use Rattle.rtcp_wire.specs.Puts.{IsPut};
 ghost use Rattle.rtcp_wire.specs.Writing.{written, written_all};
-ghost use Rattle.rtcp_report.specs.Reports.{bye_of, bye_packet, receiver_named};
-ghost use Rattle.rtcp_report.specs.Sizes.{report_size};
+ghost use Rattle.rtcp_report.specs.Reports.{bye_of, bye_packet, receiver_named, report_size};
 
 use crate::compound::{copy, first_size};
 use crate::description::put_description;

@@ -4,8 +4,7 @@ ghost use Rattle.std.specs.Prelude.{◌≡◌, ◌+◌, ◌*◌, ◌<◌, ◌≤
 ghost use Rattle.std.specs.Option.{ForSome};
 ghost use Rattle.rtcp_wire.specs.Writing.{written_all, IsWritableItem};
 ghost use Rattle.rtcp_report.specs.Gathered.{IsReport};
-ghost use Rattle.rtcp_report.specs.Reports.{Reporter, further_count, packets_with, items_of};
-ghost use Rattle.rtcp_report.specs.Sizes.{first_report_size};
+ghost use Rattle.rtcp_report.specs.Reports.{Reporter, further_count, packets_with, items_of, first_report_size};
 ghost use Rattle.rtcp_report.specs.Views.{extra_of, reporter_of, sent_value};
 
 use crate::description::{description_size, put_description};

@@ -7,8 +7,8 @@ ghost use Rattle.rtcp_members.specs.Traces.{TraceStep, with_blocks};
 ghost use Rattle.rtcp_members.specs.Tables.{TableValue, StandsAt, HasFew};
 ghost use Rattle.rtcp_members.specs.Pending.{EntryRow, blocks_of, after_blocks, pending_rows_at};
 ghost use Rattle.rtcp_members.specs.News.{blocks_at, pending_at};
-ghost use Rattle.rtcp_report.specs.Reports.{SentValue, Reporter, packets_with, bye_of, items_of};
-ghost use Rattle.rtcp_report.specs.Sizes.{report_size, IsShort, fitting, reported_rows, IsLongestFitting};
+ghost use Rattle.rtcp_report.specs.Reports.{SentValue, Reporter, packets_with, bye_of, items_of, report_size, fitting};
+ghost use Rattle.rtcp_report.specs.Sizes.{IsShort, reported_rows, IsLongestFitting};
 
 /// The sources of a report are the longest prefix of the pending ones that fits, where a report without
 /// blocks fits: none is left out that fits. There is one such prefix.

@@ -7,8 +7,7 @@ ghost use Rattle.rtcp_wire.specs.Values.{ReportBlock};
 ghost use Rattle.rtcp_wire.specs.Writing.{written_block, IsInRange, IsBlockInRange};
 ghost use Rattle.rtcp_members.specs.Pending.{pending, blocks_of};
 ghost use Rattle.rtcp_report.specs.Gathered.{IsTakenFrom, written_head, PutsFurther, PutsReports};
-ghost use Rattle.rtcp_report.specs.Reports.{report_with, further_count};
-ghost use Rattle.rtcp_report.specs.Sizes.{first_report_size};
+ghost use Rattle.rtcp_report.specs.Reports.{report_with, further_count, first_report_size};
 ghost use Rattle.rtcp_report.specs.Views.{sent_value};
 
 use crate::sender::{Sender, SrPart};

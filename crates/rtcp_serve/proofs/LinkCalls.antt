@@ -15,9 +15,8 @@ use Rattle.rand_core.specs.Stream.{Stream, next_u32}
 use Rattle.rtcp_wire.specs.Readings.{rtcp_in}
 use Rattle.rtcp_wire.specs.RtpReadings.{rtp_in}
 use Rattle.rtcp_engine.proofs.LawLemmas.{one_reading-computed, one_reading-once, one_reading-rtp_computed, one_reading-rtp_once}
-use Rattle.rtcp_engine.specs.answers.Acts.{rtcp_came, rtp_came, ticked, left as asked_to_leave, EventValue, IsActOfEvent, rtcp_arrived, rtp_arrived, packet_sent, time_passed, leave_asked, settings_given, forget_asked}
+use Rattle.rtcp_engine.specs.answers.Acts.{rtcp_came, rtp_came, ticked, left as asked_to_leave, EventValue, IsActOfEvent, rtcp_arrived, rtp_arrived, packet_sent, time_passed, leave_asked, settings_given, forget_asked, OutValue}
 use Rattle.rtcp_engine.specs.declared.step.Step.{Step}
-use Rattle.rtcp_engine.specs.answers.Steps.{OutValue}
 use Rattle.rtcp_guarded.specs.Guarded.{GuardedAnswer}
 use Rattle.rtcp_guarded.specs.Views.{guarded_value}
 use Rattle.rtcp_guarded.specs.declared.untaken.Untaken.{Untaken}

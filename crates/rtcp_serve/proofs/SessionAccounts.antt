@@ -1,8 +1,7 @@
 -- What a session comes to, call by call: the compounds, and the totals.
 use Rattle.std.proofs.Common.{◌≡◌, ℕ, zero, suc, ◌+◌, Bool, true, false, List, [], ◌∷◌, ◌++◌, Option, Some, None, Ok, Err, if◌then◌else◌, refl, sym, ap, ◌∙◌, subst, arith, append_assoc}
 use Rattle.rand_core.specs.Stream.{Stream, next_u32}
-use Rattle.rtcp_engine.specs.answers.Acts.{EventValue}
-use Rattle.rtcp_engine.specs.answers.Steps.{OutValue}
+use Rattle.rtcp_engine.specs.answers.Acts.{EventValue, OutValue}
 use Rattle.rtcp_guarded.specs.Guarded.{GuardedAnswer}
 use Rattle.rtcp_serve.specs.Served.{Served, answer_for, followed_for, next_for}
 use Rattle.rtcp_serve.specs.declared.link.Port.{Port}

@@ -1,8 +1,7 @@
 -- What a participant hands out over a session, what its link was given, and what its observer was told. Lists are
 -- newest first.
 use Rattle.std.specs.Prelude.{ℕ, Bool, List, [], ◌∷◌, ◌++◌, Option, Some, None, Ok, Err}
-use Rattle.rtcp_engine.specs.answers.Acts.{Act}
-use Rattle.rtcp_engine.specs.answers.Steps.{OutValue}
+use Rattle.rtcp_engine.specs.answers.Acts.{Act, OutValue}
 use Rattle.rtcp_guarded.specs.Guarded.{GuardedAnswer}
 use Rattle.rtcp_serve.specs.Served.{Served, answer_for, followed_for}
 use Rattle.rtcp_serve.specs.Links.{Call, compound_sent}

@@ -1,10 +1,9 @@
 -- What takes part in a session: a participant alone, or one with a guard before it.
 use Rattle.std.specs.Prelude.{◌≡◌, ℕ, Option, Ok, Err}
-use Rattle.rtcp_engine.specs.answers.Acts.{Act, EventValue, IsActOfEvent}
+use Rattle.rtcp_engine.specs.answers.Acts.{Act, EventValue, IsActOfEvent, AnswerValue}
 use Rattle.rtcp_engine.specs.answers.Answers.{answer_of, followed_by}
 use Rattle.rtcp_engine.specs.answers.Histories.{History, life_at}
 use Rattle.rtcp_engine.specs.answers.Lives.{next_in_life}
-use Rattle.rtcp_engine.specs.answers.Steps.{AnswerValue}
 use Rattle.rtcp_engine.specs.state.States.{ParticipantValue, StandsAt}
 use Rattle.rtcp_guarded.specs.Guarded.{GuardedAnswer, GuardedHistory, guarded_answer, passed_at, with_told}
 use Rattle.rtcp_guarded.specs.Views.{GuardedValue, StandsAt as IsAtGuarded}

@@ -4,7 +4,7 @@ use Rattle.std.specs.List.{sum_by}
 use Rattle.std.proofs.Math.Nat.{mul-le-mul_left}
 use Rattle.std.proofs.lemmas.List.Elements.{All-head, All-tail}
 use Rattle.std.proofs.lemmas.List.Sums.{sum_by-cons, sum_by-le}
-use Rattle.rtcp_timer.specs.Averages.{with_headers}
+use Rattle.rtcp_timer.specs.Loads.{with_headers}
 use Rattle.rtcp_engine.specs.bounds.Sent.{Sent}
 use Rattle.rtcp_session.specs.Windows.{Joined, reports_within}
 use Rattle.rtcp_session.specs.Crowds.{total_reports, total_octets, total_compounds, Paced, IsPaced, total_as, Terms, IsCrowd, carried_in}

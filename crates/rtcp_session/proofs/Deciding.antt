@@ -7,7 +7,7 @@ use Rattle.rtcp_timer.specs.Loads.{interval_of, minimum_of}
 use Rattle.rtcp_timer.proofs.LawLemmas.{interval_has_minimum}
 use Rattle.rtcp_engine.specs.declared.changes.IdentifierChange.{IdentifierChange}
 use Rattle.rtcp_engine.specs.answers.Setups.{Setup}
-use Rattle.rtcp_engine.specs.answers.Acts.{Act, rtcp, rtp, arrived, rtp_sent, ticked, left, configured, moment_of, forgotten}
+use Rattle.rtcp_engine.specs.answers.Acts.{Act, rtcp, rtp, arrived, rtp_sent, ticked, left, configured, moment_of, forgotten, OutValue}
 use Rattle.rtcp_engine.specs.answers.OwnStreams.{has_sent}
 use Rattle.rtcp_engine.specs.answers.Outcomes.{Outcome, load_of, member_count}
 use Rattle.rtcp_engine.specs.answers.Ticks.{checked, report_due}
@@ -16,7 +16,6 @@ use Rattle.rtcp_engine.specs.answers.Leaving.{Life, present, backing_off, finish
 use Rattle.rtcp_engine.specs.answers.Lives.{bye_out, out_by, own_bye, report_out}
 use Rattle.rtcp_engine.specs.answers.Changes.{NewIdentifier, Session, bye_of_change, change_by, changed_by}
 use Rattle.rtcp_engine.specs.answers.Histories.{History, session_of}
-use Rattle.rtcp_engine.specs.answers.Steps.{OutValue}
 use Rattle.rtcp_engine.specs.bounds.Sent.{Sent, interval_by, is_report, reports_in, sent_with, sent_by, sent_over, sent_at}
 use Rattle.rtcp_engine.proofs.LawLemmas.{changes_bring_one_bye}
 use Rattle.rtcp_session.specs.Windows.{later_ones, Decided, load_at, outcome_by, decided_with, decided_by, decided_over, decided_at, Joined, is_inside, reports_within, decided_within, later_within}

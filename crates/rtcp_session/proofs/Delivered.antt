@@ -1,6 +1,6 @@
 -- Sessions whose reports come within a delay keep to their bandwidth.
 use Rattle.std.proofs.Common.{ℕ, ◌+◌, ◌-◌, ◌*◌, ◌≤◌, false, List, length, All, arith}
-use Rattle.rtcp_timer.specs.Averages.{with_headers}
+use Rattle.rtcp_timer.specs.Loads.{with_headers}
 use Rattle.rtcp_session.specs.Windows.{Joined, reports_within}
 use Rattle.rtcp_session.specs.Crowds.{total_reports, total_octets, total_compounds, Terms}
 use Rattle.rtcp_session.specs.Waits.{all_waits, averages_of, rtcp_bw, waits_as, HasAverage, KeepsToAverage}

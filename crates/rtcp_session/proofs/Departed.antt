@@ -6,8 +6,7 @@ use Rattle.std.proofs.lemmas.List.Folds.{list_any-append}
 use Rattle.rtcp_wire.specs.declared.fact.Fact.{Fact}
 use Rattle.rtcp_wire.specs.declared.fact.Fact.TheVariants.{Heard, Named, Gone}
 use Rattle.rtcp_wire.specs.Facts.{subject, is_gone, is_cname, facts_of, facts_of_packet, facts_of_chunk}
-use Rattle.rtcp_wire.specs.RtpHeads.{RtpValue}
-use Rattle.rtcp_wire.specs.Values.{ChunkValue, RtcpPacket, sr, rr, sdes, bye, app, other}
+use Rattle.rtcp_wire.specs.Values.{ChunkValue, RtcpPacket, sr, rr, sdes, bye, app, other, RtpValue}
 use Rattle.rtcp_members.specs.Traces.{names}
 use Rattle.rtcp_members.specs.Stays.{last_naming}
 use Rattle.rtcp_members.specs.Entries.{counted_at}
@@ -16,11 +15,11 @@ use Rattle.rtcp_members.proofs.LawLemmas.{present_were_named_and_fit-named}
 use Rattle.rtcp_engine.specs.answers.Setups.{Setup}
 use Rattle.rtcp_engine.specs.answers.Acts.{Act, arrived, rtcp, rtp, rtp_sent, ticked, left, configured, forgotten, moment_of}
 use Rattle.rtcp_engine.specs.answers.Outcomes.{Outcome, check_interval, member_count}
-use Rattle.rtcp_engine.specs.answers.Arrivals.{after, with_change, facts_of_media, media_fact, rate_of}
+use Rattle.rtcp_engine.specs.answers.Arrivals.{after, facts_of_media, media_fact, rate_of}
 use Rattle.rtcp_engine.specs.answers.Ticks.{checked, after_tick, has_come, has_passed, horizons_of, put_off, reported}
 use Rattle.rtcp_engine.specs.answers.Reporting.{reported_at}
 use Rattle.rtcp_engine.specs.answers.Leaving.{Backoff, Life, present, backing_off, finished, after_own_bye, counted_anew, few_members, is_bye_due, left_at, sent_nothing}
-use Rattle.rtcp_engine.specs.answers.Lives.{lived, members_in_life, with_new_ssrc}
+use Rattle.rtcp_engine.specs.answers.Lives.{lived, members_in_life, with_new_ssrc, with_change}
 use Rattle.rtcp_engine.specs.answers.Changes.{NewIdentifier, Session, change_by, changed_by, is_among, with_ssrc}
 use Rattle.rtcp_engine.specs.answers.Histories.{History, life_at, session_at, session_for, session_of, setup_after, setup_at, with_act}
 use Rattle.rtcp_engine.specs.bounds.InTime.{is_fall, recounted_by}

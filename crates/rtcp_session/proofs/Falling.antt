@@ -4,13 +4,12 @@ use Rattle.std.proofs.lemmas.Bool.{cases_lt, lt-ltb, le-leb, ltb-true, leb-true}
 use Rattle.std.proofs.lemmas.List.{append_assoc}
 use Rattle.std.proofs.lemmas.List.Elements.{filter-append}
 use Rattle.rtcp_engine.specs.answers.Setups.{Setup}
-use Rattle.rtcp_engine.specs.answers.Acts.{Act, ticked, moment_of}
+use Rattle.rtcp_engine.specs.answers.Acts.{Act, ticked, moment_of, OutValue}
 use Rattle.rtcp_engine.specs.answers.Outcomes.{Outcome}
 use Rattle.rtcp_engine.specs.answers.Leaving.{Life, present}
 use Rattle.rtcp_engine.specs.answers.Lives.{report_out}
 use Rattle.rtcp_engine.specs.answers.Changes.{Session}
 use Rattle.rtcp_engine.specs.declared.changes.IdentifierChange.{IdentifierChange}
-use Rattle.rtcp_engine.specs.answers.Steps.{OutValue}
 use Rattle.rtcp_engine.specs.answers.Histories.{History, brought_by, last_moment, session_for, session_of}
 use Rattle.rtcp_engine.specs.state.Taken.{AllTaken, IsHistory}
 use Rattle.rtcp_engine.specs.bounds.Sent.{Sent, is_report, reports_in, sent_at, sent_by, sent_over, sent_with}

@@ -14,19 +14,18 @@ use Rattle.rtcp_members.specs.Entries.{members_at, senders_at}
 use Rattle.rtcp_members.specs.Tables.{table_at}
 use Rattle.rtcp_members.specs.News.{blocks_at}
 use Rattle.rtcp_members.proofs.LawLemmas.{trace_has_one_table-stands, counts_agree-members, counts_agree-senders, counts_are_ordered-senders}
-use Rattle.rtcp_report.specs.Reports.{SentValue, cname_item, receiver_named, bye_packet, packets_with, items_of}
-use Rattle.rtcp_report.specs.Sizes.{first_report_size, description_size, item_size}
+use Rattle.rtcp_report.specs.Reports.{SentValue, cname_item, receiver_named, bye_packet, packets_with, items_of, first_report_size}
+use Rattle.rtcp_report.specs.Sizes.{description_size, item_size}
 use Rattle.rtcp_report.proofs.LawLemmas.{size_is_that_of_the_octets}
 use Rattle.rtcp_timer.specs.declared.load.Load.{Load}
-use Rattle.rtcp_timer.specs.Averages.{with_headers, average_of}
+use Rattle.rtcp_timer.specs.Loads.{with_headers, average_of}
 use Rattle.rtcp_engine.specs.answers.Setups.{Setup, IsUsable}
 use Rattle.rtcp_engine.specs.answers.Acts.{Act, Datagram, rtcp, rtp, arrived, rtp_sent, ticked, left, configured, forgotten}
 use Rattle.rtcp_engine.specs.answers.OwnStreams.{has_sent, we_sent}
 use Rattle.rtcp_engine.specs.answers.Outcomes.{Outcome, first_size_of, load_of, member_count, one_if}
 use Rattle.rtcp_engine.specs.answers.Ticks.{checked, after_tick, has_come, has_passed, put_off, reported}
-use Rattle.rtcp_engine.specs.answers.Arrivals.{with_datagram}
 use Rattle.rtcp_engine.specs.answers.Leaving.{Life, present, backing_off, finished, few_members, is_bye_due, sent_nothing}
-use Rattle.rtcp_engine.specs.answers.Lives.{lived, with_new_ssrc}
+use Rattle.rtcp_engine.specs.answers.Lives.{lived, with_new_ssrc, with_datagram}
 use Rattle.rtcp_engine.specs.answers.Changes.{NewIdentifier, Session, change_by, changed_by}
 use Rattle.rtcp_engine.specs.answers.Reporting.{bye_octets, report_octets, reporter_at, reported_at, extra_item}
 use Rattle.rtcp_engine.specs.answers.Histories.{History, session_of}

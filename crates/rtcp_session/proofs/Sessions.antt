@@ -6,7 +6,7 @@ use Rattle.std.proofs.lemmas.Nat.{le-div}
 use Rattle.std.proofs.lemmas.List.Elements.{All-head, All-tail, All-filter}
 use Rattle.std.proofs.lemmas.List.Sums.{sum_by-cons, sum_by-append}
 use Rattle.rtcp_timer.specs.declared.load.Load.{Load}
-use Rattle.rtcp_timer.specs.Averages.{with_headers}
+use Rattle.rtcp_timer.specs.Loads.{with_headers}
 use Rattle.rtcp_engine.specs.bounds.Sent.{Sent}
 use Rattle.rtcp_session.specs.Windows.{Decided, load_at, Joined, reports_within, decided_within, later_within}
 use Rattle.rtcp_session.specs.Crowds.{total_reports, octets_of, total_octets, total_compounds, total_as, Terms, carried_in}

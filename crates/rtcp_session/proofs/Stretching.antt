@@ -10,8 +10,7 @@ use Rattle.rtcp_engine.specs.state.Taken.{IsHistory}
 use Rattle.rtcp_engine.specs.bounds.Sent.{Sent}
 use Rattle.rtcp_engine.specs.bounds.Spacing.{is_between}
 use Rattle.rtcp_engine.proofs.LawLemmas.{sent_compounds_keep_apart}
-use Rattle.rtcp_timer.specs.Averages.{with_headers}
-use Rattle.rtcp_timer.specs.Loads.{interval_of}
+use Rattle.rtcp_timer.specs.Loads.{interval_of, with_headers}
 use Rattle.rtcp_session.specs.Windows.{Decided, load_at, decided_at, Joined, is_inside, decided_within, reports_within}
 use Rattle.rtcp_session.specs.Crowds.{total_reports, total_octets, total_compounds, Terms}
 use Rattle.rtcp_session.specs.Waits.{Wait, wait_between, waits_over, waits_within, all_waits, averages_of, rtcp_bw, reports_next_as, waits_as, HasBandwidth, HasAverage, KeepsToAverage}

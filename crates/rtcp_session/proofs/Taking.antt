@@ -12,19 +12,18 @@ use Rattle.rtcp_members.specs.Entries.{gives_name, counted_at}
 use Rattle.rtcp_engine.specs.declared.refusal.Refusal.{Refusal}
 use Rattle.rtcp_engine.specs.declared.refusal.Refusal.TheVariants.{Backwards}
 use Rattle.rtcp_engine.specs.answers.Setups.{Setup}
-use Rattle.rtcp_engine.specs.answers.Acts.{Act, Datagram, rtcp, rtp, arrived, rtp_sent, ticked, left, configured, moment_of, forgotten}
+use Rattle.rtcp_engine.specs.answers.Acts.{Act, Datagram, rtcp, rtp, arrived, rtp_sent, ticked, left, configured, moment_of, forgotten, OutValue}
 use Rattle.rtcp_engine.specs.declared.changes.IdentifierChange.{IdentifierChange}
-use Rattle.rtcp_engine.specs.answers.Steps.{OutValue}
 use Rattle.rtcp_engine.specs.bounds.Sent.{Sent, is_report, reports_in, sent_with}
 use Rattle.rtcp_engine.specs.answers.Outcomes.{Outcome, member_count, check_interval, interval_at}
 use Rattle.rtcp_engine.specs.answers.Ticks.{checked, report_due, horizons_of, after_tick, has_come, has_passed, put_off, reported}
 use Rattle.rtcp_engine.specs.answers.Reporting.{reported_at}
-use Rattle.rtcp_engine.specs.answers.Arrivals.{with_datagram, facts_of_media, media_fact, rate_of}
+use Rattle.rtcp_engine.specs.answers.Arrivals.{facts_of_media, media_fact, rate_of}
 use Rattle.rtcp_engine.specs.answers.Leaving.{Life, present, backing_off, finished, few_members, is_bye_due, sent_nothing}
-use Rattle.rtcp_engine.specs.answers.Lives.{lived, report_out, with_new_ssrc}
+use Rattle.rtcp_engine.specs.answers.Lives.{lived, report_out, with_new_ssrc, with_datagram}
 use Rattle.rtcp_engine.specs.answers.Changes.{NewIdentifier, Session, change_by, changed_by}
 use Rattle.rtcp_engine.specs.answers.Histories.{History, last_moment, session_at, session_of}
-use Rattle.rtcp_engine.specs.answers.Refusals.{refusal_after, refusal_in, refusal_of_content, call_refusal}
+use Rattle.rtcp_engine.specs.answers.Answers.{refusal_after, refusal_in, refusal_of_content, call_refusal}
 use Rattle.rtcp_engine.specs.state.Taken.{AllTaken, IsHistory}
 use Rattle.rtcp_session.specs.Windows.{Decided, decided_by, decided_over, decided_at}
 use Rattle.rtcp_session.specs.Deliveries.{is_named_in}

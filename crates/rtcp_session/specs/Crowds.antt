@@ -4,7 +4,7 @@ use Rattle.std.specs.Prelude.{ℕ, ◌≡◌, ◌+◌, ◌-◌, ◌*◌, ◌/◌
 use Rattle.std.specs.List.{sum_by, IsDistinct}
 use Rattle.rtcp_members.specs.Entries.{EntryValue, entry_at, is_member, is_sender, is_such}
 use Rattle.rtcp_timer.specs.declared.load.Load.{Load}
-use Rattle.rtcp_timer.specs.Averages.{with_headers}
+use Rattle.rtcp_timer.specs.Loads.{with_headers}
 use Rattle.rtcp_engine.specs.answers.Setups.{Setup}
 use Rattle.rtcp_engine.specs.answers.Outcomes.{Outcome, first_size_of}
 use Rattle.rtcp_engine.specs.state.Taken.{IsHistory}

@@ -5,7 +5,7 @@ use Rattle.std.specs.Prelude.{ℕ, ◌+◌, ◌*◌, ◌/◌, ◌≤◌, ◌&&�
 use Rattle.std.specs.List.{sum_by}
 use Rattle.rtcp_members.specs.Entries.{is_member}
 use Rattle.rtcp_timer.specs.declared.load.Load.{Load}
-use Rattle.rtcp_timer.specs.Averages.{with_headers}
+use Rattle.rtcp_timer.specs.Loads.{with_headers}
 use Rattle.rtcp_engine.specs.answers.Outcomes.{first_size_of}
 use Rattle.rtcp_engine.specs.state.Taken.{IsHistory}
 use Rattle.rtcp_session.specs.Windows.{Decided, load_at, decided_at, HasSize, Joined, decided_within}

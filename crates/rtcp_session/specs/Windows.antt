@@ -3,7 +3,7 @@
 use Rattle.std.specs.Prelude.{ℕ, ◌+◌, ◌≤◌, Bool, List, [], ◌∷◌, ◌++◌, filter, map, Option, Some, None, Ok}
 use Rattle.std.specs.List.{sum_by}
 use Rattle.rtcp_timer.specs.declared.load.Load.{Load}
-use Rattle.rtcp_timer.specs.Averages.{with_headers}
+use Rattle.rtcp_timer.specs.Loads.{with_headers}
 use Rattle.rtcp_engine.specs.answers.Setups.{Setup, is_within}
 use Rattle.rtcp_engine.specs.answers.Acts.{Act, ticked, arrived, rtcp}
 use Rattle.rtcp_engine.specs.answers.Outcomes.{Outcome, load_of}

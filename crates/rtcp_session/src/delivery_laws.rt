@@ -8,7 +8,7 @@ ghost use Rattle.rtcp_wire.specs.Facts.{facts_of};
 ghost use Rattle.rtcp_members.specs.Traces.{TraceStep};
 ghost use Rattle.rtcp_members.specs.Lasting.{MayBring};
 ghost use Rattle.rtcp_members.specs.Entries.{entry_at, is_member, is_sender, is_such};
-ghost use Rattle.rtcp_timer.specs.Averages.{with_headers};
+ghost use Rattle.rtcp_timer.specs.Loads.{with_headers};
 ghost use Rattle.rtcp_engine.specs.answers.Acts.{Act, arrived, rtcp, ticked};
 ghost use Rattle.rtcp_engine.specs.answers.Outcomes.{Outcome};
 ghost use Rattle.rtcp_engine.specs.answers.Leaving.{present};

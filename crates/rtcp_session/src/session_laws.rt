@@ -2,8 +2,7 @@
 //! joins and leaves. Each is an empty function whose postcondition is the law.
 
 ghost use Rattle.std.specs.Prelude.{◌≡◌, ◌≤◌, ℕ, ◌+◌, ◌*◌, true, false, List, All, length};
-ghost use Rattle.rtcp_timer.specs.Averages.{with_headers};
-ghost use Rattle.rtcp_timer.specs.Loads.{interval_of};
+ghost use Rattle.rtcp_timer.specs.Loads.{interval_of, with_headers};
 ghost use Rattle.rtcp_engine.specs.answers.Histories.{History};
 ghost use Rattle.rtcp_engine.specs.state.Taken.{IsHistory};
 ghost use Rattle.rtcp_engine.specs.bounds.Spacing.{HalfPasses};

@@ -4,8 +4,8 @@ use Rattle.rtcp_engine.specs.answers.Acts.{EventValue, rtcp_arrived, rtp_arrived
 use Rattle.rtcp_guarded.specs.Guarded.{GuardedAnswer}
 use Rattle.rtcp_members.specs.Listings.{StateValue}
 use Rattle.rtcp_source.specs.Receptions.{ReceptionValue}
-use Rattle.rtcp_wire.specs.RtpHeads.{RtpValue, IsRtpHead}
-use Rattle.rtcp_wire.specs.Values.{RtcpPacket, sr, rr}
+use Rattle.rtcp_wire.specs.RtpHeads.{IsRtpHead}
+use Rattle.rtcp_wire.specs.Values.{RtcpPacket, sr, rr, RtpValue}
 use Rattle.rtcp_serve.specs.declared.link.Port.{Port}
 use Rattle.rtcp_serve.specs.declared.link.Port.TheVariants.{Rtcp, Rtp}
 use Rattle.rtcp_show.specs.Kept.{kept_of}

@@ -3,8 +3,7 @@
 use Rattle.std.specs.Prelude.{◌≡◌, ℕ, List, [], ◌∷◌, ◌++◌, Option, Some, None, Ok, Err, codes}
 use Rattle.rtcp_wire.specs.Grammar.{IsAccepted}
 use Rattle.rtcp_wire.specs.Values.{RtcpPacket}
-use Rattle.rtcp_engine.specs.answers.Acts.{EventValue, rtcp_arrived, rtp_arrived, packet_sent, time_passed, leave_asked, settings_given, forget_asked}
-use Rattle.rtcp_engine.specs.answers.Steps.{OutValue}
+use Rattle.rtcp_engine.specs.answers.Acts.{EventValue, rtcp_arrived, rtp_arrived, packet_sent, time_passed, leave_asked, settings_given, forget_asked, OutValue}
 use Rattle.rtcp_guarded.specs.Guarded.{GuardedAnswer}
 use Rattle.rtcp_guarded.specs.declared.untaken.Untaken.{Untaken}
 use Rattle.rtcp_guarded.specs.declared.untaken.Untaken.TheVariants.{HeldBack, Refused}

@@ -1,8 +1,7 @@
 -- The text of a session: each line says one act or has one fault, and what holds a participant answers as its history
 -- does.
 use Rattle.std.proofs.Common.{◌≡◌, ℕ, ◌⊎◌, inl, inr, List, [], ◌++◌, Option, Result, Ok, Err, refl, sym, ◌∙◌, ap, subst}
-use Rattle.rtcp_engine.specs.answers.Acts.{Act, act_of, EventValue, IsActOfEvent}
-use Rattle.rtcp_engine.specs.answers.Steps.{AnswerValue}
+use Rattle.rtcp_engine.specs.answers.Acts.{Act, act_of, EventValue, IsActOfEvent, AnswerValue}
 use Rattle.rtcp_engine.specs.answers.Answers.{answer_of, followed_by}
 use Rattle.rtcp_engine.specs.answers.Histories.{History}
 use Rattle.rtcp_engine.specs.state.States.{ParticipantValue, StandsAt}

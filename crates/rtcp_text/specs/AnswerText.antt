@@ -10,7 +10,7 @@ use Rattle.rtcp_engine.specs.declared.refusal.Refusal.{Refusal}
 use Rattle.rtcp_engine.specs.declared.refusal.Refusal.TheVariants.{Left, Backwards, TooFar, TooMany, Wire, Rtp, OwnSsrc, Settings}
 use Rattle.rtcp_engine.specs.declared.step.OutKind.{OutKind}
 use Rattle.rtcp_engine.specs.declared.step.OutKind.TheVariants.{Report, Bye}
-use Rattle.rtcp_engine.specs.answers.Steps.{OutValue, StepValue, AnswerValue}
+use Rattle.rtcp_engine.specs.answers.Acts.{OutValue, StepValue, AnswerValue}
 use Rattle.rtcp_text.specs.Text.{fault_words, hex_word}
 
 -- ---- Steps

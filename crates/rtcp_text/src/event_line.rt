@@ -1,8 +1,8 @@
 //! A line of a session, as `rtcp replay` reads it.
 
 ghost use Rattle.std.specs.Prelude.{◌≡◌, ℕ, List, Ok, Err, IfOk, IfErr};
-ghost use Rattle.rtcp_engine.specs.answers.Acts.{EventValue, settings_given};
-ghost use Rattle.rtcp_engine.specs.state.Views.{event_value, settings_value};
+ghost use Rattle.rtcp_engine.specs.answers.Acts.{EventValue, settings_given, settings_value};
+ghost use Rattle.rtcp_engine.specs.state.Views.{event_value};
 ghost use Rattle.rtcp_text.specs.EventLines.{arrival, configuring, event_in, fields_left, forgetting, kind_named, leave, moment_in, octets_in, seldom_named, sending, tick};
 ghost use Rattle.rtcp_text.specs.declared.event_line.EventFault.TheVariants.{Line};
 ghost use Rattle.rtcp_text.specs.declared.fault.LineFault.{LineFault as Fault};

@@ -1,8 +1,8 @@
 //! The settings of a session, as fields of a line and options of a command line write them.
 
 ghost use Rattle.std.specs.Prelude.{◌≡◌, map, option_map};
-ghost use Rattle.rtcp_report.specs.Views.{item_value};
-ghost use Rattle.rtcp_engine.specs.state.Views.{clock_value};
+ghost use Rattle.rtcp_report.specs.Reports.{item_value};
+ghost use Rattle.rtcp_engine.specs.answers.Acts.{clock_value};
 ghost use Rattle.rtcp_text.specs.SettingsFields.{clock_in, clocks_in, item_in, items_in, sides_in};
 
 use crate::numerals::{read_hex_text, read_short_decimal, read_small_decimal};

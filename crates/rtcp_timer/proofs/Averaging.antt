@@ -1,7 +1,8 @@
 -- The average of sizes between two numbers lies between them.
 use Rattle.std.proofs.Common.{ℕ, ◌*◌, List, [], ◌∷◌, All, arith}
 use Rattle.std.proofs.lemmas.List.Elements.{All-head, All-tail}
-use Rattle.rtcp_timer.specs.Averages.{with_headers, moved_average, average_of, IsBetween}
+use Rattle.rtcp_timer.specs.Averages.{moved_average, IsBetween}
+use Rattle.rtcp_timer.specs.Loads.{with_headers, average_of}
 
 -- the same after one more compound
 moved_between : (low high average size : ℕ) → IsBetween low high size →

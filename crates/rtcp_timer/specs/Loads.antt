@@ -1,8 +1,17 @@
--- The deterministic interval (RFC 3550, 6.3.1), in microseconds. The average is in 1/256 octet, and the
--- bandwidth in octets a second.
-use Rattle.std.specs.Prelude.{ℕ, ◌+◌, ◌-◌, ◌*◌, ◌≤◌, Bool, nat_lt, nat_le, max, if◌then◌else◌}
+-- The deterministic interval (RFC 3550, 6.3.1), in microseconds. The average size of compounds (6.3.3) is in 1/256
+-- octet, and the bandwidth in octets a second. Lists of sizes are newest first.
+use Rattle.std.specs.Prelude.{ℕ, ◌+◌, ◌-◌, ◌*◌, ◌≤◌, Bool, nat_lt, nat_le, max, if◌then◌else◌, List, ◌/◌, [], ◌∷◌}
 use Rattle.std.specs.Int.{div_ceil}
 use Rattle.rtcp_timer.specs.declared.load.Load.{Load}
+
+-- the size of a compound with its UDP and IPv4 headers (6.2)
+abbrev pub with_headers : (size : ℕ) → ℕ
+with_headers size = size + 28
+
+-- The average over a first compound and those since: each weighs 1/16, and the average before it 15/16.
+abbrev pub average_of : (first : ℕ) (sizes : List ℕ) → ℕ
+average_of first [] = 256 * with_headers first
+average_of first (size ∷ sizes) = (256 * with_headers size + 15 * average_of first sizes) / 16
 
 -- the interval in which a bandwidth carries one compound of average size from each of so many
 abbrev pub interval_for : (count bandwidth : ℕ) → Load → ℕ

@@ -1,7 +1,8 @@
 //! The average size of compounds (RFC 3550, 6.3.3).
 
 ghost use Rattle.std.specs.Prelude.{◌≡◌, ◌≤◌, ◌*◌, ℕ, List, [], ◌∷◌};
-ghost use Rattle.rtcp_timer.specs.Averages.{with_headers, average_of, moved_average};
+ghost use Rattle.rtcp_timer.specs.Averages.{moved_average};
+ghost use Rattle.rtcp_timer.specs.Loads.{with_headers, average_of};
 
 use std::marker::Model;
 

@@ -3,9 +3,9 @@
 
 ghost use Rattle.std.specs.Prelude.{ℕ, ◌≡◌, ◌+◌, ◌-◌, ◌*◌, ◌^◌, ◌<◌, ◌≤◌, max, min, true, false, List, All};
 ghost use Rattle.rtcp_clock.specs.Intervals.{drawn_interval};
-ghost use Rattle.rtcp_timer.specs.Averages.{with_headers, average_of, IsBetween};
+ghost use Rattle.rtcp_timer.specs.Averages.{IsBetween};
 ghost use Rattle.rtcp_timer.specs.declared.load.Load.{Load};
-ghost use Rattle.rtcp_timer.specs.Loads.{minimum_of, interval_for, interval_of, KeepsToShare};
+ghost use Rattle.rtcp_timer.specs.Loads.{minimum_of, interval_for, interval_of, KeepsToShare, with_headers, average_of};
 ghost use Rattle.rtcp_timer.specs.Quarters.{quarterly_interval};
 ghost use Rattle.rtcp_timer.specs.Schedules.{Happening, transmitted, tried, recounted, Timing, IsDue, IsInOrder, IsWithin, after, schedule_at, newest_moment, newest_transmission, greatest_draw};
 ghost use Rattle.rtcp_timer.specs.Departures.{members_known, last_departure, last_moment, next_moment};

@@ -4,10 +4,11 @@ use Rattle.std.proofs.lemmas.List.{drop-drop, length-drop, length-take-le}
 use Rattle.byteorder.specs.Endian.{big_number}
 use Rattle.rtcp_wire.specs.declared.rtp.fault.RtpFault.{RtpFault}
 use Rattle.rtcp_wire.specs.declared.rtp.fault.RtpFault.TheVariants.{Short, Version, PayloadType, Extension, Padding}
-use Rattle.rtcp_wire.specs.RtpHeads.{RtpValue, rtp_version_of, has_padding, has_extension, csrc_count_of, marker_of, payload_type_of, IsReserved, extension_size, IsRtpHead, lists_size, after_csrcs, without_extension, after_extension, csrcs_in, IsRtpFault, IsPadded, without_padding, HoldsPayload, FindsAround}
+use Rattle.rtcp_wire.specs.RtpHeads.{rtp_version_of, has_padding, has_extension, csrc_count_of, marker_of, payload_type_of, IsReserved, extension_size, IsRtpHead, lists_size, after_csrcs, without_extension, after_extension, csrcs_in, IsRtpFault, IsPadded, without_padding, HoldsPayload, FindsAround}
 use Rattle.rtcp_wire.proofs.RtpLists.{words_joined}
 use Rattle.rtcp_wire.proofs.RtpHeading.{head_in, values_equal, head_made}
 use Rattle.rtcp_wire.proofs.RtpFaults.{is_extension, is_padding, not_padded}
+use Rattle.rtcp_wire.specs.Values.{RtpValue}
 
 -- The fixed part was taken, and there is room for the CSRC list.
 pub record HasRoom (octets reader : List ℕ) (csrcs_size : ℕ) : Type 0 where

@@ -5,12 +5,13 @@ use Rattle.std.proofs.lemmas.List.{length-drop}
 use Rattle.std.proofs.lemmas.Bool.{ltb-true, ltb-false, leb-true, leb-false, eqb-true, eqb-false, not-true, not-false, and_parts, and_cases, or_cases, or_parts, cond_both}
 use Rattle.rtcp_wire.specs.declared.rtp.fault.RtpFault.{RtpFault}
 use Rattle.rtcp_wire.specs.declared.rtp.fault.RtpFault.TheVariants.{Padding}
-use Rattle.rtcp_wire.specs.RtpHeads.{RtpValue, rtp_version_of, has_padding, has_extension, csrc_count_of, payload_type_of, IsReserved, extension_size, IsRtpHead, lists_size, after_csrcs, without_extension, after_extension, last_of, IsRtpFault, csrcs_in, IsPadded, without_padding}
+use Rattle.rtcp_wire.specs.RtpHeads.{rtp_version_of, has_padding, has_extension, csrc_count_of, payload_type_of, IsReserved, extension_size, IsRtpHead, lists_size, after_csrcs, without_extension, after_extension, last_of, IsRtpFault, csrcs_in, IsPadded, without_padding}
 use Rattle.rtcp_wire.specs.RtpReadings.{rtp_in}
 use Rattle.rtcp_wire.specs.Walks.{ids_in}
 use Rattle.rtcp_wire.proofs.RtpHeading.{head_in, head_made}
 use Rattle.rtcp_wire.proofs.RtpFaults.{one_head, one_fault, never_both, is_short, is_version, is_payload_type, is_extension, is_padding}
 use Rattle.rtcp_wire.proofs.WalkSteps.{own_ids, csrcs_are_ids}
+use Rattle.rtcp_wire.specs.Values.{RtpValue}
 
 -- ---- What each test says, where it finds a fault and where it finds none
 

@@ -3,9 +3,10 @@ use Rattle.std.proofs.Common.{◌≡◌, ◌≢◌, ℕ, suc, ◌<◌, ◌≤◌
 use Rattle.std.proofs.lemmas.Bool.{cases_lt, cases_eq}
 use Rattle.rtcp_wire.specs.declared.rtp.fault.RtpFault.{RtpFault}
 use Rattle.rtcp_wire.specs.declared.rtp.fault.RtpFault.TheVariants.{Short, Version, PayloadType, Extension, Padding}
-use Rattle.rtcp_wire.specs.RtpHeads.{RtpValue, rtp_version_of, has_extension, payload_type_of, IsReserved, extension_size, IsRtpHead, lists_size, after_csrcs, after_extension, last_of, FindsRtp, rtp_number_of, IsRtpFault, IsPadded}
+use Rattle.rtcp_wire.specs.RtpHeads.{rtp_version_of, has_extension, payload_type_of, IsReserved, extension_size, IsRtpHead, lists_size, after_csrcs, after_extension, last_of, FindsRtp, rtp_number_of, IsRtpFault, IsPadded}
 use Rattle.rtcp_wire.proofs.FirstFound.{first_of_all, one_further, one_first}
 use Rattle.rtcp_wire.proofs.RtpHeading.{IsSoundRtp, sound_head}
+use Rattle.rtcp_wire.specs.Values.{RtpValue}
 
 -- ---- Packets
 

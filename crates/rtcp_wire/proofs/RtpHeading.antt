@@ -2,8 +2,9 @@
 use Rattle.std.proofs.Common.{◌≡◌, ℕ, ◌*◌, ◌/◌, ◌%◌, ◌≤◌, ◌==◌, Bool, true, List, ◌++◌, length, take, drop, slice_index, sym, ap, subst, ◌∙◌, append_assoc, arith}
 use Rattle.std.proofs.lemmas.List.{take-append-drop, drop-drop, length-append, length-drop, length-take-le, get_or_append_left}
 use Rattle.byteorder.specs.Endian.{big_number}
-use Rattle.rtcp_wire.specs.RtpHeads.{RtpValue, rtp_version_of, has_padding, has_extension, csrc_count_of, marker_of, payload_type_of, IsReserved, extension_size, IsExtensionPart, IsPaddingPart, IsRtpHead, lists_size, after_csrcs, without_extension, after_extension, csrcs_in, IsPadded, without_padding}
+use Rattle.rtcp_wire.specs.RtpHeads.{rtp_version_of, has_padding, has_extension, csrc_count_of, marker_of, payload_type_of, IsReserved, extension_size, IsExtensionPart, IsPaddingPart, IsRtpHead, lists_size, after_csrcs, without_extension, after_extension, csrcs_in, IsPadded, without_padding}
 use Rattle.rtcp_wire.proofs.RtpLists.{cut_at, big_number-prefix, joined_csrcs, words_joined, extension_off, extension_on, padding_off, padding_on}
+use Rattle.rtcp_wire.specs.Values.{RtpValue}
 
 -- the fields where they stand, and the payload between the extension and the padding
 abbrev pub head_in : List ℕ → RtpValue

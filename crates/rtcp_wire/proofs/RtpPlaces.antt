@@ -2,9 +2,10 @@
 use Rattle.std.proofs.Common.{◌≡◌, ◌==◌, ℕ, ◌+◌, ◌/◌, ◌%◌, if◌then◌else◌, List, ◌++◌, length, ap, ◌∙◌, append_assoc, arith}
 use Rattle.std.proofs.lemmas.List.{length-append, get_or_append_left}
 use Rattle.rtcp_wire.specs.Placed.{StandsIn}
-use Rattle.rtcp_wire.specs.RtpHeads.{RtpValue, IsRtpHead, has_padding, last_of}
+use Rattle.rtcp_wire.specs.RtpHeads.{IsRtpHead, has_padding, last_of}
 use Rattle.rtcp_wire.proofs.Prefixes.{length_parts}
 use Rattle.rtcp_wire.proofs.RtpLists.{padding_off}
+use Rattle.rtcp_wire.specs.Values.{RtpValue}
 
 module _ (octets : List ℕ) (head : RtpValue) (h : IsRtpHead octets head) where
   abbrev before : List ℕ

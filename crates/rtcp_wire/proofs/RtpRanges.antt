@@ -1,8 +1,9 @@
 -- The numbers that an RTP header says.
 use Rattle.std.proofs.Common.{ℕ, ◌^◌, ◌<◌, ◌≤◌, List, ◌++◌, All, length, refl, subst, sym, arith}
 use Rattle.rtcp_wire.specs.Grammar.{AreOctets}
-use Rattle.rtcp_wire.specs.RtpHeads.{RtpValue, IsReserved, IsCsrc, IsRtpHead}
+use Rattle.rtcp_wire.specs.RtpHeads.{IsReserved, IsCsrc, IsRtpHead}
 use Rattle.rtcp_wire.proofs.Octets.{number_fits, number_fits_after, both_octets, each_joined}
+use Rattle.rtcp_wire.specs.Values.{RtpValue}
 
 csrc_fits : (csrc : ℕ) (octets : List ℕ) → AreOctets octets → IsCsrc csrc octets → csrc < 2 ^ 32
 csrc_fits csrc octets all h = subst (λ (n : ℕ). n < 2 ^ 32) (sym h.1) (number_fits 4 octets all)

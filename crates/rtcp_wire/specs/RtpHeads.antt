@@ -5,16 +5,7 @@ use Rattle.byteorder.specs.Endian.{big_number}
 use Rattle.rtcp_wire.specs.declared.rtp.fault.RtpFault.{RtpFault}
 use Rattle.rtcp_wire.specs.declared.rtp.fault.RtpFault.TheVariants.{Short, Version, PayloadType, Extension, Padding}
 use Rattle.rtcp_wire.specs.Grammar.{Joins}
-
--- what an RTP packet says: the fields of its header, and its payload without the padding
-pub record RtpValue : Type 0 where
-  pub payload_type : ℕ
-  pub marker : Bool
-  pub sequence : ℕ
-  pub timestamp : ℕ
-  pub ssrc : ℕ
-  pub csrcs : List ℕ
-  pub payload : List ℕ
+use Rattle.rtcp_wire.specs.Values.{RtpValue}
 
 -- ---- The first two octets (5.1): version 2, padding bit, extension bit, CSRC count; marker, payload type.
 

@@ -5,7 +5,7 @@ use Rattle.byteorder.specs.Endian.{big_number}
 use Rattle.rtcp_wire.specs.declared.rtp.fault.RtpFault.{RtpFault}
 use Rattle.rtcp_wire.specs.declared.rtp.fault.RtpFault.TheVariants.{Short, Version, PayloadType, Extension, Padding}
 use Rattle.rtcp_wire.specs.Readings.{values_in}
-use Rattle.rtcp_wire.specs.RtpHeads.{RtpValue}
+use Rattle.rtcp_wire.specs.Values.{RtpValue}
 
 -- What octets say, or the first fault of these tests. RFC 3550, 5.1: twelve octets stand in each packet, and then a
 -- word for each CSRC that they count; the version is 2. RFC 3551, 6: types 72 to 76 are reserved, since with the marker

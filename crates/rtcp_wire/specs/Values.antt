@@ -1,5 +1,5 @@
--- What the octets of RTCP packets say, in numbers and lists (RFC 3550, 6.4 to 6.7).
-use Rattle.std.specs.Prelude.{ℕ, ℤ, List, Option}
+-- What the octets of RTCP packets say (RFC 3550, 6.4 to 6.7), and those of RTP packets (5.1), in numbers and lists.
+use Rattle.std.specs.Prelude.{ℕ, ℤ, List, Option, Bool, ◌≡◌, ◌≢◌, ◌+◌, ◌-◌, ◌*◌, ◌/◌, ◌%◌, ◌<◌, ◌≤◌, ◌⊎◌, ◌==◌, true, false, [], ◌∷◌, ◌++◌, length, take, drop, slice_index}
 
 -- what a sender report says of its sender (6.4.1): a moment on two clocks, and what was sent up to then
 pub record SenderValue : Type 0 where
@@ -49,3 +49,13 @@ pub data RtcpPacket : Type 0 where
   app : (subtype ssrc : ℕ) (name content : List ℕ) → RtcpPacket
   -- a packet of another type, whose body is kept as it is
   other : (kind count : ℕ) (body : List ℕ) → RtcpPacket
+
+-- what an RTP packet says: the fields of its header, and its payload without the padding
+pub record RtpValue : Type 0 where
+  pub payload_type : ℕ
+  pub marker : Bool
+  pub sequence : ℕ
+  pub timestamp : ℕ
+  pub ssrc : ℕ
+  pub csrcs : List ℕ
+  pub payload : List ℕ

@@ -3,9 +3,10 @@
 
 ghost use Rattle.std.specs.Prelude.{◌≡◌, ◌↔◌, ℕ, ◌^◌, ◌<◌, ◌≤◌, ◌⊎◌, List, All, length, Ok, Err};
 ghost use Rattle.rtcp_wire.specs.Grammar.{AreOctets};
-ghost use Rattle.rtcp_wire.specs.RtpHeads.{RtpValue, IsReserved, IsRtpHead, IsRtpFault};
+ghost use Rattle.rtcp_wire.specs.RtpHeads.{IsReserved, IsRtpHead, IsRtpFault};
 ghost use Rattle.rtcp_wire.specs.RtpReadings.{rtp_in};
 ghost use Rattle.rtcp_wire.specs.declared.rtp.fault.RtpFault.{RtpFault};
+ghost use Rattle.rtcp_wire.specs.Values.{RtpValue};
 
 /// Octets are at most one RTP packet.
 pub fn one_head()

@@ -3,8 +3,7 @@ use Rattle.std.proofs.Common.{◌≡◌, ℕ, zero, suc, List, [], ◌∷◌, �
 use Rattle.rtcp_wire.specs.Values.{rr, bye}
 use Rattle.rtcp_engine.specs.declared.refusal.Refusal.TheVariants.{Left}
 use Rattle.rtcp_engine.specs.declared.step.OutKind.TheVariants.{Bye}
-use Rattle.rtcp_engine.specs.answers.Acts.{rtcp, Act, arrived, rtp_sent, ticked, left}
-use Rattle.rtcp_engine.specs.answers.Steps.{AnswerValue}
+use Rattle.rtcp_engine.specs.answers.Acts.{rtcp, Act, arrived, rtp_sent, ticked, left, AnswerValue}
 use Rattle.rtcp_engine.specs.answers.Answers.{answers_to}
 use Rattle.rtcp_engine.proofs.examples.Rows.{start, ok, moved, sends, step_with, empty_report, named_came}
 

@@ -2,15 +2,13 @@
 use Rattle.std.proofs.Common.{◌≡◌, ℕ, List, [], ◌∷◌, Option, Some, None, Ok, Err, true, false}
 use Rattle.rtcp_wire.specs.declared.rtp.fault.RtpFault.TheVariants.{PayloadType}
 use Rattle.rtcp_wire.specs.declared.fault.FaultReason.TheVariants.{Short}
-use Rattle.rtcp_wire.specs.Values.{ItemValue, RtcpPacket, rr, sdes, bye}
-use Rattle.rtcp_wire.specs.RtpHeads.{RtpValue}
+use Rattle.rtcp_wire.specs.Values.{ItemValue, RtcpPacket, rr, sdes, bye, RtpValue}
 use Rattle.rtcp_engine.specs.declared.refusal.Refusal.TheVariants.{Backwards, TooFar, Wire, Rtp}
 use Rattle.rtcp_engine.specs.declared.step.OutKind.TheVariants.{Report}
 use Rattle.rtcp_engine.specs.answers.Setups.{Setup}
-use Rattle.rtcp_engine.specs.answers.Acts.{rtcp, rtp, Act, arrived, rtp_sent, ticked}
+use Rattle.rtcp_engine.specs.answers.Acts.{rtcp, rtp, Act, arrived, rtp_sent, ticked, AnswerValue, OutValue, StepValue}
 use Rattle.rtcp_engine.specs.answers.Outcomes.{timing_of, beginning}
 use Rattle.rtcp_engine.specs.answers.Histories.{History}
-use Rattle.rtcp_engine.specs.answers.Steps.{AnswerValue, OutValue, StepValue}
 use Rattle.rtcp_engine.specs.answers.Answers.{answers_to}
 
 abbrev pub setup : Setup

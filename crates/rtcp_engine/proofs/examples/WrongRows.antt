@@ -9,14 +9,13 @@ use Rattle.rtcp_members.specs.Stays.{stay_of}
 use Rattle.rtcp_members.specs.Listings.{StateValue, state_in_stay}
 use Rattle.rtcp_engine.specs.answers.Setups.{IsUsable}
 use Rattle.rtcp_engine.specs.answers.Acts.{Datagram, rtcp, Act, arrived, rtp_sent, ticked, left}
-use Rattle.rtcp_engine.specs.answers.Answers.{followed_by}
+use Rattle.rtcp_engine.specs.answers.Answers.{followed_by, refusal_after}
 use Rattle.rtcp_engine.specs.answers.Changes.{is_taken, new_identifier}
 use Rattle.rtcp_engine.specs.answers.Histories.{History, last_moment, life_at, session_at, setup_at}
 use Rattle.rtcp_engine.specs.bounds.InTime.{BringsOut, longest_wait}
 use Rattle.rtcp_engine.specs.answers.Leaving.{Backoff, Life, present, backing_off, finished, backoff_from, leaving_timing}
 use Rattle.rtcp_engine.specs.answers.Lives.{ListsInLife}
 use Rattle.rtcp_engine.specs.answers.Outcomes.{Outcome}
-use Rattle.rtcp_engine.specs.answers.Refusals.{refusal_after}
 use Rattle.rtcp_engine.specs.bounds.Sent.{Sent, reports_in, sent_at}
 use Rattle.rtcp_engine.specs.bounds.Spacing.{HalfPasses, newest_moment, count_within, leave_moment, first_leave, is_last_bye, EndsWithBye, LiesAfter}
 use Rattle.rtcp_engine.specs.state.States.{ParticipantValue, StandsAt}

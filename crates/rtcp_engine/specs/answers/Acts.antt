@@ -1,15 +1,23 @@
--- What a participant is told: what came, what was sent beside it, that time has passed, that its settings change, that
--- a source is gone, and that it is to leave. Moments are in microseconds since the session began.
-use Rattle.std.specs.Prelude.{◌≡◌, ℕ, List, length, Result, Ok, Err}
+-- What a participant is told, and what it answers. It is told what came, what was sent beside it, that time has passed,
+-- that its settings change, that a source is gone, and that it is to leave. Moments are in microseconds since the session
+-- began.
+use Rattle.std.specs.Prelude.{◌≡◌, ℕ, List, length, Result, Ok, Err, Bool, None, Option, Some, map, ◌≤◌, ◌<◌, ◌^◌, take, drop, [], ◌∷◌, option_map}
 use Rattle.rtcp_wire.specs.declared.fault.WireFault.{WireFault}
 use Rattle.rtcp_wire.specs.declared.rtp.fault.RtpFault.{RtpFault}
-use Rattle.rtcp_wire.specs.Values.{RtcpPacket}
+use Rattle.rtcp_wire.specs.Values.{RtcpPacket, RtpValue}
 use Rattle.rtcp_wire.specs.Grammar.{IsAccepted}
 use Rattle.rtcp_wire.specs.Faults.{IsFirstFault}
 use Rattle.rtcp_wire.specs.Readings.{rtcp_in}
-use Rattle.rtcp_wire.specs.RtpHeads.{RtpValue, IsRtpHead, IsRtpFault}
+use Rattle.rtcp_wire.specs.RtpHeads.{IsRtpHead, IsRtpFault}
 use Rattle.rtcp_wire.specs.RtpReadings.{rtp_in}
-use Rattle.rtcp_engine.specs.answers.Setups.{SettingsValue}
+use Rattle.rtcp_engine.specs.answers.Setups.{SettingsValue, ClockValue}
+use Rattle.rtcp_engine.specs.declared.step.OutKind.{OutKind}
+use Rattle.rtcp_engine.specs.declared.refusal.Refusal.{Refusal}
+use Rattle.rtcp_engine.specs.declared.event.Event.TheVariants.{ArriveRtcp, ArriveRtp, Configure, Forget, Leave, SentRtp, Tick}
+use Rattle.rtcp_engine.specs.declared.clock.Clock.{Clock}
+use Rattle.rtcp_engine.specs.declared.event.Event.{Event}
+use Rattle.rtcp_engine.specs.declared.settings.Settings.{Settings}
+use Rattle.rtcp_report.specs.Reports.{item_value}
 
 -- What a datagram says that came.
 pub data Datagram : Type 0 where
@@ -99,3 +107,53 @@ act_of (forget_asked moment ssrc) = forgotten moment ssrc
 
 abbrev pub IsActOfEvent : EventValue → Act → Type 0
 IsActOfEvent event act = act ≡ act_of event
+
+pub record OutValue : Type 0 where
+  pub kind : OutKind
+  pub octets : List ℕ
+
+-- what is answered to an act that is taken
+pub record StepValue : Type 0 where
+  -- a compound to send, if there is one
+  pub out : Option OutValue
+  -- with the participant among them
+  pub members : ℕ
+  pub senders : ℕ
+  -- the places of the table that are taken
+  pub entries : ℕ
+  -- the moment to ask again
+  pub next : Option ℕ
+  -- the new identifier, where the call changed it
+  pub changed : Option ℕ
+  -- whether the call changed who of the others is a member, or who of them sends
+  pub others_changed : Bool
+
+abbrev pub AnswerValue : Type 0
+AnswerValue = Result StepValue Refusal
+
+abbrev pub answer_unless : Option Refusal → StepValue → AnswerValue
+answer_unless None step = Ok step
+answer_unless (Some refusal) step = Err refusal
+
+abbrev pub clock_value : Clock → ClockValue
+clock_value clock = record { payload_type = clock.payload_type; rate = clock.rate }
+
+abbrev pub settings_value : Settings → SettingsValue
+settings_value settings = record {
+  sender_bw = settings.sender_bw;
+  receiver_bw = settings.receiver_bw;
+  rate = settings.rate;
+  clocks = map clock_value settings.clocks.items;
+  ntp_base = settings.ntp_base;
+  extras = map item_value settings.extras.items;
+}
+
+-- What a participant is told by an event. What the octets of a datagram say stands in it.
+abbrev pub act_told : Event → Act
+act_told (ArriveRtcp now peer word bytes) = arrived now peer word (rtcp (length bytes.now) (rtcp_in bytes.now))
+act_told (ArriveRtp now peer word bytes) = arrived now peer word (rtp (rtp_in bytes.now))
+act_told (SentRtp now timestamp octets) = rtp_sent now timestamp octets
+act_told (Tick now first_word second_word) = ticked now first_word second_word
+act_told (Leave now word) = left now word
+act_told (Configure now settings) = configured now (settings_value settings.now)
+act_told (Forget now ssrc) = forgotten now ssrc

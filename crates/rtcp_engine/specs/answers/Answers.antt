@@ -1,12 +1,49 @@
--- What a participant answers to an act, after the acts that it took before.
-use Rattle.std.specs.Prelude.{ℕ, List, [], ◌∷◌, Some, None, option_map, Result, Ok, Err}
+-- What a participant answers to an act, after the acts that it took before, or why it refuses the act.
+use Rattle.std.specs.Prelude.{ℕ, List, [], ◌∷◌, Some, None, option_map, Result, Ok, Err, Option, length, map, nat_le, nat_lt, not, ◌-◌, ◌^◌, ◌&&◌, Bool, if◌then◌else◌}
 use Rattle.rtcp_engine.specs.declared.refusal.Refusal.{Refusal}
-use Rattle.rtcp_engine.specs.answers.Acts.{Act}
-use Rattle.rtcp_engine.specs.answers.Changes.{change_by}
-use Rattle.rtcp_engine.specs.answers.Histories.{History, brought_by, session_at, session_for, with_act}
+use Rattle.rtcp_engine.specs.answers.Acts.{Act, StepValue, AnswerValue, answer_unless, Datagram, arrived, configured, moment_of, rtcp, rtp}
+use Rattle.rtcp_engine.specs.answers.Changes.{change_by, Session, is_about, may_change}
+use Rattle.rtcp_engine.specs.answers.Histories.{History, brought_by, session_at, session_for, with_act, last_moment}
 use Rattle.rtcp_engine.specs.answers.Lives.{entries_in_life, members_in_life, next_in_life, others_moved_by, senders_in_life}
-use Rattle.rtcp_engine.specs.answers.Refusals.{refusal_after}
-use Rattle.rtcp_engine.specs.answers.Steps.{StepValue, AnswerValue, answer_unless}
+use Rattle.rtcp_engine.specs.declared.refusal.Refusal.TheVariants.{Backwards, Left, OwnSsrc, Rtp, Settings, TooFar, TooMany, Wire}
+use Rattle.rtcp_engine.specs.answers.Leaving.{Life, finished}
+use Rattle.std.specs.Option.{option_or}
+use Rattle.rtcp_engine.specs.answers.Setups.{settings_error}
+
+-- why any act at a moment is refused, by the last act's moment and how many calls were taken: the first of the reasons
+abbrev pub call_refusal : (moment latest calls : ℕ) → Option Refusal
+call_refusal moment latest calls =
+    if nat_lt moment latest then Some Backwards
+    else (if nat_lt (2 ^ 50) moment then Some TooFar
+    else (if nat_le (2 ^ 40 - 1) calls then Some TooMany
+    else None))
+
+abbrev pub fault_in : Datagram → Option Refusal
+fault_in (rtcp size (Err fault)) = Some (Wire fault)
+fault_in (rtp (Err fault)) = Some (Rtp fault)
+fault_in _ = None
+
+-- Why an act is refused for what it tells: a datagram, or settings. A datagram that is about the participant itself is
+-- refused, unless it changes its identifier.
+abbrev pub refusal_of_content : Session → Act → Option Refusal
+refusal_of_content session (arrived moment peer word datagram) =
+    let peers = map (λ change. change.peer) session.changes in
+    option_or (fault_in datagram)
+    (if is_about session.setup.ssrc datagram && not (may_change peers peer) then Some OwnSsrc else None)
+refusal_of_content session (configured moment settings) = option_map Settings (settings_error settings)
+refusal_of_content session act = None
+
+-- One that is gone takes nothing more, whatever else is wrong with an act.
+abbrev pub refusal_in : Life → Option Refusal → Option Refusal
+refusal_in (finished outcome) refusal = Some Left
+refusal_in _ refusal = refusal
+
+-- Why an act is refused after a history, if it is: as any act then, or else for what it tells.
+abbrev pub refusal_after : History → Act → Option Refusal
+refusal_after history act =
+    refusal_in (session_at history).life
+    (option_or (call_refusal (moment_of act) (last_moment history.acts) (length history.acts))
+    (refusal_of_content (session_at history) act))
 
 -- what is answered to an act that is taken
 abbrev pub step_by : History → Act → StepValue

@@ -1,12 +1,11 @@
--- What the acts of a session make of it, as long as the participant takes part.
+-- What functions do one after the other where something arrives or was sent: parts of an act (Lives).
 use Rattle.std.specs.Prelude.{ℕ, ◌==◌, not, Bool, List, [], ◌∷◌, map, filter, length, if◌then◌else◌, Result, Ok, Err}
 use Rattle.rtcp_wire.specs.declared.fact.Fact.{Fact}
 use Rattle.rtcp_wire.specs.declared.fact.Fact.TheVariants.{Heard, Media}
 use Rattle.rtcp_wire.specs.declared.fault.WireFault.{WireFault}
 use Rattle.rtcp_wire.specs.declared.rtp.fault.RtpFault.{RtpFault}
-use Rattle.rtcp_wire.specs.Values.{RtcpPacket}
+use Rattle.rtcp_wire.specs.Values.{RtcpPacket, RtpValue}
 use Rattle.rtcp_wire.specs.Facts.{facts_of}
-use Rattle.rtcp_wire.specs.RtpHeads.{RtpValue}
 use Rattle.rtcp_members.specs.Present.{with_facts}
 use Rattle.rtcp_members.specs.Members.{counted_at}
 use Rattle.rtcp_engine.specs.answers.Setups.{Setup, rate_among}
@@ -15,48 +14,7 @@ use Rattle.rtcp_engine.specs.answers.OwnStreams.{packet_sent, counts_anew, has_s
 use Rattle.rtcp_engine.specs.answers.Reporting.{bye_octets}
 use Rattle.rtcp_engine.specs.answers.Outcomes.{Outcome, with_pace}
 use Rattle.rtcp_engine.specs.answers.Ticks.{with_recount, after_tick, without_source}
-
--- ---- Arrivals
-
--- A compound that came (RFC 3550, 6.3.3, 6.3.7): its facts are noted, it moves the average, and members may have
--- departed.
-abbrev pub with_compound : Setup → (t size : ℕ) → List RtcpPacket → Outcome → Outcome
-with_compound setup t size packets outcome =
-    with_recount setup t (record outcome {
-      trace = with_facts (facts_of packets) t outcome.trace;
-      sizes = size ∷ outcome.sizes;
-    })
-
--- An RTP packet that came (6.3.3): the fact of the packet, whose timestamp counts in the clock of its payload type, and
--- if it is counted, facts of its contributing sources too, but for the participant itself.
-abbrev pub with_media : Setup → (t : ℕ) → RtpValue → Outcome → Outcome
-with_media setup t head outcome =
-    let rate = rate_among setup.settings.clocks setup.settings.rate head.payload_type in
-    let fact : Fact = Media head.ssrc head.sequence head.timestamp (length head.payload) rate in
-    let csrcs = map Heard (filter (λ ssrc. not (ssrc == setup.ssrc)) head.csrcs) in
-    record outcome {
-      trace =
-          with_facts (fact ∷ (if counted_at setup.capacity outcome.trace fact then csrcs else [])) t outcome.trace;
-    }
-
--- What a datagram with a fault would change is nothing, and so no history holds one.
-abbrev pub with_datagram : Setup → (t : ℕ) → Datagram → Outcome → Outcome
-with_datagram setup t (rtcp size (Ok packets)) outcome = with_compound setup t size packets outcome
-with_datagram setup t (rtp (Ok head)) outcome = with_media setup t head outcome
-with_datagram setup t _ outcome = outcome
-
--- ---- Changes of identifier
-
--- The BYE of the old identifier is a compound that was sent, if something was sent under that one. The counts of the
--- own stream begin anew.
-abbrev pub with_change : Setup → Outcome → Outcome
-with_change setup outcome =
-    record outcome {
-      own = counts_anew ∷ outcome.own;
-      sizes = if has_sent outcome.own then length (bye_octets setup) ∷ outcome.sizes else outcome.sizes;
-    }
-
--- ---- What functions do one after the other: each unfolds to a part of what stands above, or of an act (Lives)
+use Rattle.rtcp_engine.specs.answers.Lives.{with_datagram}
 
 abbrev pub with_facts_of : (t size : ℕ) → List RtcpPacket → Outcome → Outcome
 with_facts_of t size packets outcome =

@@ -2,9 +2,8 @@
 use Rattle.std.specs.Prelude.{ℕ, Bool, List, [], ◌∷◌, Option}
 use Rattle.std.specs.Option.{option_or}
 use Rattle.rtcp_engine.specs.answers.Setups.{Setup}
-use Rattle.rtcp_engine.specs.answers.Acts.{Act, configured, moment_of}
+use Rattle.rtcp_engine.specs.answers.Acts.{Act, configured, moment_of, OutValue}
 use Rattle.rtcp_engine.specs.answers.Outcomes.{beginning}
-use Rattle.rtcp_engine.specs.answers.Steps.{OutValue}
 use Rattle.rtcp_engine.specs.answers.Leaving.{Life, present}
 use Rattle.rtcp_engine.specs.answers.Lives.{made_by}
 use Rattle.rtcp_engine.specs.answers.Changes.{Session, bye_of_change, change_by, changed_by}

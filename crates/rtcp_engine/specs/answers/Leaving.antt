@@ -5,8 +5,7 @@ use Rattle.rtcp_clock.specs.Intervals.{drawn_interval}
 use Rattle.rtcp_wire.specs.declared.fault.WireFault.{WireFault}
 use Rattle.rtcp_wire.specs.Values.{RtcpPacket, bye}
 use Rattle.rtcp_timer.specs.declared.load.Load.{Load}
-use Rattle.rtcp_timer.specs.Averages.{average_of}
-use Rattle.rtcp_timer.specs.Loads.{interval_of}
+use Rattle.rtcp_timer.specs.Loads.{interval_of, average_of}
 use Rattle.rtcp_timer.specs.Schedules.{Happening, transmitted, tried, Timing, schedule_at}
 use Rattle.rtcp_engine.specs.answers.Setups.{Setup}
 use Rattle.rtcp_engine.specs.answers.OwnStreams.{has_sent, counts_anew}

@@ -1,26 +1,63 @@
 -- What the acts of a session make of it, its leave included: the participant takes part, backs off, or has finished.
-use Rattle.std.specs.Prelude.{ℕ, ◌≡◌, ◌+◌, ◌-◌, ◌==◌, ◌&&◌, nat_le, not, Bool, false, List, [], ◌∷◌, length, if◌then◌else◌, Option, Some, None, option_map, Result, Ok, Err}
+use Rattle.std.specs.Prelude.{ℕ, ◌≡◌, ◌+◌, ◌-◌, ◌==◌, ◌&&◌, nat_le, not, Bool, false, List, [], ◌∷◌, length, if◌then◌else◌, Option, Some, None, option_map, Result, Ok, Err, filter, map}
 use Rattle.rtcp_wire.specs.declared.fault.WireFault.{WireFault}
-use Rattle.rtcp_wire.specs.Values.{RtcpPacket}
-use Rattle.rtcp_members.specs.Present.{names, source_forgotten}
+use Rattle.rtcp_wire.specs.Values.{RtcpPacket, RtpValue}
+use Rattle.rtcp_members.specs.Present.{names, source_forgotten, with_facts}
 use Rattle.rtcp_members.specs.Present.{present_among, stay_of}
 use Rattle.rtcp_members.specs.Entries.{EntryValue, entry_at}
-use Rattle.rtcp_members.specs.Members.{members_at, moved_within}
+use Rattle.rtcp_members.specs.Members.{members_at, moved_within, counted_at}
 use Rattle.rtcp_members.specs.Listings.{StateValue, ListsAbove, IsWalk}
 use Rattle.rtcp_engine.specs.declared.step.Standing.{Standing}
 use Rattle.rtcp_engine.specs.declared.step.OutKind.TheVariants.{Report, Bye}
-use Rattle.rtcp_engine.specs.answers.Setups.{Setup, SettingsValue}
+use Rattle.rtcp_engine.specs.answers.Setups.{Setup, SettingsValue, rate_among}
 use Rattle.rtcp_clock.specs.Intervals.{drawn_interval}
 use Rattle.rtcp_timer.specs.Loads.{interval_of}
 use Rattle.rtcp_timer.specs.Schedules.{transmitted, tried}
-use Rattle.rtcp_engine.specs.answers.Acts.{Act, rtcp, arrived, rtp_sent, ticked, left, configured, forgotten}
+use Rattle.rtcp_engine.specs.answers.Acts.{Act, rtcp, arrived, rtp_sent, ticked, left, configured, forgotten, OutValue, StepValue, Datagram, rtp}
 use Rattle.rtcp_engine.specs.answers.OwnStreams.{has_sent, counts_anew, packet_sent}
 use Rattle.rtcp_engine.specs.answers.Reporting.{bye_octets, report_octets}
 use Rattle.rtcp_engine.specs.answers.Outcomes.{Outcome, check_interval, interval_at, member_count, sender_count, timing_of, with_pace}
-use Rattle.rtcp_engine.specs.answers.Arrivals.{with_change, with_datagram}
-use Rattle.rtcp_engine.specs.answers.Steps.{OutValue, StepValue}
 use Rattle.rtcp_engine.specs.answers.Ticks.{checked, horizons_of, with_draw, with_recount, with_report}
 use Rattle.rtcp_engine.specs.answers.Leaving.{Backoff, Life, present, backing_off, finished, after_own_bye, leaving_count, leaving_interval, leaving_load, leaving_timing, with_byes}
+use Rattle.rtcp_wire.specs.declared.fact.Fact.{Fact}
+use Rattle.rtcp_wire.specs.declared.fact.Fact.TheVariants.{Heard, Media}
+use Rattle.rtcp_wire.specs.Facts.{facts_of}
+
+-- A compound that came (RFC 3550, 6.3.3, 6.3.7): its facts are noted, it moves the average, and members may have
+-- departed.
+abbrev pub with_compound : Setup → (t size : ℕ) → List RtcpPacket → Outcome → Outcome
+with_compound setup t size packets outcome =
+    with_recount setup t (record outcome {
+      trace = with_facts (facts_of packets) t outcome.trace;
+      sizes = size ∷ outcome.sizes;
+    })
+
+-- An RTP packet that came (6.3.3): the fact of the packet, whose timestamp counts in the clock of its payload type, and
+-- if it is counted, facts of its contributing sources too, but for the participant itself.
+abbrev pub with_media : Setup → (t : ℕ) → RtpValue → Outcome → Outcome
+with_media setup t head outcome =
+    let rate = rate_among setup.settings.clocks setup.settings.rate head.payload_type in
+    let fact : Fact = Media head.ssrc head.sequence head.timestamp (length head.payload) rate in
+    let csrcs = map Heard (filter (λ ssrc. not (ssrc == setup.ssrc)) head.csrcs) in
+    record outcome {
+      trace =
+          with_facts (fact ∷ (if counted_at setup.capacity outcome.trace fact then csrcs else [])) t outcome.trace;
+    }
+
+-- What a datagram with a fault would change is nothing, and so no history holds one.
+abbrev pub with_datagram : Setup → (t : ℕ) → Datagram → Outcome → Outcome
+with_datagram setup t (rtcp size (Ok packets)) outcome = with_compound setup t size packets outcome
+with_datagram setup t (rtp (Ok head)) outcome = with_media setup t head outcome
+with_datagram setup t _ outcome = outcome
+
+-- The BYE of the old identifier is a compound that was sent, if something was sent under that one. The counts of the
+-- own stream begin anew.
+abbrev pub with_change : Setup → Outcome → Outcome
+with_change setup outcome =
+    record outcome {
+      own = counts_anew ∷ outcome.own;
+      sizes = if has_sent outcome.own then length (bye_octets setup) ∷ outcome.sizes else outcome.sizes;
+    }
 
 -- ---- Acts
 

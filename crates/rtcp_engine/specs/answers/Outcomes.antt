@@ -4,11 +4,9 @@ use Rattle.std.specs.Prelude.{ℕ, ◌+◌, ◌*◌, ◌≤◌, ◌==◌, Bool, 
 use Rattle.rtcp_clock.specs.Intervals.{drawn_interval}
 use Rattle.rtcp_members.specs.Present.{TraceStep}
 use Rattle.rtcp_members.specs.Members.{members_at, senders_at}
-use Rattle.rtcp_report.specs.Reports.{Reporter, items_of}
-use Rattle.rtcp_report.specs.Sizes.{report_size}
+use Rattle.rtcp_report.specs.Reports.{Reporter, items_of, report_size}
 use Rattle.rtcp_timer.specs.declared.load.Load.{Load}
-use Rattle.rtcp_timer.specs.Averages.{average_of}
-use Rattle.rtcp_timer.specs.Loads.{interval_of}
+use Rattle.rtcp_timer.specs.Loads.{interval_of, average_of}
 use Rattle.rtcp_timer.specs.Schedules.{Happening, transmitted, Timing, schedule_at}
 use Rattle.rtcp_engine.specs.declared.pace.Pace.{Pace}
 use Rattle.rtcp_engine.specs.answers.Setups.{Setup, SettingsValue, keeps_bandwidths}

@@ -4,8 +4,7 @@ use Rattle.rtcp_wire.specs.Values.{ItemValue, RtcpPacket}
 use Rattle.rtcp_wire.specs.Writing.{written_all}
 use Rattle.rtcp_members.specs.Present.{TraceStep, fact_came, check_made, block_made_of, source_forgotten}
 use Rattle.rtcp_members.specs.Members.{blocks_at, pending_at}
-use Rattle.rtcp_report.specs.Reports.{Reporter, packets_with, bye_of, items_of}
-use Rattle.rtcp_report.specs.Sizes.{fitting}
+use Rattle.rtcp_report.specs.Reports.{Reporter, packets_with, bye_of, items_of, fitting}
 use Rattle.rtcp_engine.specs.answers.Setups.{Setup}
 use Rattle.rtcp_engine.specs.answers.OwnStreams.{OwnValue, sent_of, stream_at}
 use Rattle.rtcp_engine.specs.answers.Outcomes.{Outcome}

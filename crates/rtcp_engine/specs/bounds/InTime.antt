@@ -6,9 +6,8 @@ use Rattle.rtcp_timer.specs.Loads.{interval_of}
 use Rattle.rtcp_engine.specs.answers.Setups.{Setup}
 use Rattle.rtcp_engine.specs.answers.Acts.{Act, rtcp, arrived, ticked, left, forgotten, moment_of}
 use Rattle.rtcp_engine.specs.answers.Outcomes.{Outcome, interval_at, member_count, nothing_yet}
-use Rattle.rtcp_engine.specs.answers.Lives.{made_by}
+use Rattle.rtcp_engine.specs.answers.Lives.{made_by, with_datagram}
 use Rattle.rtcp_engine.specs.answers.Ticks.{checked, with_report, without_source}
-use Rattle.rtcp_engine.specs.answers.Arrivals.{with_datagram}
 use Rattle.rtcp_engine.specs.answers.Histories.{History, brought_by, session_at, session_for, session_of}
 use Rattle.rtcp_engine.specs.answers.Leaving.{Life, present, backing_off, finished, leaving_interval, leaving_load}
 use Rattle.rtcp_engine.specs.bounds.Sent.{Sent, reports_in, sent_at}

@@ -1,14 +1,12 @@
 -- What a run hands to its sink. Answers are in their order, the first one first; compounds are newest first.
 use Rattle.std.specs.Prelude.{◌≡◌, ◌++◌, ◌&&◌, not, Bool, IsTrue, true, false, List, [], ◌∷◌, length, drop, Option, Some, None, is_some, Ok, Err}
 use Rattle.rtcp_engine.specs.declared.step.OutKind.TheVariants.{Report, Bye}
-use Rattle.rtcp_engine.specs.answers.Acts.{Act, ticked, moment_of}
-use Rattle.rtcp_engine.specs.answers.Answers.{followed_by, followed_by_all}
+use Rattle.rtcp_engine.specs.answers.Acts.{Act, ticked, moment_of, AnswerValue, OutValue}
+use Rattle.rtcp_engine.specs.answers.Answers.{followed_by, followed_by_all, refusal_after}
 use Rattle.rtcp_engine.specs.answers.Histories.{History, session_at}
 use Rattle.rtcp_engine.specs.bounds.InTime.{IsOverdue}
-use Rattle.rtcp_engine.specs.answers.Refusals.{refusal_after}
 use Rattle.rtcp_engine.specs.bounds.Sent.{Sent, deciding_interval, handed_out, sent_at}
 use Rattle.rtcp_engine.specs.bounds.Spacing.{AreBounded, first_leave}
-use Rattle.rtcp_engine.specs.answers.Steps.{AnswerValue, OutValue}
 
 -- the answers that a sink took between two moments
 abbrev pub taken_since : (before after : List AnswerValue) → List AnswerValue

@@ -4,13 +4,12 @@ use Rattle.rtcp_engine.specs.declared.refusal.Refusal.{Refusal}
 use Rattle.rtcp_engine.specs.declared.step.Standing.{Standing}
 use Rattle.rtcp_engine.specs.declared.step.WrittenStep.{WrittenStep}
 use Rattle.rtcp_engine.specs.declared.step.Step.{Step}
-use Rattle.rtcp_engine.specs.answers.Acts.{Act, EventValue, IsActOfEvent}
+use Rattle.rtcp_engine.specs.answers.Acts.{Act, EventValue, IsActOfEvent, AnswerValue}
 use Rattle.rtcp_engine.specs.answers.Answers.{answer_of, followed_by, taken_under}
 use Rattle.rtcp_engine.specs.answers.Histories.{History, life_at, setup_at}
 use Rattle.rtcp_engine.specs.answers.Lives.{standing_in_life}
 use Rattle.rtcp_engine.specs.bounds.Runs.{IsAnsweredInTime}
-use Rattle.rtcp_engine.specs.state.States.{Admits, KeepsCapacity, ParticipantValue, StandsAt, refusal_by}
-use Rattle.rtcp_engine.specs.answers.Steps.{AnswerValue}
+use Rattle.rtcp_engine.specs.state.States.{Admits, ParticipantValue, StandsAt, refusal_by, KeepsCapacity}
 use Rattle.rtcp_engine.specs.state.Views.{LeavesRest, answer_value, out_written, reply_value}
 
 -- ---- An act

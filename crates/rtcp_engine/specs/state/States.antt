@@ -16,12 +16,11 @@ use Rattle.rtcp_engine.specs.answers.Outcomes.{Outcome, average_size, newest_pac
 use Rattle.rtcp_engine.specs.answers.Reporting.{bye_octets, last_reported_in}
 use Rattle.rtcp_engine.specs.answers.Changes.{Session, with_ssrc}
 use Rattle.rtcp_engine.specs.answers.Histories.{History, last_moment, session_at, setup_after}
-use Rattle.rtcp_engine.specs.answers.Refusals.{call_refusal}
+use Rattle.rtcp_engine.specs.answers.Answers.{call_refusal}
 use Rattle.rtcp_engine.specs.answers.Leaving.{Backoff, Life, present, backing_off, finished, leaving_count, leaving_timing, leaving_average}
 use Rattle.rtcp_engine.specs.answers.Lives.{has_others, lived, moved_since, others_moved_by, out_by}
-use Rattle.rtcp_engine.specs.answers.Steps.{OutValue}
 use Rattle.rtcp_engine.specs.answers.Ticks.{horizons_of}
-use Rattle.rtcp_engine.specs.answers.Acts.{Act}
+use Rattle.rtcp_engine.specs.answers.Acts.{Act, OutValue}
 use Rattle.rtcp_engine.specs.state.Taken.{IsHistory}
 
 pub record State : Type 0 where

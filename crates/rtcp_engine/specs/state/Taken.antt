@@ -4,7 +4,7 @@ use Rattle.rtcp_engine.specs.answers.Setups.{Setup, IsUsable}
 use Rattle.rtcp_engine.specs.answers.Acts.{Datagram, Act, arrived, rtp_sent, ticked, left, configured, forgotten}
 use Rattle.rtcp_engine.specs.answers.Changes.{named_by}
 use Rattle.rtcp_engine.specs.answers.Histories.{History}
-use Rattle.rtcp_engine.specs.answers.Refusals.{refusal_after}
+use Rattle.rtcp_engine.specs.answers.Answers.{refusal_after}
 
 -- A datagram names few identifiers: one of 65,535 octets has room for some 16,000.
 abbrev pub NamesFew : Datagram → Type 0

@@ -1,6 +1,5 @@
 -- What the crate's types say, as values of the definitions.
 use Rattle.std.specs.Prelude.{ℕ, ◌≡◌, ◌≤◌, ◌<◌, ◌^◌, take, drop, length, List, [], ◌∷◌, map, Option, Some, None, option_map, Result, Ok, Err}
-use Rattle.rtcp_report.specs.Views.{item_value}
 use Rattle.rtcp_engine.specs.declared.clock.Clock.{Clock}
 use Rattle.rtcp_engine.specs.declared.config.Config.{Config}
 use Rattle.rtcp_engine.specs.declared.settings.Settings.{Settings}
@@ -18,23 +17,19 @@ use Rattle.rtcp_engine.specs.declared.arrival.Arrival.{Arrival}
 use Rattle.rtcp_engine.specs.declared.arrival.Arrival.TheVariants.{Rtcp, Rtp}
 use Rattle.rtcp_engine.specs.declared.event.Event.{Event}
 use Rattle.rtcp_engine.specs.declared.event.Event.TheVariants.{ArriveRtcp, ArriveRtp, SentRtp, Tick, Leave, Configure, Forget}
-use Rattle.rtcp_report.specs.Reports.{Reporter}
+use Rattle.rtcp_report.specs.Reports.{Reporter, item_value}
 use Rattle.rtcp_engine.specs.answers.Reporting.{reporter_by}
 use Rattle.rtcp_engine.specs.answers.Setups.{Setup, SettingsValue, ClockValue}
 use Rattle.rtcp_wire.specs.Readings.{rtcp_in}
 use Rattle.rtcp_wire.specs.RtpReadings.{rtp_in}
-use Rattle.rtcp_engine.specs.answers.Acts.{Datagram, rtcp, rtp, Act, arrived, rtp_sent, ticked, left, configured, forgotten, EventValue, rtcp_arrived, rtp_arrived, packet_sent, time_passed, leave_asked, settings_given, forget_asked}
+use Rattle.rtcp_engine.specs.answers.Acts.{Datagram, rtcp, rtp, Act, arrived, rtp_sent, ticked, left, configured, forgotten, EventValue, rtcp_arrived, rtp_arrived, packet_sent, time_passed, leave_asked, settings_given, forget_asked, OutValue, StepValue, AnswerValue, clock_value, settings_value}
 use Rattle.rtcp_engine.specs.answers.Changes.{named_by}
-use Rattle.rtcp_engine.specs.answers.Steps.{OutValue, StepValue, AnswerValue}
 use Rattle.rtcp_engine.specs.state.States.{PhaseValue, taking_part, leaving, over}
 
 abbrev pub phase_value : Phase → PhaseValue
 phase_value Present = taking_part
 phase_value (BackingOff members) = leaving members
 phase_value Finished = over
-
-abbrev pub clock_value : Clock → ClockValue
-clock_value clock = record { payload_type = clock.payload_type; rate = clock.rate }
 
 abbrev pub setup_of : Config → Setup
 setup_of config = record {
@@ -50,16 +45,6 @@ setup_of config = record {
     ntp_base = config.ntp_base;
     extras = map item_value config.extras.items;
   };
-}
-
-abbrev pub settings_value : Settings → SettingsValue
-settings_value settings = record {
-  sender_bw = settings.sender_bw;
-  receiver_bw = settings.receiver_bw;
-  rate = settings.rate;
-  clocks = map clock_value settings.clocks.items;
-  ntp_base = settings.ntp_base;
-  extras = map item_value settings.extras.items;
 }
 
 -- ---- Reports
@@ -159,13 +144,3 @@ event_value (Tick now first_word second_word) = time_passed now first_word secon
 event_value (Leave now word) = leave_asked now word
 event_value (Configure now settings) = settings_given now (settings_value settings.now)
 event_value (Forget now ssrc) = forget_asked now ssrc
-
--- What a participant is told by an event. What the octets of a datagram say stands in it.
-abbrev pub act_told : Event → Act
-act_told (ArriveRtcp now peer word bytes) = arrived now peer word (rtcp (length bytes.now) (rtcp_in bytes.now))
-act_told (ArriveRtp now peer word bytes) = arrived now peer word (rtp (rtp_in bytes.now))
-act_told (SentRtp now timestamp octets) = rtp_sent now timestamp octets
-act_told (Tick now first_word second_word) = ticked now first_word second_word
-act_told (Leave now word) = left now word
-act_told (Configure now settings) = configured now (settings_value settings.now)
-act_told (Forget now ssrc) = forgotten now ssrc

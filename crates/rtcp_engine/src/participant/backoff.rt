@@ -2,7 +2,7 @@
 
 ghost use Rattle.std.specs.Prelude.{◌≡◌, ◌≤◌, ℕ, Bool, Ok, None, false};
 ghost use Rattle.rtcp_engine.specs.answers.Acts.{arrived, left, rtcp, ticked};
-ghost use Rattle.rtcp_engine.specs.state.States.{Acts, KeepsCapacity, HasOthers, leaving, taking_part};
+ghost use Rattle.rtcp_engine.specs.state.States.{Acts, HasOthers, leaving, taking_part, KeepsCapacity};
 ghost use Rattle.rtcp_engine.specs.state.Views.{LeavesRest, out_in};
 
 use super::{FEW_MEMBERS, Participant, Phase};

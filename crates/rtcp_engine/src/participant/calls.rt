@@ -2,11 +2,11 @@
 //! caller's octets, and tells of it. The octets after it stay as they were, so a call without a compound leaves all.
 
 ghost use Rattle.std.specs.Prelude.{◌≡◌, ◌≤◌, ◌<◌, ◌^◌, ℕ, List, None, Ok, false};
-ghost use Rattle.rtcp_engine.specs.answers.Acts.{arrived, forget_asked, leave_asked, packet_sent, rtcp_arrived, rtp_arrived, settings_given, time_passed};
+ghost use Rattle.rtcp_engine.specs.answers.Acts.{arrived, forget_asked, leave_asked, packet_sent, rtcp_arrived, rtp_arrived, settings_given, time_passed, settings_value};
 ghost use Rattle.rtcp_engine.specs.answers.Changes.{is_about};
 ghost use Rattle.rtcp_engine.specs.state.Promises.{IsAdmitted, Replies, SaysStanding, Spares, Takes, WritesReply};
-ghost use Rattle.rtcp_engine.specs.state.States.{Admits, KeepsCapacity, refusal_by};
-ghost use Rattle.rtcp_engine.specs.state.Views.{NamesFewer, datagram_of, out_written, reply_value, settings_value, size_of, written_step_value};
+ghost use Rattle.rtcp_engine.specs.state.States.{Admits, refusal_by, KeepsCapacity};
+ghost use Rattle.rtcp_engine.specs.state.Views.{NamesFewer, datagram_of, out_written, reply_value, size_of, written_step_value};
 
 use super::{Participant, Phase};
 use crate::arrival::Arrival;

@@ -8,7 +8,7 @@ ghost use Rattle.rtcp_engine.specs.answers.Histories.{History, session_at};
 ghost use Rattle.rtcp_engine.specs.answers.Lives.{own_bye};
 ghost use Rattle.rtcp_engine.specs.state.Named.{AreTaken};
 ghost use Rattle.rtcp_engine.specs.state.Promises.{Spares, Takes, WritesReply};
-ghost use Rattle.rtcp_engine.specs.state.States.{Admits, IsIn, KeepsCapacity, StandsAt, over, refusal_by};
+ghost use Rattle.rtcp_engine.specs.state.States.{Admits, IsIn, StandsAt, over, refusal_by, KeepsCapacity};
 ghost use Rattle.rtcp_engine.specs.state.Views.{LeavesRest, NamesFewer, datagram_of, out_in, reply_value, size_of};
 
 use super::Participant;

@@ -2,10 +2,10 @@
 //! datagram and a sent packet are told that moment again: these calls are frequent, and have it at hand.
 
 ghost use Rattle.std.specs.Prelude.{◌≡◌, ◌≤◌, ◌<◌, ◌-◌, ℕ, None, false};
-ghost use Rattle.rtcp_engine.specs.answers.Acts.{arrived, configured, forgotten, left, rtp_sent, ticked};
+ghost use Rattle.rtcp_engine.specs.answers.Acts.{arrived, configured, forgotten, left, rtp_sent, ticked, settings_value};
 ghost use Rattle.rtcp_engine.specs.answers.Setups.{settings_error};
-ghost use Rattle.rtcp_engine.specs.state.States.{Acts, Admits, KeepsCapacity, called, taking_part};
-ghost use Rattle.rtcp_engine.specs.state.Views.{LeavesRest, datagram_of, out_in, settings_value, size_of};
+ghost use Rattle.rtcp_engine.specs.state.States.{Acts, Admits, called, taking_part, KeepsCapacity};
+ghost use Rattle.rtcp_engine.specs.state.Views.{LeavesRest, datagram_of, out_in, size_of};
 ghost use Rattle.rtcp_members.specs.Tables.{HasFew};
 
 use super::{Participant, Phase};

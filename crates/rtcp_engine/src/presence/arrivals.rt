@@ -2,9 +2,10 @@
 
 ghost use Rattle.std.specs.Prelude.{◌≡◌, ◌≤◌, ◌<◌, ◌-◌, ◌^◌};
 ghost use Rattle.rtcp_members.specs.Tables.{HasFew};
-ghost use Rattle.rtcp_engine.specs.answers.Arrivals.{with_compound, with_datagram, with_facts_of, with_media, with_packet};
-ghost use Rattle.rtcp_engine.specs.state.States.{Admits, Does, KeepsCapacity, MovesOthers, with_call};
+ghost use Rattle.rtcp_engine.specs.answers.Arrivals.{with_facts_of, with_packet};
+ghost use Rattle.rtcp_engine.specs.state.States.{Admits, Does, MovesOthers, with_call, KeepsCapacity};
 ghost use Rattle.rtcp_engine.specs.state.Views.{datagram_of, size_of};
+ghost use Rattle.rtcp_engine.specs.answers.Lives.{with_compound, with_datagram, with_media};
 
 use super::Presence;
 use crate::arrival::Arrival;

@@ -3,8 +3,8 @@
 ghost use Rattle.std.specs.Prelude.{◌≡◌, None, IfSome};
 ghost use Rattle.rtcp_engine.specs.answers.Outcomes.{Outcome, pace_at, IsPace};
 ghost use Rattle.rtcp_engine.specs.answers.Setups.{settings_error};
-ghost use Rattle.rtcp_engine.specs.state.States.{Agrees, IsPaceOf, KeepsCapacity, with_settings_in};
-ghost use Rattle.rtcp_engine.specs.state.Views.{settings_value};
+ghost use Rattle.rtcp_engine.specs.state.States.{Agrees, IsPaceOf, with_settings_in, KeepsCapacity};
+ghost use Rattle.rtcp_engine.specs.answers.Acts.{settings_value};
 
 use super::Presence;
 use crate::pace::{Pace, end_of, slowed};

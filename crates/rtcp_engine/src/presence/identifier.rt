@@ -3,7 +3,7 @@
 ghost use Rattle.std.specs.Prelude.{◌≡◌, is_some, option_map};
 ghost use Rattle.std.specs.FinMap as map;
 ghost use Rattle.rtcp_engine.specs.answers.Lives.{bye_out};
-ghost use Rattle.rtcp_engine.specs.state.States.{KeepsCapacity, own_bye_in, after_change, with_own_bye};
+ghost use Rattle.rtcp_engine.specs.state.States.{own_bye_in, after_change, with_own_bye, KeepsCapacity};
 ghost use Rattle.rtcp_engine.specs.state.Views.{LeavesRest, out_in};
 
 use super::Presence;

@@ -5,7 +5,7 @@ ghost use Rattle.rtcp_engine.specs.answers.Leaving.{Backoff, after_wait, backoff
 ghost use Rattle.rtcp_engine.specs.answers.Lives.{bye_out};
 ghost use Rattle.rtcp_engine.specs.answers.Outcomes.{Outcome};
 ghost use Rattle.rtcp_engine.specs.answers.Reporting.{bye_octets};
-ghost use Rattle.rtcp_engine.specs.state.States.{Agrees, DoesWaiting, KeepsCapacity, Stays, Waits};
+ghost use Rattle.rtcp_engine.specs.state.States.{Agrees, DoesWaiting, Stays, Waits, KeepsCapacity};
 ghost use Rattle.rtcp_engine.specs.state.Views.{LeavesRest, out_in};
 
 use super::Presence;

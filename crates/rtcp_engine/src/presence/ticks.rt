@@ -8,7 +8,7 @@ ghost use Rattle.rtcp_report.specs.Sizes.{reported_rows, report_of};
 ghost use Rattle.rtcp_engine.specs.answers.Setups.{IsUsable};
 ghost use Rattle.rtcp_engine.specs.answers.Lives.{report_out};
 ghost use Rattle.rtcp_engine.specs.state.Views.{LeavesRest, out_in, reporter_of, setup_of};
-ghost use Rattle.rtcp_engine.specs.state.States.{Agrees, Checks, Does, IsQuiet, KeepsCapacity, MovesOthers};
+ghost use Rattle.rtcp_engine.specs.state.States.{Agrees, Checks, Does, IsQuiet, MovesOthers, KeepsCapacity};
 ghost use Rattle.rtcp_engine.specs.answers.Outcomes.{Outcome, check_interval, check_load, receiver_load};
 ghost use Rattle.rtcp_engine.specs.answers.Reporting.{report_octets};
 ghost use Rattle.rtcp_engine.specs.answers.Ticks.{horizons_of, with_recount, without_silent, checked, is_report_due, report_due, with_report, drawn_anew, reported, tried_at, after_check, after_tick};

@@ -7,7 +7,7 @@ use Rattle.rtcp_wire.specs.declared.fault.FaultReason.TheVariants.{Short}
 use Rattle.rtcp_engine.specs.declared.config.ConfigError.TheVariants.{Bandwidth}
 use Rattle.rtcp_engine.specs.declared.refusal.Refusal.TheVariants.{Left, Wire, Settings}
 use Rattle.rtcp_engine.specs.declared.step.OutKind.TheVariants.{Report}
-use Rattle.rtcp_engine.specs.answers.Steps.{OutValue, StepValue}
+use Rattle.rtcp_engine.specs.answers.Acts.{OutValue, StepValue}
 use Rattle.rtcp_guarded.specs.declared.untaken.Reason.TheVariants.{Stranger}
 use Rattle.rtcp_json.specs.AnswerValues.{start_json, step_json, refusal_json, held_back_json}
 use Rattle.rtcp_json.specs.JsonValues.{json_line}

@@ -7,8 +7,7 @@ use Rattle.json.specs.Print.{escape_byte, print_from}
 use Rattle.rtcp_wire.specs.Values.{rr}
 use Rattle.rtcp_source.specs.Receptions.{ReceptionValue}
 use Rattle.rtcp_members.specs.Listings.{StateValue}
-use Rattle.rtcp_engine.specs.answers.Acts.{rtcp_arrived, rtp_arrived, time_passed, leave_asked}
-use Rattle.rtcp_engine.specs.answers.Steps.{StepValue}
+use Rattle.rtcp_engine.specs.answers.Acts.{rtcp_arrived, rtp_arrived, time_passed, leave_asked, StepValue}
 use Rattle.rtcp_engine.specs.declared.refusal.Refusal.TheVariants.{TooFar}
 use Rattle.rtcp_guarded.specs.declared.untaken.Reason.TheVariants.{Stranger}
 use Rattle.rtcp_guarded.specs.declared.untaken.Untaken.TheVariants.{Refused, HeldBack}

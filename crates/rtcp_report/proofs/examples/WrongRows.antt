@@ -6,8 +6,7 @@ use Rattle.rtcp_wire.specs.declared.fact.Fact.TheVariants.{Media}
 use Rattle.rtcp_members.specs.Entries.{EntryValue}
 use Rattle.rtcp_members.specs.Tables.{entry_after, new_entry}
 use Rattle.rtcp_members.specs.Pending.{EntryRow, blocks_of}
-use Rattle.rtcp_report.specs.Reports.{Reporter, packets_with, bye_of, receiver_named}
-use Rattle.rtcp_report.specs.Sizes.{report_size, fitting}
+use Rattle.rtcp_report.specs.Reports.{Reporter, packets_with, bye_of, receiver_named, report_size, fitting}
 
 -- the longest name
 abbrev name : List ℕ

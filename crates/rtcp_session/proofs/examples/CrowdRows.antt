@@ -7,18 +7,17 @@ use Rattle.std.specs.List.{list_all}
 use Rattle.std.proofs.lemmas.Bool.{and_parts, leb-true, ltb-true}
 use Rattle.std.proofs.lemmas.List.Elements.{All-nil, All-cons, All-weaker}
 use Rattle.std.proofs.lemmas.List.Sums.{AllPass-from_list_all}
-use Rattle.rtcp_wire.specs.Values.{rr, sdes}
-use Rattle.rtcp_wire.specs.RtpHeads.{RtpValue}
+use Rattle.rtcp_wire.specs.Values.{rr, sdes, RtpValue}
 use Rattle.std.specs.List.{IsDistinct}
 use Rattle.rtcp_members.specs.Entries.{entry_at, is_member, is_such}
 use Rattle.rtcp_timer.specs.declared.load.Load.{Load}
-use Rattle.rtcp_timer.specs.Averages.{with_headers}
+use Rattle.rtcp_timer.specs.Loads.{with_headers}
 use Rattle.rtcp_engine.specs.answers.Setups.{Setup}
 use Rattle.rtcp_engine.specs.answers.Acts.{Act, arrived, rtcp, rtp, rtp_sent, ticked, left, configured, forgotten}
 use Rattle.rtcp_engine.specs.answers.Histories.{History}
 use Rattle.rtcp_engine.specs.answers.Outcomes.{Outcome, first_size_of}
 use Rattle.rtcp_engine.specs.answers.Refused.{error_in}
-use Rattle.rtcp_engine.specs.answers.Refusals.{refusal_after}
+use Rattle.rtcp_engine.specs.answers.Answers.{refusal_after}
 use Rattle.rtcp_engine.specs.state.Taken.{HasWords, AllTaken, IsHistory}
 use Rattle.rtcp_engine.specs.bounds.Sent.{reports_in, sent_at}
 use Rattle.rtcp_session.specs.Windows.{in_window, later_ones, intervals_of, Decided, load_at, decided_at, HasSize, Joined, decided_within, later_within}

@@ -4,7 +4,7 @@ use Rattle.std.proofs.Common.{◌≡◌, ℕ, zero, suc, ◌+◌, ◌*◌, ◌/�
 use Rattle.std.specs.List.{list_all}
 use Rattle.std.proofs.lemmas.Bool.{and_parts, leb-true}
 use Rattle.rtcp_wire.specs.Values.{rr, sdes, bye, ChunkValue}
-use Rattle.rtcp_timer.specs.Averages.{with_headers}
+use Rattle.rtcp_timer.specs.Loads.{with_headers}
 use Rattle.rtcp_engine.specs.answers.Acts.{Act, arrived, rtcp, rtp_sent, ticked, left}
 use Rattle.rtcp_engine.specs.answers.Reporting.{bye_octets}
 use Rattle.rtcp_engine.specs.answers.Leaving.{ByeCompound, leaving_count}

@@ -8,7 +8,7 @@ use Rattle.rtcp_wire.specs.declared.fault.WireFault.{WireFault}
 use Rattle.rtcp_wire.specs.Values.{RtcpPacket, rr, bye}
 use Rattle.rtcp_wire.specs.Grammar.{IsSpelling, IsAccepted}
 use Rattle.rtcp_members.specs.Entries.{entry_at, is_member, is_such}
-use Rattle.rtcp_timer.specs.Loads.{interval_of}
+use Rattle.rtcp_timer.specs.Loads.{interval_of, with_headers}
 use Rattle.rtcp_engine.specs.answers.Setups.{Setup}
 use Rattle.rtcp_engine.specs.answers.Acts.{Act, arrived, rtcp, ticked, IsReading, rtcp_came}
 use Rattle.rtcp_engine.specs.answers.Outcomes.{Outcome, load_of, nothing_yet}
@@ -18,7 +18,6 @@ use Rattle.rtcp_engine.specs.bounds.Sent.{Sent, reports_in, sent_at}
 use Rattle.rtcp_session.specs.Windows.{in_window, later_ones, intervals_of, Decided, load_at, decided_at, HasSize, Joined, reports_within}
 use Rattle.rtcp_session.specs.Crowds.{total_reports, total_octets, alike_in, Paced, IsPaced, total_as, shares_within, AreHeard, Terms, IsCrowd, carried_in}
 use Rattle.rtcp_session.specs.Waits.{AreCounted, octets_next, Wait, all_waits, averages_of, open_at, waits_as, rtcp_bw, HasBandwidth, IsCounted, KeepsToAverage, octets_in}
-use Rattle.rtcp_timer.specs.Averages.{with_headers}
 use Rattle.rtcp_session.proofs.examples.WaitRows.{bandwidths, counted_of, such_waits, pair_is_counted, average_of_pair, alone, alone_is_counted, average_of_one, unaware, average_of_unaware, with_one_deaf, average_with_one_deaf}
 use Rattle.rtcp_session.proofs.examples.CrowdRows.{each, setup_of, named_came, packet_came, joined_with, who_hears, sender, terms, pair, crowd_of, pair_is_crowd, stands}
 

@@ -8,7 +8,7 @@ use Rattle.rtcp_engine.specs.declared.refusal.Refusal.TheVariants.{Left, Backwar
 use Rattle.rtcp_engine.specs.declared.config.ConfigError.TheVariants.{Bandwidth, Rate, Item}
 use Rattle.rtcp_engine.specs.declared.step.OutKind.TheVariants.{Report, Bye}
 use Rattle.rtcp_engine.specs.answers.Setups.{Setup}
-use Rattle.rtcp_engine.specs.answers.Steps.{OutValue, AnswerValue}
+use Rattle.rtcp_engine.specs.answers.Acts.{OutValue, AnswerValue}
 use Rattle.rtcp_engine.specs.state.Taken.{begun}
 use Rattle.rtcp_text.specs.AnswerText.{start_text, answer_text}
 use Rattle.rtcp_text.specs.Replay.{opening}

@@ -1,8 +1,8 @@
 //! The settings of a session, as fields of a line.
 
 ghost use Rattle.std.specs.Prelude.{◌≡◌, ◌++◌, ◌∷◌, OnOk, map};
-ghost use Rattle.rtcp_report.specs.Views.{item_value};
-ghost use Rattle.rtcp_engine.specs.state.Views.{clock_value, settings_value};
+ghost use Rattle.rtcp_report.specs.Reports.{item_value};
+ghost use Rattle.rtcp_engine.specs.answers.Acts.{clock_value, settings_value};
 ghost use Rattle.rtcp_text.specs.EventLines.{spaced};
 ghost use Rattle.rtcp_text.specs.SettingsFields.{clock_text, clocks_text, given_item_text, items_text, other_fields, settings_fields};
 

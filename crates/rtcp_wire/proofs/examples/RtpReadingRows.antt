@@ -1,7 +1,7 @@
 -- Worked examples: what octets say as an RTP packet, or their first fault, computed octet by octet.
 use Rattle.std.proofs.Common.{◌≡◌, ℕ, Bool, true, false, List, [], ◌∷◌, ◌++◌, Ok, Err, refl}
 use Rattle.rtcp_wire.specs.declared.rtp.fault.RtpFault.TheVariants.{Short, Version, PayloadType, Extension, Padding}
-use Rattle.rtcp_wire.specs.RtpHeads.{RtpValue}
+use Rattle.rtcp_wire.specs.Values.{RtpValue}
 use Rattle.rtcp_wire.specs.RtpReadings.{rtp_in}
 
 -- a fixed part of sequence number 0x0102, timestamp 0x00000400 and source 0x01020304, by its first two octets

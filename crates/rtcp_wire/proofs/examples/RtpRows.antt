@@ -2,8 +2,9 @@
 use Rattle.std.proofs.Common.{◌≡◌, ℕ, ◌<◌, Bool, true, false, List, [], ◌∷◌, ◌++◌, length, refl, arith, inl, inr}
 use Rattle.rtcp_wire.specs.declared.rtp.fault.RtpFault.TheVariants.{Short, Version, PayloadType, Extension, Padding}
 use Rattle.rtcp_wire.specs.Grammar.{Joins}
-use Rattle.rtcp_wire.specs.RtpHeads.{RtpValue, marker_of, payload_type_of, csrc_count_of, has_extension, has_padding, IsReserved, IsCsrc, IsFixedPart, IsExtensionPart, IsPaddingPart, IsRtpHead, IsRtpFault}
+use Rattle.rtcp_wire.specs.RtpHeads.{marker_of, payload_type_of, csrc_count_of, has_extension, has_padding, IsReserved, IsCsrc, IsFixedPart, IsExtensionPart, IsPaddingPart, IsRtpHead, IsRtpFault}
 use Rattle.rtcp_wire.proofs.RtpFaults.{is_short, is_version, is_payload_type, is_extension, is_padding}
+use Rattle.rtcp_wire.specs.Values.{RtpValue}
 
 -- what a packet of sequence number 1, timestamp 2 and source 3 says
 abbrev value : ℕ → Bool → List ℕ → List ℕ → RtpValue

@@ -5,10 +5,10 @@ use Rattle.std.specs.List.{list_all}
 use Rattle.std.proofs.lemmas.Bool.{ltb-true}
 use Rattle.std.proofs.lemmas.List.Elements.{All-nil, All-head, All-weaker, All-from_recursion}
 use Rattle.std.proofs.lemmas.List.Sums.{AllPass-from_list_all}
-use Rattle.rtcp_wire.specs.Values.{ReportBlock, ItemValue, RtcpPacket, rr, sdes, bye}
+use Rattle.rtcp_wire.specs.Values.{ReportBlock, ItemValue, RtcpPacket, rr, sdes, bye, RtpValue}
 use Rattle.rtcp_wire.specs.Grammar.{AreOctets, Joins, IsAccepted}
 use Rattle.rtcp_wire.specs.Readings.{block_in}
-use Rattle.rtcp_wire.specs.RtpHeads.{RtpValue, IsReserved, IsCsrc, IsRtpHead}
+use Rattle.rtcp_wire.specs.RtpHeads.{IsReserved, IsCsrc, IsRtpHead}
 use Rattle.rtcp_wire.specs.Writing.{written_all, IsWritable, IsWritableBlock, IsWritableItem, IsWritableChunk, IsWritableReason, IsInRange, IsBlockInRange, IsChunkInRange, BeginsWithReport}
 use Rattle.rtcp_wire.specs.Contents.{all_items, all_goodbyes, all_blocks}
 use Rattle.rtcp_wire.specs.Facts.{facts_of}

@@ -2,8 +2,9 @@
 
 ghost use Rattle.std.specs.Prelude.{◌≡◌, ◌↔◌, ◌+◌, ◌<◌, ◌≤◌, if◌then◌else◌, length, IfOk, IsOkAnd, Err, MatchResult, true};
 ghost use Rattle.rtcp_wire.specs.Placed.{StandsIn};
-ghost use Rattle.rtcp_wire.specs.RtpHeads.{RtpValue, IsReserved, IsRtpHead, IsRtpFault, extension_size, without_extension, IsPadded, without_padding, has_padding, last_of, HoldsPayload, FindsAround};
+ghost use Rattle.rtcp_wire.specs.RtpHeads.{IsReserved, IsRtpHead, IsRtpFault, extension_size, without_extension, IsPadded, without_padding, has_padding, last_of, HoldsPayload, FindsAround};
 ghost use Rattle.rtcp_wire.specs.declared.rtp.fault.RtpFault.{RtpFault as Fault};
+ghost use Rattle.rtcp_wire.specs.Values.{RtpValue};
 
 use crate::ids::Ids;
 use crate::layout::{ID_SIZE, VERSION, WORD_SIZE};
@@ -36,7 +37,8 @@ pub struct RtpHead<'a> {
 
 impl<'a> Model for RtpHead<'a> {
     ghost use Rattle.std.specs.Prelude.{◌≤◌, length};
-    ghost use Rattle.rtcp_wire.specs.RtpHeads.{RtpValue, csrcs_in};
+    ghost use Rattle.rtcp_wire.specs.RtpHeads.{csrcs_in};
+    ghost use Rattle.rtcp_wire.specs.Values.{RtpValue};
 
     ghost Value = { RtpValue };
 

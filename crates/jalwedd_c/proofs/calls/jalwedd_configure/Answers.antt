@@ -1,8 +1,7 @@
 -- The moment is counted from the start of the session that is held, and the settings are those that were filled in.
 use Rattle.std.proofs.Common.{◌≡◌, ℕ, refl, subst}
-use Rattle.rtcp_engine.specs.answers.Acts.{configured, settings_given as settings_told}
+use Rattle.rtcp_engine.specs.answers.Acts.{configured, settings_given as settings_told, settings_value}
 use Rattle.rtcp_engine.specs.answers.Setups.{SettingsValue}
-use Rattle.rtcp_engine.specs.state.Views.{settings_value}
 use Rattle.jalwedd_host.specs.Guards.{TellsGuarded}
 use Rattle.jalwedd_host.specs.Promises.{TellsSession, TurnsAway}
 use Rattle.jalwedd_host.specs.declared.session.HostSession.{HostSession}

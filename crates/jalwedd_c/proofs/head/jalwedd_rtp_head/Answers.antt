@@ -1,7 +1,8 @@
 -- Octets have one head, or a first fault.
 use Rattle.std.proofs.Common.{refl, subst}
-use Rattle.rtcp_wire.specs.RtpHeads.{IsRtpHead, RtpValue}
+use Rattle.rtcp_wire.specs.RtpHeads.{IsRtpHead}
 use Rattle.jalwedd_host.specs.Heads.{ShowsHead}
+use Rattle.rtcp_wire.specs.Values.{RtpValue}
 use Rattle.jalwedd_c.proofs.head.jalwedd_rtp_head.Goals as goal
 
 pub returns-in-Ok-clause-read : goal.returns-in-Ok-clause-read

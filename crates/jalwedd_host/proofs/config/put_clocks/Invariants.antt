@@ -1,6 +1,6 @@
 use Rattle.std.proofs.Common.{◌≡◌, ◌≤◌, map, drop, length, take}
 use Rattle.std.specs.List.{list_all}
-use Rattle.rtcp_engine.specs.state.Views.{clock_value}
+use Rattle.rtcp_engine.specs.answers.Acts.{clock_value}
 use Rattle.jalwedd_host.specs.Configs.{clock_given, is_octet_type}
 use Rattle.jalwedd_host.proofs.config.put_clocks.Given as goal
 

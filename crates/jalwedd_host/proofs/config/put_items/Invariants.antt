@@ -1,5 +1,5 @@
 use Rattle.std.proofs.Common.{◌≡◌, ◌≤◌, map, length, take}
-use Rattle.rtcp_report.specs.Views.{item_value}
+use Rattle.rtcp_report.specs.Reports.{item_value}
 use Rattle.jalwedd_host.specs.Configs.{item_given}
 use Rattle.jalwedd_host.proofs.config.put_items.Given as goal
 

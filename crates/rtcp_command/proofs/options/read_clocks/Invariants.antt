@@ -1,5 +1,5 @@
 use Rattle.std.proofs.Common.{◌≤◌, length, map, drop}
-use Rattle.rtcp_engine.specs.state.Views.{clock_value}
+use Rattle.rtcp_engine.specs.answers.Acts.{clock_value}
 use Rattle.rtcp_text.proofs.ListLemmas.{IsReading}
 use Rattle.rtcp_command.specs.Options.{clock_given}
 use Rattle.rtcp_command.proofs.options.read_clocks.Given as goal

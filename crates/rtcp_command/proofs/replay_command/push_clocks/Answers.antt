@@ -1,7 +1,7 @@
 use Rattle.std.proofs.Common.{codes, sym, ap, ◌∙◌}
 use Rattle.std.specs.Fmt.{decimal}
 use Rattle.std.specs.List.{flat_map}
-use Rattle.rtcp_engine.specs.state.Views.{clock_value}
+use Rattle.rtcp_engine.specs.answers.Acts.{clock_value}
 use Rattle.rtcp_text.specs.Text.{hex_long}
 use Rattle.rtcp_command.specs.ReplayCommand.{clock_option_text}
 use Rattle.rtcp_command.proofs.ReplayCommandLemmas.{pair_around, flat_map-map}

@@ -1,6 +1,6 @@
 use Rattle.std.proofs.Common.{◌≡◌, ◌++◌, drop}
 use Rattle.std.specs.List.{flat_map}
-use Rattle.rtcp_report.specs.Views.{item_value}
+use Rattle.rtcp_report.specs.Reports.{item_value}
 use Rattle.rtcp_command.specs.ReplayCommand.{item_text}
 use Rattle.rtcp_command.proofs.replay_command.push_items.Given as goal
 

@@ -1,6 +1,6 @@
 use Rattle.std.proofs.Common.{◌≡◌, ◌++◌, drop}
 use Rattle.std.specs.List.{flat_map}
-use Rattle.rtcp_engine.specs.state.Views.{clock_value}
+use Rattle.rtcp_engine.specs.answers.Acts.{clock_value}
 use Rattle.rtcp_command.specs.ReplayCommand.{clock_option_text}
 use Rattle.rtcp_command.proofs.replay_command.push_payload_clocks.Given as goal
 

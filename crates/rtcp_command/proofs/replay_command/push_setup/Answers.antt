@@ -2,7 +2,7 @@ use Rattle.std.proofs.Common.{◌≡◌, ◌++◌, ℕ, List, OnOk, subst, sym, 
 use Rattle.std.specs.List.{flat_map}
 use Rattle.rtcp_engine.specs.answers.Setups.{Setup}
 use Rattle.rtcp_engine.specs.state.Views.{setup_of}
-use Rattle.rtcp_report.specs.Views.{item_value}
+use Rattle.rtcp_report.specs.Reports.{item_value}
 use Rattle.rtcp_command.specs.ReplayCommand.{item_text, name_text, sizes_text, bandwidths_text, clocks_text}
 use Rattle.rtcp_command.proofs.ReplayCommandLemmas.{five, flat_map-map}
 use Rattle.rtcp_command.proofs.replay_command.push_setup.Goals as goal

@@ -1,6 +1,6 @@
 use Rattle.std.proofs.Common.{◌≡◌, map, drop}
 use Rattle.rtcp_engine.specs.answers.Setups.{rate_among}
-use Rattle.rtcp_engine.specs.state.Views.{clock_value}
+use Rattle.rtcp_engine.specs.answers.Acts.{clock_value}
 use Rattle.rtcp_engine.proofs.clock.rate_among.Given as goal
 
 -- those that are left decide

@@ -1,6 +1,6 @@
 use Rattle.std.proofs.Common.{◌≡◌, map, drop}
 use Rattle.std.specs.List.{list_all}
-use Rattle.rtcp_report.specs.Views.{item_value}
+use Rattle.rtcp_report.specs.Reports.{item_value}
 use Rattle.rtcp_engine.specs.answers.Setups.{is_extra_item}
 use Rattle.rtcp_engine.proofs.config.are_extras.Given as goal
 

@@ -1,11 +1,10 @@
 use Rattle.std.proofs.Common.{◌≡◌, ◌++◌, ◌+◌, ◌-◌, ◌∙◌, ℕ, List, [], ◌∷◌, length, map, take, ap, sym, subst, arith}
 use Rattle.std.proofs.lemmas.List.{append_assoc, length-append}
-use Rattle.rtcp_engine.specs.answers.Acts.{act_of}
+use Rattle.rtcp_engine.specs.answers.Acts.{act_of, AnswerValue, act_told}
 use Rattle.rtcp_engine.specs.answers.Histories.{History}
-use Rattle.rtcp_engine.specs.answers.Steps.{AnswerValue}
 use Rattle.rtcp_engine.specs.answers.Answers.{answer_of, answers_to, followed_by_all}
 use Rattle.rtcp_engine.specs.declared.event.Event.{Event}
-use Rattle.rtcp_engine.specs.state.Views.{act_told, answer_value, event_value}
+use Rattle.rtcp_engine.specs.state.Views.{answer_value, event_value}
 use Rattle.rtcp_engine.specs.bounds.Runs.{HandsOver, taken_since}
 use Rattle.rtcp_engine.specs.state.States.{StandsAt}
 use Rattle.rtcp_engine.proofs.HandingOver.{hands_over}

@@ -1,8 +1,8 @@
 use Rattle.std.proofs.Common.{◌≡◌, ◌+◌, ◌++◌, length, map, take}
 use Rattle.rtcp_engine.specs.answers.Histories.{History}
 use Rattle.rtcp_engine.specs.answers.Answers.{answers_to, followed_by_all}
-use Rattle.rtcp_engine.specs.state.Views.{act_told}
-use Rattle.rtcp_engine.specs.state.States.{KeepsCapacity, StandsAt}
+use Rattle.rtcp_engine.specs.answers.Acts.{act_told}
+use Rattle.rtcp_engine.specs.state.States.{StandsAt, KeepsCapacity}
 use Rattle.rtcp_engine.proofs.runs.run.Given as goal
 
 abbrev pub invariant-events : goal.invariant-events

@@ -4,8 +4,8 @@ use Rattle.std.proofs.lemmas.List.{length-take}
 use Rattle.rtcp_wire.proofs.Putting.{put_after, after_part}
 use Rattle.rtcp_wire.specs.Values.{ReportBlock}
 use Rattle.rtcp_members.specs.Pending.{pending, blocks_of}
-use Rattle.rtcp_report.specs.Reports.{Reporter, description_of, reports_with, items_of}
-use Rattle.rtcp_report.specs.Sizes.{description_size, report_size}
+use Rattle.rtcp_report.specs.Reports.{Reporter, description_of, reports_with, items_of, report_size}
+use Rattle.rtcp_report.specs.Sizes.{description_size}
 use Rattle.rtcp_report.specs.Views.{extra_of, reporter_of}
 use Rattle.rtcp_report.proofs.Prefixes.{size_rises}
 use Rattle.rtcp_report.proofs.ReportSizes.{reports_length}

@@ -2,8 +2,7 @@
 use Rattle.std.proofs.Common.{ℕ, List, subst}
 use Rattle.rtcp_wire.specs.Puts.{IsPut}
 use Rattle.rtcp_wire.specs.Writing.{written_item}
-use Rattle.rtcp_report.specs.Reports.{cname_item}
-use Rattle.rtcp_report.specs.Views.{item_value}
+use Rattle.rtcp_report.specs.Reports.{cname_item, item_value}
 use Rattle.rtcp_report.proofs.PutDescriptions.{items_put}
 use Rattle.rtcp_report.proofs.description.put_items.Goals as goal
 

@@ -4,8 +4,7 @@ use Rattle.std.proofs.lemmas.List.{length-take}
 use Rattle.rtcp_wire.specs.Values.{ReportBlock}
 use Rattle.rtcp_members.specs.Pending.{EntryRow, pending, blocks_of}
 use Rattle.rtcp_report.specs.Gathered.{IsTakenFrom, PutsReports}
-use Rattle.rtcp_report.specs.Reports.{report_with}
-use Rattle.rtcp_report.specs.Sizes.{first_report_size}
+use Rattle.rtcp_report.specs.Reports.{report_with, first_report_size}
 use Rattle.rtcp_report.specs.Views.{sent_value}
 use Rattle.rtcp_report.proofs.PutReports.{size_of_some, size_of_none, report_put, one_packet, few_put, more_put, short_rows, both_rows}
 use Rattle.rtcp_report.proofs.ReportPackets.{report_writable}

@@ -1,5 +1,5 @@
 use Rattle.std.proofs.Common.{rules, [], Some, map, sym}
-use Rattle.rtcp_engine.specs.state.Views.{clock_value}
+use Rattle.rtcp_engine.specs.answers.Acts.{clock_value}
 use Rattle.rtcp_text.specs.SettingsFields.{clock_in, parts_at}
 use Rattle.rtcp_text.proofs.ListLemmas.{IsReading, reading_ends, list_in-listed}
 use Rattle.rtcp_text.proofs.settings_fields.read_clocks.Goals as goal

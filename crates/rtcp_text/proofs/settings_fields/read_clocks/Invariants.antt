@@ -1,5 +1,5 @@
 use Rattle.std.proofs.Common.{◌≤◌, length, map}
-use Rattle.rtcp_engine.specs.state.Views.{clock_value}
+use Rattle.rtcp_engine.specs.answers.Acts.{clock_value}
 use Rattle.rtcp_text.specs.SettingsFields.{clock_in, parts_at, parts_left}
 use Rattle.rtcp_text.proofs.ListLemmas.{IsReading}
 use Rattle.rtcp_text.proofs.settings_fields.read_clocks.Given as goal

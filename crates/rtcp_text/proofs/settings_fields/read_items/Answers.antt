@@ -1,5 +1,5 @@
 use Rattle.std.proofs.Common.{rules, [], Some, map, sym}
-use Rattle.rtcp_report.specs.Views.{item_value}
+use Rattle.rtcp_report.specs.Reports.{item_value}
 use Rattle.rtcp_text.specs.SettingsFields.{item_in, parts_at}
 use Rattle.rtcp_text.proofs.ListLemmas.{IsReading, reading_ends, list_in-listed}
 use Rattle.rtcp_text.proofs.settings_fields.read_items.Goals as goal

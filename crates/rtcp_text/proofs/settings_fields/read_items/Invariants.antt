@@ -1,5 +1,5 @@
 use Rattle.std.proofs.Common.{◌≤◌, length, map}
-use Rattle.rtcp_report.specs.Views.{item_value}
+use Rattle.rtcp_report.specs.Reports.{item_value}
 use Rattle.rtcp_text.specs.SettingsFields.{item_in, parts_at, parts_left}
 use Rattle.rtcp_text.proofs.ListLemmas.{IsReading}
 use Rattle.rtcp_text.proofs.settings_fields.read_items.Given as goal

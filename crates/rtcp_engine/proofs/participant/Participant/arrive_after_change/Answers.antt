@@ -1,10 +1,9 @@
 use Rattle.std.proofs.Common.{◌∙◌, Option, Some, None, ap, sym, subst}
-use Rattle.rtcp_engine.specs.answers.Acts.{arrived}
+use Rattle.rtcp_engine.specs.answers.Acts.{arrived, OutValue}
 use Rattle.rtcp_engine.specs.answers.Changes.{NewIdentifier, changed_by}
 use Rattle.rtcp_engine.specs.answers.Histories.{History, session_at, with_act}
 use Rattle.rtcp_engine.specs.answers.Lives.{step_into}
 use Rattle.rtcp_engine.specs.state.States.{Acts, IsIn, ParticipantValue, StandsAt}
-use Rattle.rtcp_engine.specs.answers.Steps.{OutValue}
 use Rattle.rtcp_engine.specs.state.Views.{datagram_of, out_in, written_step_value}
 use Rattle.rtcp_engine.proofs.ActLemmas.{IsTaken, acted_stands, acted_step, answered, promised}
 use Rattle.rtcp_engine.proofs.Arriving.{changing, is_own, may_is}

@@ -1,8 +1,7 @@
 use Rattle.std.proofs.Common.{◌∙◌, refl, ap, sym, option_map}
 use Rattle.rtcp_engine.specs.declared.refusal.Refusal.TheVariants.{Settings}
-use Rattle.rtcp_engine.specs.answers.Acts.{configured, moment_of}
+use Rattle.rtcp_engine.specs.answers.Acts.{configured, moment_of, settings_value}
 use Rattle.rtcp_engine.specs.state.States.{ParticipantValue}
-use Rattle.rtcp_engine.specs.state.Views.{settings_value}
 use Rattle.rtcp_engine.proofs.ActLemmas.{alone, call_refused, content_refused, leaves_all, outside_at, plain_call, refused, replied, takes}
 use Rattle.rtcp_engine.proofs.participant.Participant.configure_into.Goals as goal
 

@@ -1,12 +1,11 @@
 use Rattle.std.proofs.Common.{◌≡◌, ◌∙◌, ◌≤◌, ◌<◌, ℕ, Bool, true, false, Option, Some, None, option_map, if◌then◌else◌, nat_le, arith, refl, ap, sym, subst}
 use Rattle.std.proofs.lemmas.Bool.{le-leb, lt-leb}
-use Rattle.rtcp_engine.specs.answers.Acts.{left}
+use Rattle.rtcp_engine.specs.answers.Acts.{left, OutValue}
 use Rattle.rtcp_engine.specs.answers.Leaving.{backing_off, backoff_from, few_members, finished, sent_nothing}
 use Rattle.rtcp_engine.specs.answers.Lives.{bye_out}
 use Rattle.rtcp_engine.specs.answers.Outcomes.{Outcome, member_count}
 use Rattle.rtcp_engine.specs.answers.Reporting.{bye_octets}
 use Rattle.rtcp_engine.specs.state.States.{ParticipantValue, Acts, Agrees, HasOthers, IsAt, Stays, taking_part}
-use Rattle.rtcp_engine.specs.answers.Steps.{OutValue}
 use Rattle.rtcp_engine.proofs.ActLemmas.{acts_from_present, outside_at, same_stays}
 use Rattle.rtcp_engine.proofs.RolesChanged.{leave_moves}
 use Rattle.rtcp_engine.proofs.LifeLemmas.{left_lives, left_byes}

@@ -1,6 +1,5 @@
-use Rattle.rtcp_engine.specs.answers.Acts.{configured}
+use Rattle.rtcp_engine.specs.answers.Acts.{configured, settings_value}
 use Rattle.rtcp_engine.specs.state.States.{ParticipantValue}
-use Rattle.rtcp_engine.specs.state.Views.{settings_value}
 use Rattle.rtcp_engine.proofs.ActLemmas.{acts_set, outside_at}
 use Rattle.rtcp_engine.proofs.participant.Participant.take_settings.Goals as goal
 

@@ -1,7 +1,7 @@
 use Rattle.std.proofs.Common.{ℕ, List, [], ◌∙◌, length, ap}
 use Rattle.rtcp_wire.specs.Writing.{written_all}
 use Rattle.rtcp_report.specs.Reports.{bye_of}
-use Rattle.rtcp_timer.specs.Averages.{average_of}
+use Rattle.rtcp_timer.specs.Loads.{average_of}
 use Rattle.rtcp_engine.proofs.StepLemmas.{backs_off}
 use Rattle.rtcp_engine.proofs.presence.Presence.back_off.Goals as goal
 

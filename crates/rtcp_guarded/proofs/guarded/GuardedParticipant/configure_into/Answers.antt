@@ -1,6 +1,5 @@
 use Rattle.std.proofs.Common.{refl, subst}
-use Rattle.rtcp_engine.specs.answers.Acts.{settings_given, configured}
-use Rattle.rtcp_engine.specs.state.Views.{settings_value}
+use Rattle.rtcp_engine.specs.answers.Acts.{settings_given, configured, settings_value}
 use Rattle.rtcp_guarded.specs.Promises.{Replies}
 use Rattle.rtcp_guarded.specs.Views.{GuardedValue, as_refused}
 use Rattle.rtcp_guarded.proofs.Calling.{unseen_reply}

@@ -1,5 +1,5 @@
 use Rattle.std.proofs.lemmas.Iterator.{YieldsList-from_slice, items_from_drains}
-use Rattle.rtcp_engine.specs.state.Views.{clock_value}
+use Rattle.rtcp_engine.specs.answers.Acts.{clock_value}
 use Rattle.rtcp_text.specs.SettingsFields.{clock_text}
 use Rattle.rtcp_text.proofs.Joined.{list_text-joined}
 use Rattle.rtcp_text.proofs.text.settings.push_clocks.Goals as goal

@@ -1,5 +1,5 @@
 use Rattle.std.proofs.lemmas.Iterator.{YieldsList-from_slice, items_from_drains}
-use Rattle.rtcp_report.specs.Views.{item_value}
+use Rattle.rtcp_report.specs.Reports.{item_value}
 use Rattle.rtcp_text.specs.SettingsFields.{given_item_text}
 use Rattle.rtcp_text.proofs.Joined.{list_text-joined}
 use Rattle.rtcp_text.proofs.text.settings.push_items.Goals as goal

@@ -4,11 +4,12 @@ use Rattle.std.proofs.lemmas.List.{length-drop}
 use Rattle.byteorder.specs.Endian.{big_number}
 use Rattle.rtcp_wire.specs.declared.rtp.fault.RtpFault.{RtpFault}
 use Rattle.rtcp_wire.specs.declared.rtp.fault.RtpFault.TheVariants.{Short, Version, PayloadType}
-use Rattle.rtcp_wire.specs.RtpHeads.{RtpValue, rtp_version_of, has_padding, has_extension, csrc_count_of, marker_of, payload_type_of, IsReserved, IsRtpHead, IsRtpFault, csrcs_in, lists_size, FindsAround}
+use Rattle.rtcp_wire.specs.RtpHeads.{rtp_version_of, has_padding, has_extension, csrc_count_of, marker_of, payload_type_of, IsReserved, IsRtpHead, IsRtpFault, csrcs_in, lists_size, FindsAround}
 use Rattle.rtcp_wire.proofs.RtpFaults.{same_fault, one_head, one_fault, never_both, is_short, is_version, is_payload_type}
 use Rattle.rtcp_wire.proofs.ReadingRtp.{HasRoom, has_room, after_list, list_taken, few_csrcs, free_type, IsBeforeExtension, around_exit, head_read}
 use Rattle.rtcp_wire.proofs.rtp.head.RtpHead.read.Goals as goal
 use Rattle.rtcp_wire.proofs.rtp.head.RtpHead.read.Goals.{After-left, After-rest}
+use Rattle.rtcp_wire.specs.Values.{RtpValue}
 
 -- ---- How far the reader has come
 
