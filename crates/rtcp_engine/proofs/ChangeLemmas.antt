@@ -29,7 +29,7 @@ byes_are_of_one_size ssrc setup = parts ssrc ∙ sym (parts setup.ssrc)
     report : ℕ → List ℕ
     report id = written_all (packets_with (receiver_named id setup.cname) [])
 
-    parts : (id : ℕ) → length (bye_octets (with_ssrc id setup)) ≡ Rattle.rtcp_report.specs.Sizes.report_size
+    parts : (id : ℕ) → length (bye_octets (with_ssrc id setup)) ≡ Rattle.rtcp_report.specs.Reports.report_size
         (receiver_named setup.ssrc setup.cname) 0 + 8
     parts id =
         ap length (flat_map-append written (packets_with (receiver_named id setup.cname) []) (bye_packet id ∷ []))
