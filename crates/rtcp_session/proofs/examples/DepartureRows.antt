@@ -14,15 +14,16 @@ use Rattle.rtcp_session.specs.Departures.{becomes_member_by, departures_within, 
 use Rattle.rtcp_session.proofs.examples.CrowdRows.{named_came, packet_came, setup_of}
 
 abbrev pub quick : Setup
-quick = record (setup_of 170) { sender_bw = 1000; receiver_bw = 1000 }
+quick =
+    let slow = setup_of 170 in
+    record slow { settings = record slow.settings { sender_bw = 1000; receiver_bw = 1000 } }
 
 -- what a session has come to by these facts alone, and the same after a report
 abbrev pub by : List TraceStep → Outcome
 by trace = record nothing_yet { trace = trace }
 
 abbrev pub later_by : List TraceStep → Outcome
-later_by trace =
-    record (by trace) { reports = record { moment = 50; interval = 5000000; octets = [] } ∷ [] }
+later_by trace = record (by trace) { reports = 1 }
 
 abbrev pub named : List TraceStep
 named = fact_came (Named 187) 100 ∷ []
