@@ -112,20 +112,16 @@ pub record OutValue : Type 0 where
   pub kind : OutKind
   pub octets : List ℕ
 
--- what is answered to an act that is taken
+-- What is answered to an act that is taken: a compound to send, if there is one; the members and senders, with the
+-- participant among them; the places of the table that are taken; the moment to ask again; the new identifier, where the
+-- call changed it; and whether the call changed who of the others is a member, or who of them sends.
 pub record StepValue : Type 0 where
-  -- a compound to send, if there is one
   pub out : Option OutValue
-  -- with the participant among them
   pub members : ℕ
   pub senders : ℕ
-  -- the places of the table that are taken
   pub entries : ℕ
-  -- the moment to ask again
   pub next : Option ℕ
-  -- the new identifier, where the call changed it
   pub changed : Option ℕ
-  -- whether the call changed who of the others is a member, or who of them sends
   pub others_changed : Bool
 
 abbrev pub AnswerValue : Type 0

@@ -8,7 +8,7 @@ use Rattle.rtcp_engine.specs.declared.changes.IdentifierChange.{IdentifierChange
 use Rattle.rtcp_engine.specs.answers.Setups.{Setup}
 use Rattle.rtcp_engine.specs.answers.Acts.{Datagram, rtcp, rtp, Act, arrived, OutValue}
 use Rattle.rtcp_engine.specs.answers.Leaving.{Life, present, backing_off, finished}
-use Rattle.rtcp_engine.specs.answers.Lives.{own_bye, with_new_ssrc}
+use Rattle.rtcp_engine.specs.answers.Lives.{renamed}
 
 abbrev pub is_among : List ℕ → ℕ → Bool
 is_among numbers number = list_any (λ other. other == number) numbers
@@ -88,13 +88,13 @@ changed_by None session = session
 changed_by (Some new) session = record {
   setup = record session.setup { ssrc = new.ssrc };
   changes = record { peer = new.peer; former = session.setup.ssrc } ∷ session.changes;
-  life = with_new_ssrc session.setup session.life;
+  life = (renamed session.setup session.life).life;
 }
 
 -- the BYE that a change hands out
 abbrev pub bye_of_change : Option NewIdentifier → Session → Option OutValue
 bye_of_change None session = None
-bye_of_change (Some new) session = own_bye session.setup session.life
+bye_of_change (Some new) session = (renamed session.setup session.life).out
 
 -- ---- Parts of what stands above, by names of their own
 

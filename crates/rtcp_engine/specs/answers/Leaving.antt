@@ -74,13 +74,6 @@ pub data Life : Type 0 where
   -- it left for good
   finished : Outcome → Life
 
--- ---- A change of identifier
-
--- The old identifier's BYE moves the average, if something was sent under that one, and adds no member.
-abbrev pub after_own_bye : Setup → Outcome → Backoff → Backoff
-after_own_bye setup outcome backoff =
-    if has_sent outcome.own then with_byes_of 0 (length (bye_octets setup)) backoff else backoff
-
 -- ---- What functions do one after the other: each unfolds to a part of an act (Lives)
 
 abbrev pub bye_count : List RtcpPacket → ℕ
@@ -144,3 +137,8 @@ abbrev pub after_waiting_tick : Setup → (t word : ℕ) → Outcome → Backoff
 after_waiting_tick setup t word outcome backoff =
     if is_bye_due setup t word backoff then finished outcome
     else backing_off outcome (after_wait setup t word backoff)
+
+-- The old identifier's BYE moves the average, if something was sent under that one, and adds no member.
+abbrev pub after_own_bye : Setup → Outcome → Backoff → Backoff
+after_own_bye setup outcome backoff =
+    if has_sent outcome.own then with_byes_of 0 (length (bye_octets setup)) backoff else backoff

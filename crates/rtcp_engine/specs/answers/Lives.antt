@@ -18,7 +18,7 @@ use Rattle.rtcp_engine.specs.answers.OwnStreams.{has_sent, counts_anew, packet_s
 use Rattle.rtcp_engine.specs.answers.Reporting.{bye_octets, report_octets}
 use Rattle.rtcp_engine.specs.answers.Outcomes.{Outcome, check_interval, interval_at, member_count, sender_count, timing_of, with_pace}
 use Rattle.rtcp_engine.specs.answers.Ticks.{checked, horizons_of, with_draw, with_recount, with_report}
-use Rattle.rtcp_engine.specs.answers.Leaving.{Backoff, Life, present, backing_off, finished, after_own_bye, leaving_count, leaving_interval, leaving_load, leaving_timing, with_byes}
+use Rattle.rtcp_engine.specs.answers.Leaving.{Backoff, Life, present, backing_off, finished, leaving_count, leaving_interval, leaving_load, leaving_timing, with_byes, with_byes_of}
 use Rattle.rtcp_wire.specs.declared.fact.Fact.{Fact}
 use Rattle.rtcp_wire.specs.declared.fact.Fact.TheVariants.{Heard, Media}
 use Rattle.rtcp_wire.specs.Facts.{facts_of}
@@ -50,15 +50,6 @@ with_datagram setup t (rtcp size (Ok packets)) outcome = with_compound setup t s
 with_datagram setup t (rtp (Ok head)) outcome = with_media setup t head outcome
 with_datagram setup t _ outcome = outcome
 
--- The BYE of the old identifier is a compound that was sent, if something was sent under that one. The counts of the
--- own stream begin anew.
-abbrev pub with_change : Setup → Outcome → Outcome
-with_change setup outcome =
-    record outcome {
-      own = counts_anew ∷ outcome.own;
-      sizes = if has_sent outcome.own then length (bye_octets setup) ∷ outcome.sizes else outcome.sizes;
-    }
-
 -- ---- Acts
 
 abbrev pub report_out : List ℕ → OutValue
@@ -86,16 +77,11 @@ made_by_tick setup t first_word second_word outcome =
     let timing = timing_of now in
     let has_come = nat_le timing.next t in
     let has_passed = nat_le (timing.last + drawn_interval (interval_at setup now) first_word) t in
-    record {
-      life =
-          present (if has_come
-          then (if has_passed
-          then with_draw transmitted setup t second_word (with_report setup t now)
-          else with_draw tried setup t first_word now)
-          else now);
-      out = option_map report_out (if has_come && has_passed then Some (report_octets setup t now) else None);
-      interval = interval_at setup now;
-    }
+    let reported : Outcome = with_draw transmitted setup t second_word (with_report setup t now) in
+    let put_off : Outcome = with_draw tried setup t first_word now in
+    let later : Outcome = if has_come then (if has_passed then reported else put_off) else now in
+    let octets : Option (List ℕ) = if has_come && has_passed then Some (report_octets setup t now) else None in
+    record { life = present later; out = option_map report_out octets; interval = interval_at setup now }
 
 -- A leave (6.3.7): in silence if nothing was sent under the present identifier; with a BYE at once among at most 50
 -- members; or else with a backoff, which begins as if the participant, alone, had just sent a compound.
@@ -106,11 +92,11 @@ made_by_leave setup t word outcome =
     let drawn = drawn_interval (interval_of (leaving_load setup 1 [])) word in
     let backoff : Backoff =
         record { since = t; bye_compounds = []; happenings = transmitted t drawn 1 ∷ outcome.happenings } in
+    let waiting : Life = if are_few then finished outcome else backing_off outcome backoff in
+    let octets : Option (List ℕ) = if are_few then Some (bye_octets setup) else None in
     record {
-      life =
-          if is_silent then finished outcome
-          else (if are_few then finished outcome else backing_off outcome backoff);
-      out = option_map bye_out (if is_silent then None else (if are_few then Some (bye_octets setup) else None));
+      life = if is_silent then finished outcome else waiting;
+      out = option_map bye_out (if is_silent then None else octets);
       interval = 0;
     }
 
@@ -137,17 +123,15 @@ made_backing_off setup (arrived moment peer word (rtcp size reading)) outcome ba
     made_silently (leaving_interval setup backoff) (backing_off outcome (with_byes size reading backoff))
 made_backing_off setup (ticked moment first_word second_word) outcome backoff =
     let timing = leaving_timing backoff in
-    let drawn = drawn_interval (leaving_interval setup backoff) first_word in
+    let interval = leaving_interval setup backoff in
+    let drawn = drawn_interval interval first_word in
     let has_come = nat_le timing.next moment in
-    let has_passed = nat_le (timing.last + drawn) moment in
-    let later = tried moment drawn (leaving_count backoff) ∷ backoff.happenings in
-    record {
-      life =
-          if has_come && has_passed then finished outcome
-          else backing_off outcome (if has_come then record backoff { happenings = later } else backoff);
-      out = if has_come && has_passed then Some (bye_out (bye_octets setup)) else None;
-      interval = leaving_interval setup backoff;
-    }
+    let is_due = has_come && nat_le (timing.last + drawn) moment in
+    let put_off : Backoff =
+        record backoff { happenings = tried moment drawn (leaving_count backoff) ∷ backoff.happenings } in
+    let later : Life = if is_due then finished outcome else backing_off outcome (if has_come then put_off else backoff) in
+    let out : Option OutValue = if is_due then Some (bye_out (bye_octets setup)) else None in
+    record { life = later; out = out; interval = interval }
 made_backing_off setup act outcome backoff =
     made_silently (leaving_interval setup backoff) (backing_off outcome backoff)
 
@@ -158,12 +142,21 @@ made_by setup act (finished outcome) = made_silently 0 (finished outcome)
 
 -- ---- A change of identifier
 
--- A change of identifier: the BYE of the old one counts as a compound that was sent, if something was sent under it.
-abbrev pub with_new_ssrc : Setup → Life → Life
-with_new_ssrc setup (present outcome) = present (with_change setup outcome)
-with_new_ssrc setup (backing_off outcome backoff) =
-    backing_off (record outcome { own = counts_anew ∷ outcome.own }) (after_own_bye setup outcome backoff)
-with_new_ssrc setup (finished outcome) = finished outcome
+abbrev pub bye_if_sent : Setup → Outcome → Option OutValue
+bye_if_sent setup outcome = if has_sent outcome.own then Some (bye_out (bye_octets setup)) else None
+
+-- What a change of identifier makes of a life, and brings (8.2): the BYE of the old one, if something was sent under that
+-- one. It moves the average as a compound that was sent, and adds no member. The counts of the own stream begin anew.
+abbrev pub renamed : Setup → Life → Made
+renamed setup (present outcome) =
+    let sizes : List ℕ = if has_sent outcome.own then length (bye_octets setup) ∷ outcome.sizes else outcome.sizes in
+    let later : Outcome = record outcome { own = counts_anew ∷ outcome.own; sizes = sizes } in
+    record { life = present later; out = bye_if_sent setup outcome; interval = 0 }
+renamed setup (backing_off outcome backoff) =
+    let byes : Backoff = if has_sent outcome.own then with_byes_of 0 (length (bye_octets setup)) backoff else backoff in
+    let later : Outcome = record outcome { own = counts_anew ∷ outcome.own } in
+    record { life = backing_off later byes; out = bye_if_sent setup outcome; interval = 0 }
+renamed setup (finished outcome) = made_silently 0 (finished outcome)
 
 -- Settings note the pace of checks where they change it, as long as the participant takes part.
 abbrev pub with_pace_in : Setup → SettingsValue → (t : ℕ) → Life → Life
@@ -244,15 +237,6 @@ standing_in_life setup life = record {
 
 -- ---- Answers
 
-abbrev pub bye_if_sent : Setup → Outcome → Option OutValue
-bye_if_sent setup outcome = if has_sent outcome.own then Some (bye_out (bye_octets setup)) else None
-
--- the BYE of an identifier that is given up, if something was sent under it
-abbrev pub own_bye : Setup → Life → Option OutValue
-own_bye setup (present outcome) = bye_if_sent setup outcome
-own_bye setup (backing_off outcome backoff) = bye_if_sent setup outcome
-own_bye setup (finished outcome) = None
-
 -- What is answered where a session has come to this, by an act that brought a compound, if it brought one, and that
 -- changed who of the others is there or sends, if it did.
 abbrev pub step_into : Setup → Option OutValue → (others_changed : Bool) → Life → StepValue
@@ -294,3 +278,17 @@ has_others setup outcome = not (members_at setup.capacity outcome.trace == 0)
 abbrev pub moved_since : Setup → (before after : Outcome) → Bool
 moved_since setup before after =
     moved_within setup.capacity (length after.trace - length before.trace) after.trace
+
+abbrev pub with_change : Setup → Outcome → Outcome
+with_change setup outcome =
+    record outcome {
+      own = counts_anew ∷ outcome.own;
+      sizes = if has_sent outcome.own then length (bye_octets setup) ∷ outcome.sizes else outcome.sizes;
+    }
+
+abbrev pub with_new_ssrc : Setup → Life → Life
+with_new_ssrc setup life = (renamed setup life).life
+
+-- the BYE of an identifier that is given up, if something was sent under it
+abbrev pub own_bye : Setup → Life → Option OutValue
+own_bye setup life = (renamed setup life).out

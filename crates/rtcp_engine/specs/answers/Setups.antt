@@ -30,14 +30,12 @@ pub record SettingsValue : Type 0 where
   -- the items that describe the participant beside its CNAME, which go out in turn
   pub extras : List ItemValue
 
+-- A participant's SSRC and CNAME, how many other sources its table may hold, the most octets of a compound that it
+-- sends, and what its host may change.
 pub record Setup : Type 0 where
-  -- its SSRC
   pub ssrc : ℕ
-  -- its CNAME
   pub cname : List ℕ
-  -- how many other sources its table may hold
   pub capacity : ℕ
-  -- the most octets of a compound that it sends
   pub limit : ℕ
   pub settings : SettingsValue
 
