@@ -14,7 +14,7 @@ use Rattle.rtcp_engine.specs.answers.Leaving.{Life, present, backing_off, finish
 use Rattle.rtcp_engine.specs.answers.Lives.{bye_out, lived, out_by, report_out}
 use Rattle.rtcp_engine.specs.answers.Outcomes.{Outcome}
 use Rattle.rtcp_engine.specs.answers.Reporting.{bye_octets}
-use Rattle.rtcp_engine.specs.bounds.Runs.{AllAlong, AreRefusals, EndAtBye, HandsOver, IsAnsweredInTime, IsRefusalForgotten, handed_over, is_bye, says_bye, taken_since}
+use Rattle.rtcp_engine.specs.bounds.Runs.{AllAlong, AreRefusals, EndAtBye, HandsOver, IsAnsweredInTime, IsRefusalForgotten, handed_over, is_bye_out, says_bye, taken_since}
 use Rattle.rtcp_engine.specs.bounds.Sent.{Sent, deciding_interval, handed_out, sent_at}
 use Rattle.rtcp_engine.specs.answers.Setups.{Setup}
 use Rattle.rtcp_engine.specs.bounds.Spacing.{AreBounded, first_leave}
@@ -41,23 +41,23 @@ abbrev IsFinished : Life → Type 0
 IsFinished (finished outcome) = Unit {0}
 IsFinished life = ⊥
 
-no_report : (octets : Option (List ℕ)) → is_bye (option_map report_out octets) ≡ true → ⊥
+no_report : (octets : Option (List ℕ)) → is_bye_out (option_map report_out octets) ≡ true → ⊥
 no_report None bye = absurd cc
 no_report (Some octets) bye = absurd cc
 
 leaves : (nothing_sent few : Bool) (o : Outcome) (waiting : Life) (octets : List ℕ) →
-    is_bye (option_map bye_out (if nothing_sent then None else (if few then Some octets else None))) ≡ true →
+    is_bye_out (option_map bye_out (if nothing_sent then None else (if few then Some octets else None))) ≡ true →
     IsFinished (if nothing_sent then finished o else (if few then finished o else waiting))
 leaves false false o waiting octets bye = absurd (cc bye)
 leaves nothing_sent few o waiting octets bye = tt
 
 waits : (due : Bool) (o : Outcome) (waiting : Life) (octets : List ℕ) →
-    is_bye (if due then Some (bye_out octets) else None) ≡ true → IsFinished (if due then finished o else waiting)
+    is_bye_out (if due then Some (bye_out octets) else None) ≡ true → IsFinished (if due then finished o else waiting)
 waits true o waiting octets bye = tt
 waits false o waiting octets bye = absurd (cc bye)
 
 -- The BYE that an act brings, and no change of identifier, is that of a participant that is gone.
-gone_after : (setup : Setup) (act : Act) (life : Life) → is_bye (out_by setup act life) ≡ true →
+gone_after : (setup : Setup) (act : Act) (life : Life) → is_bye_out (out_by setup act life) ≡ true →
     IsFinished (lived setup act life)
 gone_after setup (ticked moment first_word second_word) (present o) bye = absurd (no_report _ bye)
 gone_after setup (left moment word) (present o) bye = leaves _ _ o _ (bye_octets setup) bye
@@ -71,7 +71,7 @@ abbrev number : NewIdentifier → ℕ
 number new = new.ssrc
 
 unchanged_gone : (session : Session) (act : Act) (change : Option NewIdentifier) → change_by session act ≡ change →
-    is_some (option_map number change) ≡ false → is_bye (brought_by session act) ≡ true →
+    is_some (option_map number change) ≡ false → is_bye_out (brought_by session act) ≡ true →
     IsFinished (after_act session act).life
 unchanged_gone session act (Some new) is none bye = absurd (cc none)
 unchanged_gone session act None is none bye =
@@ -79,7 +79,7 @@ unchanged_gone session act None is none bye =
     ap (λ (c : Option NewIdentifier). option_or (bye_of_change c session)
     (out_by (changed_by c session).setup act (changed_by c session).life)) is in
     subst IsFinished (sym (ap (λ (c : Option NewIdentifier). lived (changed_by c session).setup act
-    (changed_by c session).life) is)) (gone_after session.setup act session.life (sym (ap is_bye brought) ∙ bye))
+    (changed_by c session).life) is)) (gone_after session.setup act session.life (sym (ap is_bye_out brought) ∙ bye))
 
 not_true : (b : Bool) → not b ≡ true → b ≡ false
 not_true true h = absurd (cc h)
@@ -91,7 +91,7 @@ said : (h : History) (act : Act) (refusal : Option Refusal) → refusal_after h 
 said h act (Some reason) is goodbye = absurd (cc goodbye)
 said h act None is goodbye =
     let session = session_at h in
-    let both = and_parts (is_bye (brought_by session act)) (not (is_some (option_map number (change_by session act))))
+    let both = and_parts (is_bye_out (brought_by session act)) (not (is_some (option_map number (change_by session act))))
     goodbye in
     unchanged_gone session act (change_by session act) refl (not_true _ both.1) both.0
 

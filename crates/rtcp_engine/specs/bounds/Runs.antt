@@ -22,13 +22,13 @@ handed_over history (act ∷ acts) (answer ∷ answers) =
 
 -- ---- The end
 
-abbrev pub is_bye : Option OutValue → Bool
-is_bye None = false
-is_bye (Some out) = elim out.kind [ Report ↦ false | Bye ↦ true ]
+abbrev pub is_bye_out : Option OutValue → Bool
+is_bye_out None = false
+is_bye_out (Some out) = elim out.kind [ Report ↦ false | Bye ↦ true ]
 
 -- whether an answer has the BYE with which the participant leaves: the BYE of an identifier that it gives up is another
 abbrev pub says_bye : AnswerValue → Bool
-says_bye (Ok step) = is_bye step.out && not (is_some step.changed)
+says_bye (Ok step) = is_bye_out step.out && not (is_some step.changed)
 says_bye (Err refusal) = false
 
 abbrev pub AreRefusals : List AnswerValue → Type 0
