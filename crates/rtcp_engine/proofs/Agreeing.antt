@@ -20,7 +20,7 @@ use Rattle.rtcp_report.proofs.LawLemmas as reports
 use Rattle.rtcp_timer.specs.declared.load.Load.{Load}
 use Rattle.rtcp_timer.specs.Averages.{moved_average}
 use Rattle.rtcp_timer.specs.Schedules.{Happening, Timing}
-use Rattle.rtcp_engine.specs.answers.OwnStreams.{OwnStep, OwnValue, Adds, own_of, report_sent, sending_since}
+use Rattle.rtcp_engine.specs.answers.OwnStreams.{OwnStep, OwnValue, Adds, own_of, packet_sent, check_passed, report_sent, counts_anew, sending_since, newest_packet, timestamp_at, timestamp_from}
 use Rattle.rtcp_engine.specs.answers.Outcomes.{Outcome, one_if, member_count, sender_count, load_of}
 use Rattle.rtcp_engine.specs.answers.Reporting.{last_reported_in, reporter_at, reporter_by, reported_at, report_octets}
 use Rattle.rtcp_engine.specs.answers.Ticks as ticks
@@ -193,8 +193,17 @@ rows_in t state = reported_rows (reporter_in t state) state.setup.limit state.cu
 abbrev pub octets_in : (t : ℕ) → State → List ℕ
 octets_in t state = written_all (report_of (reporter_in t state) state.setup.limit t state.cursor state.table)
 
+timestamps_agree : (rate t : ℕ) (own : List OwnStep) →
+    timestamp_from rate t (newest_packet own) ≡ timestamp_at rate t own
+timestamps_agree rate t [] = refl
+timestamps_agree rate t (packet_sent moment timestamp octets ∷ earlier) = refl
+timestamps_agree rate t (check_passed idle ∷ earlier) = timestamps_agree rate t earlier
+timestamps_agree rate t (report_sent ∷ earlier) = timestamps_agree rate t earlier
+timestamps_agree rate t (counts_anew ∷ earlier) = timestamps_agree rate t earlier
+
 reporters_agree : (s : State) (o : Outcome) (t : ℕ) → Agrees s o → reporter_in t s ≡ reporter_at s.setup t o
-reporters_agree s o t a = λ i. reporter_by s.setup (a.still.own i) (a.still.reports i + 1) t
+reporters_agree s o t a = (λ i. reporter_by s.setup (a.still.own i) (a.still.reports i + 1) t)
+    ∙ rw (timestamps_agree s.setup.settings.rate t o.own) refl
 
 pending_agree : (s : State) (o : Outcome) → Agrees s o →
     pending s.cursor s.table ≡ pending_rows_at (last_reported_in o.trace) s.setup.capacity o.trace

@@ -23,7 +23,7 @@ use Rattle.rtcp_engine.specs.answers.Setups.{Setup, IsExtraItem, IsUsable}
 use Rattle.rtcp_engine.specs.answers.Acts.{rtcp, rtp, Act, arrived, rtp_sent, ticked, left, configured, moment_of, forgotten, OutValue}
 use Rattle.rtcp_engine.specs.answers.Outcomes.{Outcome, interval_at, load_of, member_count}
 use Rattle.rtcp_engine.specs.answers.Ticks.{checked, has_come, has_passed, reported, put_off}
-use Rattle.rtcp_engine.specs.answers.OwnStreams.{has_sent, own_of, sent_of}
+use Rattle.rtcp_engine.specs.answers.OwnStreams.{has_sent, stream_at}
 use Rattle.rtcp_engine.specs.answers.Reporting.{bye_octets, report_octets, extra_item, reporter_at, last_reported_in}
 use Rattle.rtcp_engine.specs.answers.Changes.{NewIdentifier, Session, bye_of_change, change_by, changed_by, changed_to}
 use Rattle.rtcp_engine.specs.answers.Histories.{History, last_moment, session_of}
@@ -132,7 +132,8 @@ report_is_within : (setup : Setup) (t : ℕ) (outcome : Outcome) → IsUsable se
     length (report_octets setup t outcome) ≤ setup.limit
 report_is_within setup t outcome usable =
     let extra = short_if _ _ (short_read setup.settings.extras _ usable.extras) in
-    let empty = compounds_are_small-empty setup.ssrc (sent_of setup.settings.ntp_base setup.settings.rate t (own_of outcome.own))
+    let empty = compounds_are_small-empty setup.ssrc
+    (stream_at setup.settings.ntp_base setup.settings.rate t outcome.own)
     setup.cname (extra_item setup.settings.extras (outcome.reports + 1)) usable.cname.1 extra in
     let last = last_reported_in outcome.trace in
     subst (λ (blocks : List ReportBlock). length (written_all (packets_with (reporter_at setup t outcome) blocks))

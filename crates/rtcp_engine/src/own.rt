@@ -2,7 +2,7 @@
 
 ghost use Rattle.std.specs.Prelude.{◌≡◌, ◌≤◌, ℕ, [], IsTrue, is_some, option_map};
 ghost use Rattle.rtcp_report.specs.Views.{sent_value};
-ghost use Rattle.rtcp_engine.specs.answers.OwnStreams.{Adds, packet_sent, check_passed, report_sent, own_of, timestamp_at, sent_of};
+ghost use Rattle.rtcp_engine.specs.answers.OwnStreams.{Adds, packet_sent, check_passed, report_sent, own_of, timestamp_from, sent_of};
 ghost use Rattle.rtcp_engine.specs.answers.OwnCounts.{counts_of};
 ghost use Rattle.rtcp_engine.specs.state.OwnValues.{own_anew, packet_value};
 
@@ -159,7 +159,7 @@ impl OwnStream {
 
 /// The RTP timestamp of the moment `t`: that of the last packet, and the units of the media's clock since.
 fn timestamp_of(newest: Option<NewestPacket>, rate: u32, t: u64) -> u32
-    ensures { result ≡ timestamp_at rate t (option_map packet_value newest) }
+    ensures { result ≡ timestamp_from rate t (option_map packet_value newest) }
 {
     match newest {
         Some(packet) => {

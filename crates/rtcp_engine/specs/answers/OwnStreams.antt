@@ -1,6 +1,6 @@
 -- The participant's own RTP stream, and whether it counts as a sender (RFC 3550, 6.3.8, 6.4.1). Lists are
 -- newest first.
-use Rattle.std.specs.Prelude.{◌≡◌, ℕ, ◌+◌, ◌-◌, ◌%◌, ◌^◌, Bool, true, false, List, [], ◌∷◌, if◌then◌else◌, Option, Some, None, is_some}
+use Rattle.std.specs.Prelude.{◌≡◌, ℕ, ◌+◌, ◌-◌, ◌%◌, ◌^◌, Bool, true, false, List, [], ◌∷◌, length, sum, if◌then◌else◌, Option, Some, None, is_some}
 use Rattle.rtcp_clock.specs.Moments.{ntp_moment, media_units}
 use Rattle.rtcp_members.specs.Present.{is_before}
 use Rattle.rtcp_report.specs.Reports.{SentValue}
@@ -29,17 +29,12 @@ we_sent own = is_some (sending_since own)
 
 -- ---- What a sender report says of the stream
 
-abbrev pub packets_sent : List OwnStep → ℕ
-packets_sent [] = 0
-packets_sent (packet_sent moment timestamp octets ∷ earlier) = packets_sent earlier + 1
-packets_sent (counts_anew ∷ earlier) = 0
-packets_sent (_ ∷ earlier) = packets_sent earlier
-
-abbrev pub octets_sent : List OwnStep → ℕ
-octets_sent [] = 0
-octets_sent (packet_sent moment timestamp octets ∷ earlier) = octets_sent earlier + octets
-octets_sent (counts_anew ∷ earlier) = 0
-octets_sent (_ ∷ earlier) = octets_sent earlier
+-- the octets of payload of each packet that was sent under the present identifier
+abbrev pub payloads_sent : List OwnStep → List ℕ
+payloads_sent [] = []
+payloads_sent (packet_sent moment timestamp octets ∷ earlier) = octets ∷ payloads_sent earlier
+payloads_sent (counts_anew ∷ earlier) = []
+payloads_sent (_ ∷ earlier) = payloads_sent earlier
 
 -- whether a report or a packet was sent under the present identifier
 abbrev pub has_sent : List OwnStep → Bool
@@ -47,6 +42,28 @@ has_sent [] = false
 has_sent (check_passed idle ∷ earlier) = has_sent earlier
 has_sent (counts_anew ∷ earlier) = false
 has_sent (_ ∷ earlier) = true
+
+-- The RTP timestamp of a moment: that of the last packet, and the units of the media's clock since. (0 if no
+-- packet was sent.)
+abbrev pub timestamp_at : (rate t : ℕ) → List OwnStep → ℕ
+timestamp_at rate t [] = 0
+timestamp_at rate t (packet_sent moment timestamp octets ∷ earlier) =
+    (timestamp + media_units (t - moment) rate) % 2 ^ 32
+timestamp_at rate t (_ ∷ earlier) = timestamp_at rate t earlier
+
+-- the stream at the moment `t`, where the participant reports as a sender
+abbrev pub stream_at : (ntp_base rate t : ℕ) → List OwnStep → Option SentValue
+stream_at ntp_base rate t own =
+    if we_sent own
+    then Some (record {
+      ntp = ntp_moment ntp_base t;
+      rtp = timestamp_at rate t own;
+      packets = length (payloads_sent own) % 2 ^ 32;
+      octets = sum (payloads_sent own) % 2 ^ 32;
+    })
+    else None
+
+-- ---- The few numbers that the code keeps of it, which no clause of `run` names
 
 pub record PacketValue : Type 0 where
   pub moment : ℕ
@@ -58,25 +75,10 @@ newest_packet (packet_sent moment timestamp octets ∷ earlier) =
     Some (record { moment = moment; timestamp = timestamp })
 newest_packet (_ ∷ earlier) = newest_packet earlier
 
--- The RTP timestamp of a moment: that of the last packet, and the units of the media's clock since. (0 if no
--- packet was sent.)
-abbrev pub timestamp_at : (rate t : ℕ) → Option PacketValue → ℕ
-timestamp_at rate t None = 0
-timestamp_at rate t (Some packet) = (packet.timestamp + media_units (t - packet.moment) rate) % 2 ^ 32
-
--- the stream at the moment `t`, where the participant reports as a sender
-abbrev pub stream_at : (ntp_base rate t : ℕ) → List OwnStep → Option SentValue
-stream_at ntp_base rate t own =
-    if we_sent own
-    then Some (record {
-      ntp = ntp_moment ntp_base t;
-      rtp = timestamp_at rate t (newest_packet own);
-      packets = packets_sent own % 2 ^ 32;
-      octets = octets_sent own % 2 ^ 32;
-    })
-    else None
-
--- ---- The few numbers that it comes to
+-- the same timestamp, by the last packet alone
+abbrev pub timestamp_from : (rate t : ℕ) → Option PacketValue → ℕ
+timestamp_from rate t None = 0
+timestamp_from rate t (Some packet) = (packet.timestamp + media_units (t - packet.moment) rate) % 2 ^ 32
 
 pub record OwnValue : Type 0 where
   -- the moment since which the participant sends
@@ -92,8 +94,8 @@ abbrev pub own_of : List OwnStep → OwnValue
 own_of own = record {
   sending = sending_since own;
   newest = newest_packet own;
-  packets = packets_sent own % 2 ^ 32;
-  octets = octets_sent own % 2 ^ 32;
+  packets = length (payloads_sent own) % 2 ^ 32;
+  octets = sum (payloads_sent own) % 2 ^ 32;
   heard = has_sent own;
 }
 
@@ -107,7 +109,7 @@ sent_of ntp_base rate t own =
     if is_some own.sending
     then Some (record {
       ntp = ntp_moment ntp_base t;
-      rtp = timestamp_at rate t own.newest;
+      rtp = timestamp_from rate t own.newest;
       packets = own.packets;
       octets = own.octets;
     })

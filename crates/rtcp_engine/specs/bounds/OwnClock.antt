@@ -3,7 +3,7 @@ use Rattle.std.specs.Prelude.{ℕ, List, [], ◌∷◌, Option}
 use Rattle.rtcp_report.specs.Reports.{SentValue}
 use Rattle.rtcp_engine.specs.answers.Setups.{SettingsValue}
 use Rattle.rtcp_engine.specs.answers.Acts.{Act, configured}
-use Rattle.rtcp_engine.specs.answers.OwnStreams.{OwnStep, own_of, sent_of}
+use Rattle.rtcp_engine.specs.answers.OwnStreams.{OwnStep, stream_at}
 
 -- The settings that were given last: the first ones until others are given.
 abbrev pub latest_settings : (first : SettingsValue) → List Act → SettingsValue
@@ -14,4 +14,4 @@ latest_settings first (act ∷ earlier) = latest_settings first earlier
 -- What a report at the moment `t` says of a stream by these settings: the NTP timestamp of `t`, and that of the newest
 -- packet moved on to `t`.
 abbrev pub told_by : SettingsValue → (t : ℕ) → List OwnStep → Option SentValue
-told_by settings t own = sent_of settings.ntp_base settings.rate t (own_of own)
+told_by settings t own = stream_at settings.ntp_base settings.rate t own
