@@ -1,14 +1,15 @@
 -- A participant that is asked late enough sends.
-use Rattle.std.proofs.Common.{◌≡◌, ℕ, ◌+◌, ◌^◌, ◌<◌, ◌≤◌, ◌&&◌, ◌==◌, nat_lt, nat_le, max, Bool, true, false, IsTrue, is_some, List, [], ◌∷◌, map, filter, not, Option, Some, None, option_map, Ok, Err, if◌then◌else◌, refl, sym, ap, arith, subst, inl, inr}
+use Rattle.std.proofs.Common.{◌≡◌, ℕ, ◌+◌, ◌^◌, ◌<◌, ◌≤◌, ◌&&◌, ◌==◌, nat_lt, nat_le, max, Bool, true, false, IsTrue, is_some, List, [], ◌∷◌, map, filter, not, Option, Some, None, option_map, Ok, Err, if◌then◌else◌, refl, sym, ap, ◌∙◌, arith, subst, inl, inr}
 use Rattle.std.proofs.lemmas.Bool.{cases_lt, cond_both, lt-ltb, le-ltb, le-leb}
+use Rattle.std.proofs.lemmas.Bool.Decides.{nat_tests}
 use Rattle.rtcp_clock.specs.Intervals.{drawn_interval, longest_draw}
 use Rattle.rtcp_clock.proofs.LawLemmas.{draw_within_bounds, longest_never_falls}
 use Rattle.rtcp_wire.specs.declared.fact.Fact.{Fact}
 use Rattle.rtcp_wire.specs.declared.fact.Fact.TheVariants.{Heard}
 use Rattle.rtcp_wire.specs.Values.{RtpValue}
-use Rattle.rtcp_members.specs.Traces.{TraceStep, fact_came, with_facts}
+use Rattle.rtcp_members.specs.Traces.{TraceStep, block_made_of, fact_came, with_blocks, with_facts}
 use Rattle.rtcp_members.specs.Entries.{counted_at, members_at}
-use Rattle.rtcp_members.proofs.LawLemmas.{facts_keep_members}
+use Rattle.rtcp_members.proofs.LawLemmas.{facts_keep_members, roles_move_with_counts-block}
 use Rattle.rtcp_timer.specs.Loads.{interval_of}
 use Rattle.rtcp_timer.specs.Schedules.{Happening, Timing, IsDue, IsInOrder, newest_transmission, greatest_draw, schedule_at}
 use Rattle.rtcp_timer.specs.Departures.{members_known, last_departure}
@@ -24,14 +25,14 @@ use Rattle.rtcp_engine.specs.declared.refusal.Refusal.{Refusal}
 use Rattle.rtcp_engine.specs.answers.Answers.{answer_of, followed_by, step_by, refusal_after}
 use Rattle.rtcp_engine.specs.answers.Histories.{History, last_moment, life_at, session_of, setup_after, setup_at, with_act}
 use Rattle.rtcp_engine.specs.bounds.Runs.{HasCompound, IsAnsweredInTime}
-use Rattle.rtcp_engine.specs.answers.Reporting.{bye_octets, report_octets}
+use Rattle.rtcp_engine.specs.answers.Reporting.{bye_octets, report_octets, reported_at}
 use Rattle.rtcp_engine.specs.state.Taken.{HasWords, AllTaken, IsHistory}
 use Rattle.rtcp_engine.specs.answers.Leaving.{Backoff, Life, present, backing_off, finished, after_waiting_tick, left_at, bye_count, is_bye_due, leaving_interval, leaving_load, leaving_timing}
 use Rattle.rtcp_engine.specs.answers.Lives.{lived, bye_out, out_by, report_out, with_new_ssrc, with_media}
 use Rattle.rtcp_engine.specs.bounds.Sent.{Sent, interval_by, reports_in, sent_at}
 use Rattle.rtcp_engine.specs.bounds.Spacing.{first_leave, newest_moment}
 use Rattle.rtcp_engine.specs.bounds.InTime.{AllInTime, HasWaited, IsInTime, greatest_by, greatest_interval, is_fall, last_fall}
-use Rattle.rtcp_engine.proofs.LifeLemmas.{of_leave, of_wait}
+use Rattle.rtcp_engine.proofs.LifeLemmas.{of_check, of_leave, of_wait}
 use Rattle.rtcp_engine.proofs.Sending.{AreUpTo, KeepsApart, in_time, session_keeps_apart}
 
 -- ---- Draws
@@ -69,6 +70,18 @@ csrcs_keep capacity moment (ssrc ∷ ssrcs) trace =
       csrcs_keep capacity moment ssrcs
           (fact_came (Heard ssrc) moment ∷ trace),
     )
+
+same_members : (now before senders senders_before : ℕ) →
+    not ((now == before) && (senders == senders_before)) ≡ false → now ≡ before
+same_members now before senders senders_before e = grind (arith, nat_tests, e)
+
+-- The blocks of a report leave the members.
+blocks_keep : (capacity : ℕ) (ssrcs : List ℕ) (trace : List TraceStep) →
+    members_at capacity (with_blocks ssrcs trace) ≡ members_at capacity trace
+blocks_keep capacity [] trace = refl
+blocks_keep capacity (ssrc ∷ ssrcs) trace =
+    blocks_keep capacity ssrcs (block_made_of ssrc ∷ trace)
+    ∙ same_members _ _ _ _ (roles_move_with_counts-block capacity ssrc trace)
 
 -- An RTP packet that came never lowers the members.
 media_keeps : (setup : Setup) (moment : ℕ) (head : RtpValue) (outcome : Outcome) →
@@ -219,12 +232,25 @@ is_sent false octets = refl
 abbrev new_fall : Setup → Act → Life → (fall : ℕ) → ℕ
 new_fall setup act life fall = if is_fall setup act life then moment_of act else fall
 
+-- A tick is a fall where its check is one.
+tick_falls : (setup : Setup) (t first_word second_word : ℕ) (outcome : Outcome) →
+    nat_lt (member_count setup (checked setup t outcome)) (member_count setup outcome)
+    ≡ is_fall setup (ticked t first_word second_word) (present outcome)
+tick_falls setup t first_word second_word outcome =
+    let now = checked setup t outcome in
+    of_check (λ (later : Outcome). nat_lt (member_count setup now) (member_count setup outcome)
+    ≡ nat_lt (member_count setup later) (member_count setup outcome)) setup t first_word second_word now refl refl
+    (ap (λ (others : ℕ). nat_lt (1 + others) (member_count setup outcome))
+    (sym (blocks_keep setup.capacity (reported_at setup t now) now.trace)))
+
 -- the check of a tick
 tick_checks : (setup : Setup) (fall greatest t moment first_word second_word : ℕ) (outcome : Outcome) → t ≤ moment →
     Waits setup fall greatest t outcome
     → Waits setup (new_fall setup (ticked moment first_word second_word) (present outcome) fall) greatest moment
     (checked setup moment outcome)
-tick_checks setup fall greatest t moment first_word second_word outcome order h = recounts moment _ refl order h
+tick_checks setup fall greatest t moment first_word second_word outcome order h =
+    subst (λ (fell : Bool). Waits setup (if fell then moment else fall) greatest moment (checked setup moment outcome))
+    (tick_falls setup moment first_word second_word outcome) (recounts moment _ refl order h)
 
 while_present_waits : (setup : Setup) (fall greatest t : ℕ) (act : Act) (outcome : Outcome) → t ≤ moment_of act →
     HasWords act → Waits setup fall greatest t outcome

@@ -22,12 +22,12 @@ use Rattle.rtcp_engine.specs.answers.Leaving.{Backoff, Life, present, backing_of
 use Rattle.rtcp_engine.specs.answers.Lives.{lived, members_in_life, with_new_ssrc, with_change}
 use Rattle.rtcp_engine.specs.answers.Changes.{NewIdentifier, Session, change_by, changed_by, is_among, with_ssrc}
 use Rattle.rtcp_engine.specs.answers.Histories.{History, life_at, session_at, session_for, session_of, setup_after, setup_at, with_act}
-use Rattle.rtcp_engine.specs.bounds.InTime.{is_fall, recounted_by}
+use Rattle.rtcp_engine.specs.bounds.InTime.{has_fewer, is_fall}
 use Rattle.rtcp_engine.specs.bounds.Sent.{reports_in, sent_at}
 use Rattle.rtcp_engine.specs.state.Taken.{IsHistory}
 use Rattle.rtcp_session.specs.Departures.{Departs, departs_by, departures_within, is_departure, is_departure_after, may_be_departure, is_member_of, is_silent, leavers, leavers_of, says_bye}
 use Rattle.rtcp_session.specs.Falls.{AllWaitAtMost, HasReport, TicksWithin, falls_within}
-use Rattle.rtcp_session.proofs.Departing.{Leaves, alike, by_check, by_facts, by_forgetting, by_nothing, fewer_by_departure, member, says_bye_among, with_blocks_too}
+use Rattle.rtcp_session.proofs.Departing.{Leaves, alike, by_check, by_facts, by_forgetting, by_nothing, fewer_by_departure, says_bye_among, with_blocks_too}
 use Rattle.rtcp_session.proofs.Falling.{reports_between}
 
 never : false ≡ true → ⊥
@@ -119,11 +119,11 @@ module _ (setup : Setup) where
 
   compound_leaves : (t peer word size : ℕ) (packets : List RtcpPacket) (outcome : Outcome) →
       let act = arrived t peer word (rtcp size (Ok packets)) in
-      LeavesBy act outcome (recounted_by setup act outcome)
+      LeavesBy act outcome (after setup act outcome)
   compound_leaves t peer word size packets outcome =
       let act : Act = arrived t peer word (rtcp size (Ok packets)) in
       alike setup.capacity (λ ssrc. says_bye_among ssrc (facts_of packets)) (departs_by setup act outcome)
-      outcome.trace (recounted_by setup act outcome).trace (λ ssrc. compound_says ssrc packets)
+      outcome.trace (after setup act outcome).trace (λ ssrc. compound_says ssrc packets)
       (by_facts setup.capacity t (facts_of packets) outcome.trace)
 
   media_leaves : (t peer word : ℕ) (head : RtpValue) (outcome : Outcome) →
@@ -153,19 +153,6 @@ module _ (setup : Setup) where
   act_leaves (configured t settings) outcome = by_nothing setup.capacity outcome.trace
   act_leaves (forgotten t gone) outcome = forgetting_leaves t gone outcome
 
-  -- the same of what is counted again
-  recount_leaves : (act : Act) (outcome : Outcome) → LeavesBy act outcome (recounted_by setup act outcome)
-  recount_leaves (arrived t peer word (rtcp size (Ok packets))) outcome =
-      compound_leaves t peer word size packets outcome
-  recount_leaves (arrived t peer word (rtcp size (Err fault))) outcome = by_nothing setup.capacity outcome.trace
-  recount_leaves (arrived t peer word (rtp (Ok head))) outcome = by_nothing setup.capacity outcome.trace
-  recount_leaves (arrived t peer word (rtp (Err fault))) outcome = by_nothing setup.capacity outcome.trace
-  recount_leaves (rtp_sent t timestamp octets) outcome = by_nothing setup.capacity outcome.trace
-  recount_leaves (ticked t first_word second_word) outcome = check_leaves t first_word second_word outcome
-  recount_leaves (left t word) outcome = by_nothing setup.capacity outcome.trace
-  recount_leaves (configured t settings) outcome = by_nothing setup.capacity outcome.trace
-  recount_leaves (forgotten t gone) outcome = forgetting_leaves t gone outcome
-
   pub stay_unless_departed : (act : Act) (outcome : Outcome) (ssrc : ℕ) → is_member_of setup outcome ssrc ≡ true →
       is_member_of setup (after setup act outcome) ssrc ≡ not (departs_by setup act outcome ssrc)
   stay_unless_departed act outcome ssrc is = (act_leaves act outcome).roles ssrc is
@@ -174,28 +161,12 @@ module _ (setup : Setup) where
       is_member_of setup (checked setup t outcome) ssrc ≡ not (is_silent setup t outcome ssrc)
   checked_unless_silent t outcome ssrc is = (check_leaves t 0 0 outcome).roles ssrc is
 
-  -- ---- Falls
-
-  fewer_departs : (act : Act) (before now : Outcome) → LeavesBy act before now →
-      member_count setup now < member_count setup before → is_departure setup act (present before) ≡ true
-  fewer_departs act before now leaves fell =
-      fewer_by_departure setup.capacity (departs_by setup act before) before.trace now.trace leaves
-      (omega (arith, fell))
-
   pub members_fall_by_departures : (act : Act) (outcome : Outcome) →
       member_count setup (after setup act outcome) < member_count setup outcome →
       is_departure setup act (present outcome) ≡ true
   members_fall_by_departures act outcome fell =
-      fewer_departs act outcome (after setup act outcome) (act_leaves act outcome) fell
-
-  pub falls_are_by_departures : (act : Act) (life : Life) → is_fall setup act life ≡ true →
-      is_departure setup act life ≡ true
-  falls_are_by_departures act (present outcome) is =
-      let now : Outcome = recounted_by setup act outcome in
-      fewer_departs act outcome now (recount_leaves act outcome)
-      (ltb-true (member_count setup now) (member_count setup outcome) is)
-  falls_are_by_departures act (backing_off outcome backoff) is = absurd (never is)
-  falls_are_by_departures act (finished outcome) is = absurd (never is)
+      fewer_by_departure setup.capacity (departs_by setup act outcome) outcome.trace (after setup act outcome).trace
+      (act_leaves act outcome) (omega (arith, fell))
 
 -- ---- Who departs
 
@@ -325,6 +296,20 @@ tells_fewer setup (forgotten t gone) (present outcome) later is fell =
 tells_fewer setup act (backing_off outcome backoff) later is fell =
     absurd (never_back setup act outcome later backoff is)
 tells_fewer setup act (finished outcome) later is fell = absurd cc
+
+pub falls_are_by_departures : (setup : Setup) (act : Act) (life : Life) → is_fall setup act life ≡ true →
+    is_departure setup act life ≡ true
+falls_are_by_departures setup act (present outcome) is = by (lived setup act (present outcome)) refl is
+  where
+    by : (life : Life) → lived setup act (present outcome) ≡ life → has_fewer setup outcome life ≡ true →
+        is_departure setup act (present outcome) ≡ true
+    by (present later) same is =
+        tells_fewer setup act (present outcome) later same
+        (ltb-true (member_count setup later) (member_count setup outcome) is)
+    by (backing_off later backoff) same is = absurd (never is)
+    by (finished later) same is = absurd (never is)
+falls_are_by_departures setup act (backing_off outcome backoff) is = absurd (never is)
+falls_are_by_departures setup act (finished outcome) is = absurd (never is)
 
 -- A change of identifier changes no count.
 tells_fewer_then : (session : Session) (act : Act) (change : Option NewIdentifier) (later : Outcome) →

@@ -1,13 +1,13 @@
--- How late a participant sends at the latest, where it is asked. Lists are newest first; moments and intervals are in
--- microseconds.
+-- How late a participant sends at the latest, where it is asked (RFC 3550, 6.3). Lists are newest first; moments and
+-- intervals are in microseconds.
 use Rattle.std.specs.Prelude.{ℕ, ◌+◌, ◌≤◌, Bool, false, IsTrue, is_some, nat_lt, max, List, [], ◌∷◌, if◌then◌else◌}
 use Rattle.rtcp_clock.specs.Intervals.{longest_draw}
 use Rattle.rtcp_timer.specs.Loads.{interval_of}
 use Rattle.rtcp_engine.specs.answers.Setups.{Setup}
-use Rattle.rtcp_engine.specs.answers.Acts.{Act, rtcp, arrived, ticked, left, forgotten, moment_of}
+use Rattle.rtcp_engine.specs.answers.Acts.{Act, ticked, left, moment_of}
 use Rattle.rtcp_engine.specs.answers.Outcomes.{Outcome, interval_at, member_count, nothing_yet}
-use Rattle.rtcp_engine.specs.answers.Lives.{made_by, with_datagram}
-use Rattle.rtcp_engine.specs.answers.Ticks.{checked, with_report, without_source}
+use Rattle.rtcp_engine.specs.answers.Lives.{made_by}
+use Rattle.rtcp_engine.specs.answers.Ticks.{checked, with_report}
 use Rattle.rtcp_engine.specs.answers.Histories.{History, brought_by, session_at, session_for, session_of}
 use Rattle.rtcp_engine.specs.answers.Leaving.{Life, present, backing_off, finished, leaving_interval, leaving_load}
 use Rattle.rtcp_engine.specs.bounds.Sent.{Sent, reports_in, sent_at}
@@ -15,19 +15,15 @@ use Rattle.rtcp_engine.specs.bounds.Spacing.{newest_moment}
 
 -- ---- Falls
 
--- the session after a compound that came, the check of a tick, or a source that is forgotten: all that can lower the
--- members
-abbrev pub recounted_by : Setup → Act → Outcome → Outcome
-recounted_by setup (arrived moment peer word (rtcp size reading)) outcome =
-    with_datagram setup moment (rtcp size reading) outcome
-recounted_by setup (ticked moment first_word second_word) outcome = checked setup moment outcome
-recounted_by setup (forgotten moment ssrc) outcome = without_source setup moment ssrc outcome
-recounted_by setup act outcome = outcome
+-- Whether the participant takes part still, with fewer members than before.
+abbrev pub has_fewer : Setup → (before : Outcome) → Life → Bool
+has_fewer setup before (present after) = nat_lt (member_count setup after) (member_count setup before)
+has_fewer setup before _ = false
 
--- A fall is a compound, a check or a source that is forgotten, after which there are fewer members than before it.
+-- A fall is an act of a participant that takes part, after which it has fewer members (6.3.4): a compound, a tick or a
+-- source that is forgotten.
 abbrev pub is_fall : Setup → Act → Life → Bool
-is_fall setup act (present outcome) =
-    nat_lt (member_count setup (recounted_by setup act outcome)) (member_count setup outcome)
+is_fall setup act (present outcome) = has_fewer setup outcome (made_by setup act (present outcome)).life
 is_fall setup act _ = false
 
 -- the moment of the newest fall, 0 if there was none
