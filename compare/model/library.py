@@ -5,11 +5,12 @@ import itertools
 
 
 class Node:
-    """A value of a `data` type: the name of its constructor, and its parts. A list has `∷`, but for the empty one."""
-    __slots__ = "tag", "parts"
+    """A value of a `data` type: the name of its constructor, and its parts. A list has `∷`, but for the empty one, and
+    a length."""
+    __slots__ = "tag", "parts", "length"
 
     def __init__(self, tag, parts):
-        self.tag, self.parts = tag, parts
+        self.tag, self.parts, self.length = tag, parts, 1 + parts[1].length if tag == "∷" else 0
 
     def __repr__(self):
         return f"({' '.join([self.tag, *map(repr, self.parts)])})" if self.parts else self.tag
@@ -141,7 +142,7 @@ def twos_complement(size, number):
 
 # how many arguments each takes, and what it gives
 FUNCTIONS = {
-    "length": (1, lambda given: sum(1 for _ in items(given))),
+    "length": (1, lambda given: given.length),
     "map": (2, lambda f, given: listed(f(value) for value in items(given))),
     "filter": (2, lambda f, given: listed(value for value in items(given) if f(value))),
     "filter_map": (2, lambda f, given: kept(f(value) for value in items(given))),
