@@ -14,9 +14,9 @@ NAME = r"[^\s(){}\[\],.;λ|]+"
 USE = re.compile(rf"^use Rattle\.([\w.\-]+)\.\{{(.*?)\}}", re.S)
 # how closely an operator binds, and whether it binds to the right
 BINDS = {"→": (0, True), "⊎": (1, True), "×": (2, True), "||": (3, True), "&&": (4, True), "==": (5, False),
-         "≡": (5, False), "≢": (5, False), "≤": (5, False), "<": (5, False), "≤ℤ": (5, False), "∷": (6, True),
-         "++": (6, True), "+": (7, False), "-": (7, False), "-ℤ": (7, False), "*": (8, False), "/": (8, False),
-         "%": (8, False), "^": (9, True)}
+         "≡": (5, False), "≤": (5, False), "<": (5, False), "∷": (6, True), "++": (6, True),
+         "+": (7, False), "-": (7, False), "-ℤ": (7, False), "*": (8, False), "/": (8, False), "%": (8, False),
+         "^": (9, True)}
 CLOSERS = {")", "[", "]", "{", "}", ";", ",", "|", "↦", "then", "else", "in", "=", ".", ":"}
 CONSTRUCTORS = {"[]": 0, "∷": 2, "zero": 0, "suc": 1, "true": 0, "false": 0, "None": 0, "Some": 1, "Ok": 1, "Err": 1,
                 "pos": 1, "negsuc": 1}
@@ -338,25 +338,12 @@ class Definitions:
             held = ("operator", "×", Reader(tokens_of(text)).expression(), held)
         return [([("named", one) for one in names], held)]
 
-    def variants(self, module, name):
-        """The Python of all values of an enum that has no fields."""
-        uses = self.module(module).uses
-        if name not in uses or ".declared." not in uses[name][0]:
-            return None
-        crate, _, _, *folders, kind = uses[name][0].split(".")
-        text = (self.top / "crates" / crate / "src" / ("/".join(folders) + ".rt")).read_text()
-        names = re.findall(r"^    (\w+),", text[text.index(f"pub enum {kind} "):].split("\n}")[0], re.M)
-        return "[" + ", ".join(f"node({one!r})" for one in names) + "]"
-
     @staticmethod
     def clause(text):
         reader = Reader(tokens_of(text))
         reader.take()
         patterns = []
         while reader.next() != "=":
-            if reader.next() == "{":
-                reader.skip_to("=")
-                break
             patterns.append(reader.part_of_pattern())
         return patterns, reader.after("=")
 
@@ -491,14 +478,12 @@ class Writer:
         return f"Lam(lambda {name}: {self.expression(tree[2], {**scope, tree[1]: name})})"
 
     def of_every(self, tree, scope):
-        """What holds of all numbers is tried with those of library.NUMBERS, and what holds of all values of an enum
-        with each. What holds of all else is not computed."""
-        kinds = "NUMBERS" if tree[2] == "ℕ" else self.definitions.variants(self.module, tree[2])
-        if not kinds:
-            return "True"
+        """What holds of all numbers is tried with those of library.NUMBERS."""
+        if tree[2] != "ℕ":
+            raise Unread(f"what holds of all {tree[2]} is not computed")
         names = {name: self.fresh() for name in tree[1]}
         body = self.expression(tree[3], {**scope, **names})
-        return f"every({kinds}, {len(names)}, lambda {', '.join(names.values())}: {body})"
+        return f"every(NUMBERS, {len(names)}, lambda {', '.join(names.values())}: {body})"
 
     def of_elim(self, tree, scope):
         name, text = self.fresh(), "no_case()"

@@ -30,8 +30,10 @@ def item_values(pairs):
     return listed(record({"kind": kind, "text": listed(text)}) for kind, text in pairs)
 
 
-def clock_values(clocks):
-    return listed(record({"payload_type": kind, "rate": rate}) for kind, rate in clocks)
+def settings_value(sender_bw, receiver_bw, clocks, pairs, rate, ntp):
+    clock_values = listed(record({"payload_type": kind, "rate": units}) for kind, units in clocks)
+    return record({"sender_bw": sender_bw, "receiver_bw": receiver_bw, "rate": rate, "clocks": clock_values,
+                   "ntp_base": ntp, "extras": item_values(pairs)})
 
 
 def blocks_in(octets, count):
@@ -107,10 +109,10 @@ class Defined:
     def __init__(self, options, definitions):
         self.answer_of, self.followed_by = (definitions.call(ANSWERS, name) for name in ("answer_of", "followed_by"))
         setup = record({
-            "ssrc": options["ssrc"], "cname": listed(options["cname"]), "extras": item_values(options["items"]),
-            "capacity": options["capacity"], "limit": options["limit"], "sender_bw": options["sender-bw"],
-            "receiver_bw": options["receiver-bw"], "rate": options["rate"], "clocks": clock_values(options["clock"]),
-            "ntp_base": options["ntp"]})
+            "ssrc": options["ssrc"], "cname": listed(options["cname"]), "capacity": options["capacity"],
+            "limit": options["limit"],
+            "settings": settings_value(*(options[name] for name in
+                                         ("sender-bw", "receiver-bw", "clock", "items", "rate", "ntp")))})
         self.start = self.history = record({"setup": setup, "word": options["word"], "acts": listed([])})
         self.acts, self.answers, self.definitions = [], [], definitions
         life = definitions.call(HISTORIES, "life_at")(self.history)
@@ -158,10 +160,8 @@ class Defined:
     def leave(self, *values):
         return self.answer(node("left", *values))
 
-    def configure(self, moment, sender_bw, receiver_bw, clocks, pairs, rate, ntp):
-        settings = record({"sender_bw": sender_bw, "receiver_bw": receiver_bw, "rate": rate,
-                           "clocks": clock_values(clocks), "ntp_base": ntp, "extras": item_values(pairs)})
-        return self.answer(node("configured", moment, settings))
+    def configure(self, moment, *values):
+        return self.answer(node("configured", moment, settings_value(*values)))
 
     def forget(self, *values):
         return self.answer(node("forgotten", *values))

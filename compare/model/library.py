@@ -1,15 +1,17 @@
 """What the definitions of specs/ use of the kit's standard library, in Python: lists, numbers, truth values, options.
 
 Lists are nodes with a head and a tail. Equal nodes are the same object."""
+import functools
 import itertools
 
 
 class Node:
-    """A value of a `data` type: the name of its constructor, and its parts. A list has `∷`, but for the empty one."""
-    __slots__ = "tag", "parts"
+    """A value of a `data` type: the name of its constructor, and its parts. A list has `∷`, but for the empty one, and
+    a length."""
+    __slots__ = "tag", "parts", "length"
 
     def __init__(self, tag, parts):
-        self.tag, self.parts = tag, parts
+        self.tag, self.parts, self.length = tag, parts, 1 + parts[1].length if tag == "∷" else 0
 
     def __repr__(self):
         return f"({' '.join([self.tag, *map(repr, self.parts)])})" if self.parts else self.tag
@@ -87,10 +89,12 @@ def listed(values):
 def curried(function, arity, *given):
     if arity == len(given):
         return function(*given)
-    return Lam(lambda one: curried(function, arity, *given, one))
+    return lambda one: curried(function, arity, *given, one)
 
 
+@functools.cache
 def maker(tag, arity):
+    """A constructor as a function."""
     return curried(lambda *parts: node(tag, *parts), arity)
 
 
@@ -141,7 +145,7 @@ def twos_complement(size, number):
 
 # how many arguments each takes, and what it gives
 FUNCTIONS = {
-    "length": (1, lambda given: sum(1 for _ in items(given))),
+    "length": (1, lambda given: given.length),
     "map": (2, lambda f, given: listed(f(value) for value in items(given))),
     "filter": (2, lambda f, given: listed(value for value in items(given) if f(value))),
     "filter_map": (2, lambda f, given: kept(f(value) for value in items(given))),
@@ -155,11 +159,8 @@ FUNCTIONS = {
     "slice_get": (2, at),
     "slice_index": (2, lambda given, place: option(at(given, place), 0, lambda value: value)),
     "option_map": (2, lambda f, given: option(given, NONE, lambda value: some(f(value)))),
-    "option_and_then": (2, lambda f, given: option(given, NONE, f)),
     "option_or": (2, lambda given, other: other if given is NONE else given),
-    "option_copied": (1, lambda given: given),
     "option_to_list": (1, lambda given: option(given, NIL, lambda value: listed([value]))),
-    "unwrap_or": (2, lambda given, other: option(given, other, lambda value: value)),
     "is_some": (1, lambda given: given is not NONE),
     "is_none": (1, lambda given: given is NONE),
     "not": (1, lambda given: not given),
@@ -192,8 +193,8 @@ def every(values, count, holds):
 OPERATORS = {
     "+": "({} + {})", "*": "({} * {})", "^": "({} ** {})", "-": "max({} - {}, 0)", "/": "quotient({}, {})",
     "%": "remainder({}, {})", "-ℤ": "({} - {})", "==": "({} == {})", "&&": "({} and {})", "||": "({} or {})",
-    "∷": "cons({}, {})", "++": "appended({}, {})", "≡": "({} == {})", "≢": "({} != {})", "≤": "({} <= {})",
-    "≤ℤ": "({} <= {})", "<": "({} < {})", "×": "({} and {})", "⊎": "({} or {})", "→": "(not {} or {})",
+    "∷": "cons({}, {})", "++": "appended({}, {})", "≡": "({} == {})", "≤": "({} <= {})",
+    "<": "({} < {})", "×": "({} and {})", "⊎": "({} or {})", "→": "(not {} or {})",
 }
 
 # constructors that are no nodes: how a pattern tests for one, and where the parts are; and what makes one
@@ -201,7 +202,6 @@ SHAPES = {
     "[]": ("{} is NIL", []), "∷": ("{} is not NIL", ["{}.parts[0]", "{}.parts[1]"]),
     "None": ("{} is NONE", []), "Some": ("{} is not NONE", ["{}.parts[0]"]),
     "true": ("{}", []), "false": ("not {}", []), "zero": ("{} == 0", []), "suc": ("{} > 0", ["({} - 1)"]),
-    "pos": ("{} >= 0", ["{}"]), "negsuc": ("{} < 0", ["(-1 - {})"]), "_": ("True", []),
 }
 MAKERS = {
     "[]": "NIL", "∷": "cons({}, {})", "None": "NONE", "Some": "some({})", "true": "True", "false": "False",
