@@ -1,6 +1,5 @@
 -- A table and numbers that agree with an outcome agree, once they moved, with the outcome after the same act.
 use Rattle.std.proofs.Common.{None, ◌≡◌, ℕ, ◌+◌, ◌==◌, Bool, List, [], ◌∷◌, length, map, Option, is_some, refl, sym, ap, ◌∙◌, arith, subst}
-use Rattle.std.proofs.lemmas.Bool.{ne_eqb}
 use Rattle.rtcp_wire.specs.declared.fact.Fact.{Fact}
 use Rattle.rtcp_wire.specs.Values.{ReportBlock, RtpValue}
 use Rattle.rtcp_wire.specs.Writing.{written_all}

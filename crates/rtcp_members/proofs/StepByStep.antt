@@ -44,8 +44,10 @@ one_more seq transit octets rate run = by (is_near_run run.counted seq) (follows
     first = record { ordinal = seq + 65536; transit = transit; octets = octets; rate = rate }
 
     by : (near following : Bool) → is_some (slice_get (if near
-        then record run { counted = record first { ordinal = ordinal_near (greatest_ordinal run.counted) seq }
-            ∷ run.counted }
+        then record run {
+          counted = record first { ordinal = ordinal_near (greatest_ordinal run.counted) seq }
+              ∷ run.counted;
+        }
         else if following then record { counted = first ∷ []; stray = None; reported = [] }
         else record run { stray = Some seq }).counted 0)
         ≡ (near || following || is_some (slice_get run.counted 0))

@@ -1,5 +1,5 @@
 -- The packets of a compound report (RFC 3550, 6.1, 6.4, 6.5), its size, and how many of the pending sources it holds.
-use Rattle.std.specs.Prelude.{ℕ, zero, suc, ◌-◌, ◌/◌, List, [], ◌∷◌, ◌++◌, length, take, drop, Option, Some, None, Bool, nat_le, sum_by, ◌+◌, ◌*◌, ◌≡◌, ◌<◌, ◌≤◌, if◌then◌else◌, option_map, option_copied}
+use Rattle.std.specs.Prelude.{ℕ, zero, suc, ◌-◌, ◌/◌, List, [], ◌∷◌, ◌++◌, length, take, drop, Option, Some, None, Bool, nat_le, sum_by, ◌+◌, ◌*◌, if◌then◌else◌}
 use Rattle.rtcp_wire.specs.Values.{ReportBlock, ItemValue, RtcpPacket, rr, sr, sdes, bye}
 use Rattle.std.specs.Option.{option_to_list}
 use Rattle.rtcp_report.specs.declared.sender.Item.{Item}

@@ -1,9 +1,9 @@
 -- Parts of the size of a compound report, and the rows of a table that it holds (RFC 3550, 6.1, 6.4).
-use Rattle.std.specs.Prelude.{ℕ, zero, suc, ◌+◌, ◌-◌, ◌*◌, ◌/◌, ◌≡◌, ◌<◌, ◌≤◌, Bool, nat_le, if◌then◌else◌, List, ◌++◌, length, sum_by, take, Option, Some, None}
+use Rattle.std.specs.Prelude.{ℕ, ◌+◌, ◌*◌, ◌/◌, ◌≡◌, ◌<◌, ◌≤◌, nat_le, List, ◌++◌, length, sum_by, Option, Some, None}
 use Rattle.rtcp_wire.specs.Values.{ItemValue, RtcpPacket}
 use Rattle.rtcp_members.specs.Tables.{TableValue}
 use Rattle.rtcp_members.specs.Pending.{EntryRow, pending, blocks_of}
-use Rattle.rtcp_report.specs.Reports.{SentValue, Reporter, further_count, packets_with, report_size, greatest_passing, fitting}
+use Rattle.rtcp_report.specs.Reports.{Reporter, packets_with, report_size, greatest_passing, fitting}
 
 -- ---- Sizes
 

@@ -1,12 +1,11 @@
 -- What the crate's types say, as values of the definitions.
-use Rattle.std.specs.Prelude.{ℕ, List, ◌∷◌, Option, option_map, option_copied}
+use Rattle.std.specs.Prelude.{List, Option, option_map, option_copied}
 use Rattle.std.specs.Borrow.{Bor}
-use Rattle.std.specs.Option.{option_to_list}
 use Rattle.rtcp_wire.specs.Values.{ItemValue}
 use Rattle.rtcp_report.specs.declared.sender.Sender.{Sender}
 use Rattle.rtcp_report.specs.declared.sender.SrPart.{SrPart}
 use Rattle.rtcp_report.specs.declared.sender.Item.{Item}
-use Rattle.rtcp_report.specs.Reports.{SentValue, Reporter, cname_item, item_value}
+use Rattle.rtcp_report.specs.Reports.{SentValue, Reporter, item_value}
 pub use Rattle.rtcp_report.specs.Reports.{items_of}
 
 abbrev pub sent_value : SrPart → SentValue

@@ -1,5 +1,5 @@
 -- How the average size of compounds (RFC 3550, 6.3.3) moves, in 1/256 octet.
-use Rattle.std.specs.Prelude.{ℕ, ◌+◌, ◌*◌, ◌/◌, ◌≤◌, List, [], ◌∷◌}
+use Rattle.std.specs.Prelude.{ℕ, ◌+◌, ◌*◌, ◌/◌, ◌≤◌}
 use Rattle.rtcp_timer.specs.Loads.{with_headers}
 
 -- the average after one more compound

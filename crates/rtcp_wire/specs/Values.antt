@@ -1,5 +1,5 @@
 -- What the octets of RTCP packets say (RFC 3550, 6.4 to 6.7), and those of RTP packets (5.1), in numbers and lists.
-use Rattle.std.specs.Prelude.{ℕ, ℤ, List, Option, Bool, ◌≡◌, ◌≢◌, ◌+◌, ◌-◌, ◌*◌, ◌/◌, ◌%◌, ◌<◌, ◌≤◌, ◌⊎◌, ◌==◌, true, false, [], ◌∷◌, ◌++◌, length, take, drop, slice_index}
+use Rattle.std.specs.Prelude.{ℕ, ℤ, List, Option, Bool}
 
 -- what a sender report says of its sender (6.4.1): a moment on two clocks, and what was sent up to then
 pub record SenderValue : Type 0 where

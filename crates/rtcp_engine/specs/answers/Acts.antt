@@ -1,7 +1,7 @@
 -- What a participant is told, and what it answers. It is told what came, what was sent beside it, that time has passed,
 -- that its settings change, that a source is gone, and that it is to leave. Moments are in microseconds since the session
 -- began.
-use Rattle.std.specs.Prelude.{◌≡◌, ℕ, List, length, Result, Ok, Err, Bool, None, Option, Some, map, ◌≤◌, ◌<◌, ◌^◌, take, drop, [], ◌∷◌, option_map}
+use Rattle.std.specs.Prelude.{◌≡◌, ℕ, List, length, Result, Ok, Err, Bool, None, Option, Some, map}
 use Rattle.rtcp_wire.specs.declared.fault.WireFault.{WireFault}
 use Rattle.rtcp_wire.specs.declared.rtp.fault.RtpFault.{RtpFault}
 use Rattle.rtcp_wire.specs.Values.{RtcpPacket, RtpValue}

@@ -1,5 +1,5 @@
 -- What a participant answers to an act, after the acts that it took before, or why it refuses the act.
-use Rattle.std.specs.Prelude.{ℕ, List, [], ◌∷◌, Some, None, option_map, Result, Ok, Err, Option, length, map, nat_le, nat_lt, not, ◌-◌, ◌^◌, ◌&&◌, Bool, if◌then◌else◌}
+use Rattle.std.specs.Prelude.{ℕ, List, [], ◌∷◌, Some, None, option_map, Result, Ok, Err, Option, length, map, nat_le, nat_lt, not, ◌-◌, ◌^◌, ◌&&◌, if◌then◌else◌}
 use Rattle.rtcp_engine.specs.declared.refusal.Refusal.{Refusal}
 use Rattle.rtcp_engine.specs.answers.Acts.{Act, StepValue, AnswerValue, answer_unless, Datagram, arrived, configured, moment_of, rtcp, rtp}
 use Rattle.rtcp_engine.specs.answers.Changes.{change_by, Session, is_about, may_change}

@@ -1,19 +1,15 @@
 -- What functions do one after the other where something arrives or was sent: parts of an act (Lives).
-use Rattle.std.specs.Prelude.{ℕ, ◌==◌, not, Bool, List, [], ◌∷◌, map, filter, length, if◌then◌else◌, Result, Ok, Err}
+use Rattle.std.specs.Prelude.{ℕ, ◌==◌, not, Bool, List, [], ◌∷◌, map, filter, length, if◌then◌else◌}
 use Rattle.rtcp_wire.specs.declared.fact.Fact.{Fact}
 use Rattle.rtcp_wire.specs.declared.fact.Fact.TheVariants.{Heard, Media}
-use Rattle.rtcp_wire.specs.declared.fault.WireFault.{WireFault}
-use Rattle.rtcp_wire.specs.declared.rtp.fault.RtpFault.{RtpFault}
 use Rattle.rtcp_wire.specs.Values.{RtcpPacket, RtpValue}
 use Rattle.rtcp_wire.specs.Facts.{facts_of}
 use Rattle.rtcp_members.specs.Present.{with_facts}
-use Rattle.rtcp_members.specs.Members.{counted_at}
 use Rattle.rtcp_engine.specs.answers.Setups.{Setup, rate_among}
-use Rattle.rtcp_engine.specs.answers.Acts.{Datagram, rtcp, rtp, Act, arrived, rtp_sent, ticked, left, configured, forgotten}
-use Rattle.rtcp_engine.specs.answers.OwnStreams.{packet_sent, counts_anew, has_sent}
-use Rattle.rtcp_engine.specs.answers.Reporting.{bye_octets}
+use Rattle.rtcp_engine.specs.answers.Acts.{Act, arrived, rtp_sent, ticked, left, configured, forgotten}
+use Rattle.rtcp_engine.specs.answers.OwnStreams.{packet_sent}
 use Rattle.rtcp_engine.specs.answers.Outcomes.{Outcome, with_pace}
-use Rattle.rtcp_engine.specs.answers.Ticks.{with_recount, after_tick, without_source}
+use Rattle.rtcp_engine.specs.answers.Ticks.{after_tick, without_source}
 use Rattle.rtcp_engine.specs.answers.Lives.{with_datagram}
 
 abbrev pub with_facts_of : (t size : ℕ) → List RtcpPacket → Outcome → Outcome

@@ -1,6 +1,6 @@
 -- Changes of identifier (RFC 3550, 8.2): which datagrams bring one, which identifier is taken then, and what becomes of
 -- the session.
-use Rattle.std.specs.Prelude.{ℕ, ◌+◌, ◌==◌, ◌||◌, Bool, false, List, [], ◌∷◌, length, map, is_some, if◌then◌else◌, Option, Some, None, Ok, Err, suc, zero, nat_lt, not, ◌&&◌, ◌%◌, ◌^◌}
+use Rattle.std.specs.Prelude.{ℕ, ◌+◌, ◌==◌, ◌||◌, Bool, false, List, [], ◌∷◌, length, map, is_some, if◌then◌else◌, Option, Some, None, Ok, suc, zero, nat_lt, not, ◌&&◌, ◌%◌, ◌^◌}
 use Rattle.std.specs.List.{list_any}
 use Rattle.rtcp_wire.specs.Facts.{subject, facts_of}
 use Rattle.rtcp_members.specs.Present.{stay_of}

@@ -1,7 +1,5 @@
 -- The identifiers of a participant (RFC 3550, 8.2).
-use Rattle.std.specs.Prelude.{ℕ, suc, zero, ◌≡◌, ◌<◌, ◌+◌, ◌%◌, ◌^◌, ◌==◌, ◌&&◌, not, nat_lt, Bool, true, false, List, [], ◌∷◌, length, if◌then◌else◌}
-use Rattle.std.specs.List.{list_any}
-use Rattle.rtcp_engine.specs.answers.Setups.{Setup}
+use Rattle.std.specs.Prelude.{ℕ, ◌≡◌, ◌<◌, ◌+◌, ◌%◌, ◌^◌, Bool, true, false, List, [], ◌∷◌}
 use Rattle.rtcp_engine.specs.answers.Changes.{is_among}
 pub use Rattle.rtcp_engine.specs.answers.Changes.{with_ssrc, most_changes, may_change, first_free}
 

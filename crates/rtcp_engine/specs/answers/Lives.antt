@@ -1,6 +1,5 @@
 -- What the acts of a session make of it, its leave included: the participant takes part, backs off, or has finished.
-use Rattle.std.specs.Prelude.{ℕ, ◌≡◌, ◌+◌, ◌-◌, ◌==◌, ◌&&◌, nat_le, not, Bool, false, List, [], ◌∷◌, length, if◌then◌else◌, Option, Some, None, option_map, Result, Ok, Err, filter, map}
-use Rattle.rtcp_wire.specs.declared.fault.WireFault.{WireFault}
+use Rattle.std.specs.Prelude.{ℕ, ◌≡◌, ◌+◌, ◌-◌, ◌==◌, ◌&&◌, nat_le, not, Bool, false, List, [], ◌∷◌, length, if◌then◌else◌, Option, Some, None, option_map, Ok, filter, map}
 use Rattle.rtcp_wire.specs.Values.{RtcpPacket, RtpValue}
 use Rattle.rtcp_members.specs.Present.{names, source_forgotten, with_facts}
 use Rattle.rtcp_members.specs.Present.{present_among, stay_of}
@@ -91,7 +90,7 @@ made_by_leave setup t word outcome =
     let are_few = nat_le (member_count setup outcome) 50 in
     let drawn = drawn_interval (interval_of (leaving_load setup 1 [])) word in
     let backoff : Backoff =
-        record { since = t; bye_compounds = []; happenings = transmitted t drawn 1 ∷ outcome.happenings } in
+    record { since = t; bye_compounds = []; happenings = transmitted t drawn 1 ∷ outcome.happenings } in
     let waiting : Life = if are_few then finished outcome else backing_off outcome backoff in
     let octets : Option (List ℕ) = if are_few then Some (bye_octets setup) else None in
     record {
@@ -128,7 +127,7 @@ made_backing_off setup (ticked moment first_word second_word) outcome backoff =
     let has_come = nat_le timing.next moment in
     let is_due = has_come && nat_le (timing.last + drawn) moment in
     let put_off : Backoff =
-        record backoff { happenings = tried moment drawn (leaving_count backoff) ∷ backoff.happenings } in
+    record backoff { happenings = tried moment drawn (leaving_count backoff) ∷ backoff.happenings } in
     let later : Life = if is_due then finished outcome else backing_off outcome (if has_come then put_off else backoff) in
     let out : Option OutValue = if is_due then Some (bye_out (bye_octets setup)) else None in
     record { life = later; out = out; interval = interval }

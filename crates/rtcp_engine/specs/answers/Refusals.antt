@@ -1,12 +1,8 @@
 -- Parts of why an act is refused, by names of their own.
-use Rattle.std.specs.Prelude.{ℕ, ◌-◌, ◌^◌, ◌&&◌, not, Bool, nat_lt, nat_le, length, if◌then◌else◌, Option, Some, None, option_map, map, Ok, Err}
+use Rattle.std.specs.Prelude.{Bool, length, if◌then◌else◌, Option, Some, None}
 use Rattle.std.specs.Option.{option_or}
 use Rattle.rtcp_engine.specs.declared.refusal.Refusal.{Refusal}
-use Rattle.rtcp_engine.specs.declared.refusal.Refusal.TheVariants.{Left, Backwards, TooFar, TooMany, Wire, Rtp, OwnSsrc, Settings}
-use Rattle.rtcp_engine.specs.answers.Setups.{settings_error}
-use Rattle.rtcp_engine.specs.answers.Acts.{Datagram, rtcp, rtp, Act, arrived, configured, moment_of}
-use Rattle.rtcp_engine.specs.answers.Leaving.{Life, present, backing_off, finished}
-use Rattle.rtcp_engine.specs.answers.Changes.{Session, is_about, may_change}
+use Rattle.rtcp_engine.specs.answers.Acts.{Act, moment_of}
 use Rattle.rtcp_engine.specs.answers.Histories.{History, last_moment, session_at}
 use Rattle.rtcp_engine.specs.answers.Answers.{call_refusal, refusal_of_content}
 

@@ -1,10 +1,9 @@
 -- Why a setup is refused.
-use Rattle.std.specs.Prelude.{Bool, ℕ, ◌^◌, ◌%◌, ◌==◌, ◌&&◌, not, nat_le, if◌then◌else◌, List, length, Option, Some, None}
+use Rattle.std.specs.Prelude.{Bool, ℕ, ◌^◌, ◌%◌, ◌==◌, ◌&&◌, not, if◌then◌else◌, length, Option, Some, None}
 use Rattle.std.specs.List.{list_all}
-use Rattle.rtcp_wire.specs.Values.{ItemValue}
 use Rattle.rtcp_engine.specs.declared.config.ConfigError.{ConfigError}
 use Rattle.rtcp_engine.specs.declared.config.ConfigError.TheVariants.{Cname, Capacity, Limit, Bandwidth, Rate, Item}
-use Rattle.rtcp_engine.specs.answers.Setups.{Setup, SettingsValue, is_within, is_extra_item, is_clock, are_extras, is_bandwidth}
+use Rattle.rtcp_engine.specs.answers.Setups.{Setup, is_within, is_clock, are_extras, is_bandwidth}
 pub use Rattle.rtcp_engine.specs.answers.Setups.{settings_error}
 
 abbrev pub is_limit : (limit : ℕ) → Bool

@@ -2,7 +2,7 @@
 use Rattle.std.specs.Prelude.{ℕ, ◌+◌, ◌-◌, ◌/◌, ◌%◌, ◌==◌, List, [], ◌∷◌, if◌then◌else◌, length, slice_get, Option, Some, None}
 use Rattle.rtcp_wire.specs.Values.{ItemValue, RtcpPacket}
 use Rattle.rtcp_wire.specs.Writing.{written_all}
-use Rattle.rtcp_members.specs.Present.{TraceStep, fact_came, check_made, block_made_of, source_forgotten}
+use Rattle.rtcp_members.specs.Present.{TraceStep, block_made_of}
 use Rattle.rtcp_members.specs.Members.{blocks_at, pending_at}
 use Rattle.rtcp_report.specs.Reports.{Reporter, packets_with, bye_of, items_of, fitting}
 use Rattle.rtcp_engine.specs.answers.Setups.{Setup}

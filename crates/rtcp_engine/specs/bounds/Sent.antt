@@ -2,11 +2,10 @@
 use Rattle.std.specs.Prelude.{ℕ, List, [], ◌∷◌, ◌++◌, filter, Bool, true, false, is_some, if◌then◌else◌, Option, Some, None, Ok, Err}
 use Rattle.rtcp_engine.specs.declared.step.OutKind.TheVariants.{Report as ReportKind, Bye as ByeKind}
 use Rattle.rtcp_engine.specs.answers.Setups.{Setup}
-use Rattle.rtcp_engine.specs.answers.Acts.{Act, ticked, moment_of, OutValue, AnswerValue}
-use Rattle.rtcp_engine.specs.answers.Outcomes.{Outcome, interval_at}
+use Rattle.rtcp_engine.specs.answers.Acts.{Act, moment_of, OutValue, AnswerValue}
 use Rattle.rtcp_engine.specs.answers.Lives.{made_by}
 use Rattle.rtcp_engine.specs.answers.Histories.{History, brought_by, session_of}
-use Rattle.rtcp_engine.specs.answers.Leaving.{Life, present, backing_off, finished, leaving_interval}
+use Rattle.rtcp_engine.specs.answers.Leaving.{Life, present, backing_off, finished}
 use Rattle.rtcp_engine.specs.answers.Changes.{Session, change_by}
 
 -- ---- A compound

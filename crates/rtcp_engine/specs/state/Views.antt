@@ -1,8 +1,6 @@
 -- What the crate's types say, as values of the definitions.
-use Rattle.std.specs.Prelude.{ℕ, ◌≡◌, ◌≤◌, ◌<◌, ◌^◌, take, drop, length, List, [], ◌∷◌, map, Option, Some, None, option_map, Result, Ok, Err}
-use Rattle.rtcp_engine.specs.declared.clock.Clock.{Clock}
+use Rattle.std.specs.Prelude.{ℕ, ◌≡◌, ◌≤◌, ◌<◌, ◌^◌, take, drop, length, List, map, Option, Some, None, option_map, Result, Ok, Err}
 use Rattle.rtcp_engine.specs.declared.config.Config.{Config}
-use Rattle.rtcp_engine.specs.declared.settings.Settings.{Settings}
 use Rattle.rtcp_engine.specs.declared.participant.Phase.{Phase}
 use Rattle.rtcp_engine.specs.declared.participant.Phase.TheVariants.{Present, BackingOff, Finished}
 use Rattle.rtcp_engine.specs.declared.presence.ticks.NumberedReport.{NumberedReport}
@@ -19,10 +17,8 @@ use Rattle.rtcp_engine.specs.declared.event.Event.{Event}
 use Rattle.rtcp_engine.specs.declared.event.Event.TheVariants.{ArriveRtcp, ArriveRtp, SentRtp, Tick, Leave, Configure, Forget}
 use Rattle.rtcp_report.specs.Reports.{Reporter, item_value}
 use Rattle.rtcp_engine.specs.answers.Reporting.{reporter_by}
-use Rattle.rtcp_engine.specs.answers.Setups.{Setup, SettingsValue, ClockValue}
-use Rattle.rtcp_wire.specs.Readings.{rtcp_in}
-use Rattle.rtcp_wire.specs.RtpReadings.{rtp_in}
-use Rattle.rtcp_engine.specs.answers.Acts.{Datagram, rtcp, rtp, Act, arrived, rtp_sent, ticked, left, configured, forgotten, EventValue, rtcp_arrived, rtp_arrived, packet_sent, time_passed, leave_asked, settings_given, forget_asked, OutValue, StepValue, AnswerValue, clock_value, settings_value}
+use Rattle.rtcp_engine.specs.answers.Setups.{Setup}
+use Rattle.rtcp_engine.specs.answers.Acts.{Datagram, rtcp, rtp, EventValue, rtcp_arrived, rtp_arrived, packet_sent, time_passed, leave_asked, settings_given, forget_asked, OutValue, StepValue, AnswerValue, clock_value, settings_value}
 use Rattle.rtcp_engine.specs.answers.Changes.{named_by}
 use Rattle.rtcp_engine.specs.state.States.{PhaseValue, taking_part, leaving, over}
 
