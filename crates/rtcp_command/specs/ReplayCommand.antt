@@ -39,7 +39,8 @@ sizes_text setup = codes " --capacity " ++ decimal setup.capacity ++ codes " --l
 
 abbrev pub bandwidths_text : Setup → List ℕ
 bandwidths_text setup =
-    codes " --sender-bw " ++ decimal setup.settings.sender_bw ++ codes " --receiver-bw " ++ decimal setup.settings.receiver_bw
+    codes " --sender-bw " ++ decimal setup.settings.sender_bw ++ codes " --receiver-bw " ++ decimal
+    setup.settings.receiver_bw
 
 -- the option of a payload type's clock
 abbrev pub clock_option_text : ClockValue → List ℕ

@@ -86,7 +86,8 @@ load members senders we_sent initial avg sender_bw receiver_bw =
 pub loads_agree : {s : State} {o : Outcome} → Agrees s o → (members senders avg : ℕ) (we_sent : Bool) →
     members ≡ member_count s.setup o → senders ≡ sender_count s.setup o → we_sent ≡ is_some s.own.sending →
     avg ≡ s.average
-    → load members senders we_sent (s.reports == 0) avg s.setup.settings.sender_bw s.setup.settings.receiver_bw ≡ load_of s.setup o
+    → load members senders we_sent (s.reports == 0) avg s.setup.settings.sender_bw s.setup.settings.receiver_bw
+    ≡ load_of s.setup o
 loads_agree {s} {o} a members senders avg we_sent m n sent average =
     let initial = ap (λ (r : ℕ). r == 0) a.still.reports in
     let sending = sent ∙ we_sent_agrees s o a in

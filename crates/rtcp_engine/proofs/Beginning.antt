@@ -32,7 +32,8 @@ pub record IsStart (setup : Setup) (word : ℕ) (table : TableValue) (timing : T
   pub is_table : table ≡ no_members setup.capacity
   pub is_average : average ≡ average_of (first_size_of setup) []
   pub is_timing : timing ≡ schedule_at
-      (transmitted 0 (drawn_interval (interval_of (first_load average setup.settings.sender_bw setup.settings.receiver_bw)) word) 1 ∷ [])
+      (transmitted 0 (drawn_interval
+      (interval_of (first_load average setup.settings.sender_bw setup.settings.receiver_bw)) word) 1 ∷ [])
   pub is_own : own ≡ own_of []
 
 pub start_is_sound : (setup : Setup) (word : ℕ) (table : TableValue) (timing : Timing) (average : ℕ) (own : OwnValue) →

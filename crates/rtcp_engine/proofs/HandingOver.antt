@@ -91,7 +91,8 @@ said : (h : History) (act : Act) (refusal : Option Refusal) → refusal_after h 
 said h act (Some reason) is goodbye = absurd (cc goodbye)
 said h act None is goodbye =
     let session = session_at h in
-    let both = and_parts (is_bye_out (brought_by session act)) (not (is_some (option_map number (change_by session act))))
+    let both = and_parts (is_bye_out (brought_by session act))
+    (not (is_some (option_map number (change_by session act))))
     goodbye in
     unchanged_gone session act (change_by session act) refl (not_true _ both.1) both.0
 

@@ -124,11 +124,13 @@ no_clocks setup word (act ∷ earlier) none gives =
   where
     by_change : (session : Session) (change : Option NewIdentifier) →
         (session.setup.settings.clocks ≡ []) × (session.setup.settings.rate ≡ setup.settings.rate) →
-        ((changed_by change session).setup.settings.clocks ≡ []) × ((changed_by change session).setup.settings.rate ≡ setup.settings.rate)
+        ((changed_by change session).setup.settings.clocks ≡ [])
+        × ((changed_by change session).setup.settings.rate ≡ setup.settings.rate)
     by_change session None none = none
     by_change session (Some new) none = none
 
-    by_act : (act : Act) (now : Setup) → GivesNoClocks setup.settings.rate act → (now.settings.clocks ≡ []) × (now.settings.rate ≡ setup.settings.rate) →
+    by_act : (act : Act) (now : Setup) → GivesNoClocks setup.settings.rate act →
+        (now.settings.clocks ≡ []) × (now.settings.rate ≡ setup.settings.rate) →
         ((setup_after act now).settings.clocks ≡ []) × ((setup_after act now).settings.rate ≡ setup.settings.rate)
     by_act (configured t settings) now gives none = gives
     by_act act now gives none = none
@@ -139,14 +141,16 @@ changed_clock rate session None is = is
 changed_clock rate session (Some new) is = is
 
 one_clock_at : (setup : Setup) (word : ℕ) (acts : List Act) → setup.settings.clocks ≡ [] →
-    AllByRecursion (GivesNoClocks setup.settings.rate) acts → IsOfOneClock (session_of setup word acts).setup setup.settings.rate
+    AllByRecursion (GivesNoClocks setup.settings.rate) acts →
+    IsOfOneClock (session_of setup word acts).setup setup.settings.rate
 one_clock_at setup word acts none gives payload_type =
     let now = (session_of setup word acts).setup in
     let same = no_clocks setup word acts none gives in
     ap (λ (clocks : List ClockValue). rate_among clocks now.settings.rate payload_type) same.0 ∙ same.1
 
 session_has : (setup : Setup) (word : ℕ) (acts : List Act) → setup.settings.clocks ≡ [] →
-    AllByRecursion (GivesNoClocks setup.settings.rate) acts → HasIn setup.settings.rate (session_of setup word acts).life
+    AllByRecursion (GivesNoClocks setup.settings.rate) acts →
+    HasIn setup.settings.rate (session_of setup word acts).life
 session_has setup word [] none gives = tt
 session_has setup word (act ∷ earlier) none gives =
     let before = session_of setup word earlier in
@@ -159,4 +163,5 @@ session_has setup word (act ∷ earlier) none gives =
 pub one_clock : (setup : Setup) (word : ℕ) (acts : List Act) (outcome : Outcome) → setup.settings.clocks ≡ [] →
     AllByRecursion (GivesNoClocks setup.settings.rate) acts → (session_of setup word acts).life ≡ present outcome →
     HasOneClock setup.settings.rate outcome.trace
-one_clock setup word acts outcome none gives is = subst (HasIn setup.settings.rate) is (session_has setup word acts none gives)
+one_clock setup word acts outcome none gives is = subst (HasIn setup.settings.rate) is
+    (session_has setup word acts none gives)

@@ -100,7 +100,8 @@ pace_usable setup t outcome usable paced =
     let pace = newest_pace outcome.paces in
     let load = receiver_load setup outcome in (
       subst (λ (n : ℕ). 16 ≤ n) (sym (slowed_sender t pace load))
-          (some_left t pace (λ (p : Pace). p.sender_bw) setup.settings.sender_bw (for_senders pace paced) usable.for_senders.0),
+          (some_left t pace (λ (p : Pace). p.sender_bw) setup.settings.sender_bw (for_senders pace paced)
+          usable.for_senders.0),
       subst (λ (n : ℕ). 16 ≤ n) (sym (slowed_receiver t pace load))
           (some_left t pace (λ (p : Pace). p.receiver_bw) setup.settings.receiver_bw (for_others pace paced)
           usable.for_others.0),

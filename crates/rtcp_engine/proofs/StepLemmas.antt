@@ -451,9 +451,11 @@ backs_off {s} {w} is average word td timing average_is interval steps =
 
 pub waiting_load : {s w : State} → s ≡ w → (members avg : ℕ) → avg ≡ s.average →
     (outcome : Outcome) (backoff : Backoff) → Waits w outcome backoff
-    → load members 0 false true avg s.setup.settings.sender_bw s.setup.settings.receiver_bw ≡ leaving_load w.setup members
+    → load members 0 false true avg s.setup.settings.sender_bw s.setup.settings.receiver_bw ≡ leaving_load w.setup
+    members
     backoff.bye_compounds
 waiting_load {s} {w} is members avg same outcome backoff h =
     let at = waits_there is outcome backoff h in
-    ap (λ (a : ℕ). load members 0 false true a s.setup.settings.sender_bw s.setup.settings.receiver_bw) (same ∙ at.average)
+    ap (λ (a : ℕ). load members 0 false true a s.setup.settings.sender_bw s.setup.settings.receiver_bw)
+    (same ∙ at.average)
     ∙ ap (λ (x : State). leaving_load x.setup members backoff.bye_compounds) is

@@ -32,13 +32,18 @@ usable_of_unrefused setup h =
     let cname = passed (is_within 1 255 (length setup.cname)) Cname _ h in
     let capacity = passed (is_within 1 1024 setup.capacity) Capacity _ cname.1 in
     let limit = passed (is_limit setup.limit) Limit _ capacity.1 in
-    let bandwidth = passed (is_bandwidth setup.settings.sender_bw && is_bandwidth setup.settings.receiver_bw) Bandwidth _ limit.1 in
-    let clocks = passed (is_within 1 (2 ^ 20) setup.settings.rate && list_all is_clock setup.settings.clocks) Rate _ bandwidth.1 in
+    let bandwidth = passed (is_bandwidth setup.settings.sender_bw && is_bandwidth setup.settings.receiver_bw) Bandwidth
+    _ limit.1 in
+    let clocks = passed (is_within 1 (2 ^ 20) setup.settings.rate && list_all is_clock setup.settings.clocks) Rate _
+    bandwidth.1 in
     let extras = passed (are_extras setup.settings.extras) Item _ clocks.1 in
-    let rates = and_parts (is_within 1 (2 ^ 20) setup.settings.rate) (list_all is_clock setup.settings.clocks) clocks.0 in
-    let bandwidths = and_parts (is_bandwidth setup.settings.sender_bw) (is_bandwidth setup.settings.receiver_bw) bandwidth.0 in
+    let rates = and_parts (is_within 1 (2 ^ 20) setup.settings.rate) (list_all is_clock setup.settings.clocks)
+    clocks.0 in
+    let bandwidths = and_parts (is_bandwidth setup.settings.sender_bw) (is_bandwidth setup.settings.receiver_bw)
+    bandwidth.0 in
     let limits = and_parts (is_within 576 1472 setup.limit) (setup.limit % 4 == 0) limit.0 in
-    let items = and_parts (nat_le (length setup.settings.extras) 7) (list_all is_extra_item setup.settings.extras) extras.0 in
+    let items = and_parts (nat_le (length setup.settings.extras) 7) (list_all is_extra_item setup.settings.extras)
+    extras.0 in
     record {
       cname = within 1 255 (length setup.cname) cname.0;
       capacity = within 1 1024 setup.capacity capacity.0;
@@ -68,7 +73,8 @@ is_within_of least most number h = both_true (le-leb least number h.0) (le-leb n
 is_extra_of : (item : ItemValue) → IsExtraItem item → is_extra_item item ≡ true
 is_extra_of item h = both_true (is_within_of 2 8 item.kind h.0) (le-leb (length item.text) 255 h.1)
 
-clocks_pass : (setup : Setup) → IsUsable setup → (is_within 1 (2 ^ 20) setup.settings.rate && list_all is_clock setup.settings.clocks)
+clocks_pass : (setup : Setup) → IsUsable setup →
+    (is_within 1 (2 ^ 20) setup.settings.rate && list_all is_clock setup.settings.clocks)
     ≡ true
 clocks_pass setup h =
     both_true (is_within_of 1 (2 ^ 20) setup.settings.rate h.rate) (list_all-from_AllPass is_clock setup.settings.clocks
@@ -87,8 +93,10 @@ unrefused_of_usable setup h =
     (passes (is_within 1 (2 ^ 20) setup.settings.rate && list_all is_clock setup.settings.clocks) Rate _
     (clocks_pass setup h)
     (passes (are_extras setup.settings.extras) Item None
-    (both_true (le-leb (length setup.settings.extras) 7 h.few_extras) (list_all-from_AllPass is_extra_item setup.settings.extras
-    (All-weaker IsExtraItem (λ (item : ItemValue). is_extra_item item ≡ true) is_extra_of setup.settings.extras h.extras)))
+    (both_true (le-leb (length setup.settings.extras) 7 h.few_extras)
+    (list_all-from_AllPass is_extra_item setup.settings.extras
+    (All-weaker IsExtraItem (λ (item : ItemValue). is_extra_item item ≡ true) is_extra_of setup.settings.extras
+    h.extras)))
     refl)))))
 
 -- ---- Settings

@@ -143,7 +143,8 @@ record Sessions : Type 0 where
       ≡ Ok (step_with None 1 0 1 (Some 1026037) (Some 0)) ∷ Err (Wire (record { reason = Short; place = 0 })) ∷ Err
       (Rtp PayloadType) ∷ []
   -- The third report carries the extra item.
-  third_report : answers_to (start_of (record setup { settings = record setup.settings { extras = record { kind = 6; text = 116 ∷ [] } ∷ [] } }))
+  third_report : answers_to (start_of
+      (record setup { settings = record setup.settings { extras = record { kind = 6; text = 116 ∷ [] } ∷ [] } }))
       (ticked 1026037 0 0 ∷ ticked 3078111 0 0 ∷ ticked 5130185 0 0 ∷ [])
       ≡ sends 1 0 0 3078111 empty_report ∷ sends 1 0 0 5130185 empty_report ∷ sends 1 0 0 7182259
       (128 ∷ 201 ∷ 0 ∷ 1 ∷ 0 ∷ 0 ∷ 0 ∷ 170 ∷ 129 ∷ 202 ∷ 0 ∷ 3 ∷ 0 ∷ 0 ∷ 0 ∷ 170 ∷ 1 ∷ 1 ∷ 97 ∷ 6 ∷ 1 ∷ 116 ∷ 0 ∷ 0

@@ -1,6 +1,6 @@
 -- What a participant is told, and what it answers. It is told what came, what was sent beside it, that time has passed,
--- that its settings change, that a source is gone, and that it is to leave. Moments are in microseconds since the session
--- began.
+-- that its settings change, that a source is gone, and that it is to leave. Moments are in microseconds since the
+-- session began.
 use Rattle.std.specs.Prelude.{◌≡◌, ℕ, List, length, Result, Ok, Err, Bool, None, Option, Some, map}
 use Rattle.rtcp_wire.specs.declared.fault.WireFault.{WireFault}
 use Rattle.rtcp_wire.specs.declared.rtp.fault.RtpFault.{RtpFault}
@@ -113,8 +113,8 @@ pub record OutValue : Type 0 where
   pub octets : List ℕ
 
 -- What is answered to an act that is taken: a compound to send, if there is one; the members and senders, with the
--- participant among them; the places of the table that are taken; the moment to ask again; the new identifier, where the
--- call changed it; and whether the call changed who of the others is a member, or who of them sends.
+-- participant among them; the places of the table that are taken; the moment to ask again; the new identifier, where
+-- the call changed it; and whether the call changed who of the others is a member, or who of them sends.
 pub record StepValue : Type 0 where
   pub out : Option OutValue
   pub members : ℕ

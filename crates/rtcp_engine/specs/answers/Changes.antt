@@ -63,7 +63,7 @@ is_taken session datagram ssrc =
     is_among (session.setup.ssrc ∷ map (λ change. change.former) session.changes) ssrc
     || (is_in_table session.setup session.life ssrc || is_among (named_by datagram) ssrc)
 
--- The search passes no more than may be taken: those of the participant, of the table, and those that the datagram names.
+-- The search passes no more than may be taken: those of the participant, of the table, and of the datagram.
 abbrev pub new_identifier : (word : ℕ) → Session → Datagram → ℕ
 new_identifier word session datagram =
     first_free (most_changes + 1 + session.setup.capacity + length (named_by datagram)) (is_taken session datagram) word

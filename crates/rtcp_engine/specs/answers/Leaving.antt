@@ -36,8 +36,8 @@ pub record Backoff : Type 0 where
 abbrev pub leaving_count : Backoff → ℕ
 leaving_count backoff = min 65535 (1 + sum_by (λ bye_compound. bye_compound.byes) backoff.bye_compounds)
 
--- The participant counts as one that joins, and does not send. The average begins anew with its own BYE, and BYE packets
--- of others move it.
+-- The participant counts as one that joins, and does not send. The average begins anew with its own BYE, and those of
+-- others move it.
 abbrev pub leaving_load : Setup → (members : ℕ) → List ByeCompound → Load
 leaving_load setup members bye_compounds = record {
   members = members;

@@ -67,8 +67,8 @@ pub record Made : Type 0 where
 abbrev pub made_silently : (interval : ℕ) → Life → Made
 made_silently interval life = record { life = life; out = None; interval = interval }
 
--- A tick makes a check. Then a report goes out if the next transmission's moment has come, and an interval that is drawn
--- now has passed since the last one; if it has not, the transmission is put off (6.3.6). After a report the next interval
+-- A tick makes a check. Then a report goes out if the next transmission's moment has come, and an interval drawn now
+-- has passed since the last one; if it has not, the transmission is put off (6.3.6). After a report the next interval
 -- is drawn, by the average with this report in it, and by the minimum after the first report.
 abbrev pub made_by_tick : Setup → (t first_word second_word : ℕ) → Outcome → Made
 made_by_tick setup t first_word second_word outcome =
@@ -99,8 +99,8 @@ made_by_leave setup t word outcome =
       interval = 0;
     }
 
--- Settings change the setup: members, average and schedule stay, each interval is computed with the setup of its act, and
--- only the pace of checks is noted, where bandwidths change.
+-- Settings change the setup: members, average and schedule stay, each interval is computed with the setup of its act,
+-- and only the pace of checks is noted, where bandwidths change.
 abbrev pub made_while_present : Setup → Act → Outcome → Made
 made_while_present setup (arrived moment peer word datagram) outcome =
     made_silently 0 (present (with_datagram setup moment datagram outcome))
@@ -128,7 +128,8 @@ made_backing_off setup (ticked moment first_word second_word) outcome backoff =
     let is_due = has_come && nat_le (timing.last + drawn) moment in
     let put_off : Backoff =
     record backoff { happenings = tried moment drawn (leaving_count backoff) ∷ backoff.happenings } in
-    let later : Life = if is_due then finished outcome else backing_off outcome (if has_come then put_off else backoff) in
+    let waiting : Backoff = if has_come then put_off else backoff in
+    let later : Life = if is_due then finished outcome else backing_off outcome waiting in
     let out : Option OutValue = if is_due then Some (bye_out (bye_octets setup)) else None in
     record { life = later; out = out; interval = interval }
 made_backing_off setup act outcome backoff =
@@ -144,8 +145,8 @@ made_by setup act (finished outcome) = made_silently 0 (finished outcome)
 abbrev pub bye_if_sent : Setup → Outcome → Option OutValue
 bye_if_sent setup outcome = if has_sent outcome.own then Some (bye_out (bye_octets setup)) else None
 
--- What a change of identifier makes of a life, and brings (8.2): the BYE of the old one, if something was sent under that
--- one. It moves the average as a compound that was sent, and adds no member. The counts of the own stream begin anew.
+-- What a change of identifier makes of a life, and brings (8.2): the BYE of the old one, if something was sent under
+-- it, which moves the average and adds no member. The counts of the own stream begin anew.
 abbrev pub renamed : Setup → Life → Made
 renamed setup (present outcome) =
     let sizes : List ℕ = if has_sent outcome.own then length (bye_octets setup) ∷ outcome.sizes else outcome.sizes in

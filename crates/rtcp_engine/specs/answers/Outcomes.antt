@@ -38,8 +38,8 @@ sender_count setup outcome =
 
 -- ---- The average and the interval
 
--- What the interval is computed from. The average begins with the size of a receiver report without blocks, which is the
--- first compound as far as one can tell (6.3.2).
+-- What the interval is computed from. The average begins with the size of a receiver report without blocks: the first
+-- compound, as far as one can tell (6.3.2).
 abbrev pub load_of : Setup → Outcome → Load
 load_of setup outcome =
     let receiver : Reporter = record { ssrc = setup.ssrc; sent = None; items = items_of setup.cname None } in

@@ -197,11 +197,13 @@ each {A} test P says all is = All-weaker (λ (x : A). test x ≡ true) P says al
 
 -- whether a setup has at most this bandwidth
 abbrev pub has_at_most : Terms → Setup → Bool
-has_at_most terms setup = nat_le setup.settings.sender_bw terms.sender_bw && nat_le setup.settings.receiver_bw terms.receiver_bw
+has_at_most terms setup = nat_le setup.settings.sender_bw terms.sender_bw && nat_le setup.settings.receiver_bw
+    terms.receiver_bw
 
 pub bandwidth_of : (terms : Terms) (setup : Setup) → has_at_most terms setup ≡ true → HasAtMost terms setup
 bandwidth_of terms setup is =
-    let parts = and_parts (nat_le setup.settings.sender_bw terms.sender_bw) (nat_le setup.settings.receiver_bw terms.receiver_bw) is in
+    let parts = and_parts (nat_le setup.settings.sender_bw terms.sender_bw)
+    (nat_le setup.settings.receiver_bw terms.receiver_bw) is in
     record {
       for_senders = leb-true setup.settings.sender_bw terms.sender_bw parts.0;
       for_others = leb-true setup.settings.receiver_bw terms.receiver_bw parts.1;

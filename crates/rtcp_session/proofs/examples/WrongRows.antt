@@ -183,7 +183,8 @@ without_one_each law =
     omega (arith, none)
 
 of_less_bandwidth : ((joined : Joined) (from width : ℕ) → IsHistory joined.history
-    → 100000 * 1000000 * shares_within from width joined ≤ 243655 * width * (256 * joined.history.setup.settings.receiver_bw)) →
+    → 100000 * 1000000 * shares_within from width joined
+    ≤ 243655 * width * (256 * joined.history.setup.settings.receiver_bw)) →
     ⊥
 of_less_bandwidth law =
     let fits = law (who_hears 187 170) 2462496 2462489 first_stands in

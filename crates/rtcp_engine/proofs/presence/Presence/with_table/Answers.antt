@@ -28,7 +28,8 @@ started g c =
     c.deref.ensures.0 in
     let interval : c.interval.result ≡ interval_of
     (first_load c.start-average.result setup.settings.sender_bw setup.settings.receiver_bw) = c.interval.ensures.exact
-    ∙ ap (λ (a : ℕ). interval_of (first_load a setup.settings.sender_bw setup.settings.receiver_bw)) c.value.ensures.exact in
+    ∙ ap (λ (a : ℕ). interval_of (first_load a setup.settings.sender_bw setup.settings.receiver_bw))
+    c.value.ensures.exact in
     record {
       is_table = c.requires.vacant;
       is_average = first_average setup c.first_size.result c.start-average.result size c.start-average.ensures;
