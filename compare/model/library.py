@@ -152,6 +152,7 @@ FUNCTIONS = {
     "flat_map": (2, lambda f, given: listed(one for value in items(given) for one in items(f(value)))),
     "list_any": (2, lambda f, given: any(f(value) for value in items(given))),
     "list_all": (2, lambda f, given: all(f(value) for value in items(given))),
+    "sum": (1, lambda given: sum(items(given))),
     "sum_by": (2, lambda f, given: sum(f(value) for value in items(given))),
     "take": (2, taken),
     "drop": (2, dropped),
