@@ -159,6 +159,7 @@ FUNCTIONS = {
     "replicate": (2, lambda count, value: listed([value] * count)),
     "slice_get": (2, at),
     "slice_index": (2, lambda given, place: option(at(given, place), 0, lambda value: value)),
+    "option_and_then": (2, lambda f, given: option(given, NONE, f)),
     "option_map": (2, lambda f, given: option(given, NONE, lambda value: some(f(value)))),
     "option_or": (2, lambda given, other: other if given is NONE else given),
     "option_to_list": (1, lambda given: option(given, NIL, lambda value: listed([value]))),
