@@ -300,7 +300,7 @@ fn read_bandwidth(given: Option<&str>, name: &'static str, share: u64) -> Result
 
 /// Adds the extra items of the options that are given, in the order of their types.
 fn add_extras(config: &mut Config, matches: &ArgMatches<'_>) -> Result<(), &'static str>
-    requires { (setup_of config.old).extras ≡ [] }
+    requires { (setup_of config.old).settings.extras ≡ [] }
     ensures added { OnOk result ((items : List ItemValue) × (extras_in (found_of matches.now) ≡ Ok items)
         × (setup_of config.new ≡ with_extras (setup_of config.old) items)) }
     ensures refused { IfErr result (λ name. extras_in (found_of matches.now) ≡ Err name.now) }
@@ -321,13 +321,13 @@ fn add_text(
     name: &'static str,
     given: Option<&str>,
 ) -> Result<(), &'static str>
-    requires { length (setup_of config.old).extras < 7 }
+    requires { length (setup_of config.old).settings.extras < 7 }
     ensures added { OnOk result ((items : List ItemValue)
         × (item_in kind name.now text_in (text_given given.entry) ≡ Ok items)
         × (setup_of config.new ≡ with_extras (setup_of config.old) items)) }
     ensures refused { IfErr result (λ refused.
         item_in kind name.now text_in (text_given given.entry) ≡ Err refused.now) }
-    ensures one { length (setup_of config.new).extras ≤ length (setup_of config.old).extras + 1 }
+    ensures one { length (setup_of config.new).settings.extras ≤ length (setup_of config.old).settings.extras + 1 }
 {
     let Some(given) = given else {
         return Ok(());
@@ -339,7 +339,7 @@ fn add_text(
 
 /// Adds the item of `--priv`, which is octets in hex, if it is given.
 fn add_private(config: &mut Config, given: Option<&str>) -> Result<(), &'static str>
-    requires { length (setup_of config.old).extras < 7 }
+    requires { length (setup_of config.old).settings.extras < 7 }
     ensures added { OnOk result ((items : List ItemValue)
         × (item_in 8 (codes "priv") hex_text_in (text_given given.entry) ≡ Ok items)
         × (setup_of config.new ≡ with_extras (setup_of config.old) items)) }
